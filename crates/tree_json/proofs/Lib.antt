@@ -1,0 +1,5 @@
+pub mod Escapes
+pub mod Sizes
+pub mod Halves
+pub mod Fronts
+pub mod Readings
