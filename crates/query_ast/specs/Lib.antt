@@ -1,0 +1,6 @@
+pub mod Tree
+pub mod Object
+pub mod Clause
+pub mod Hit
+pub mod Page
+pub mod View
