@@ -1,0 +1,14 @@
+//! Analysis of texts: the words by which a text is searched.
+//!
+//! A token is a word of UAX #29 with full case folding, with its place in the text and its position
+//! among the words. The crate stands on `unicode_segmentation` and `caseless`. Other crates use
+//! [`tokens`], and of its contract mostly that the folded words are `words` of the text.
+#![tactic(auto)]
+
+mod analyzer;
+mod no_memory;
+mod token_list;
+
+pub use analyzer::tokens;
+pub use no_memory::NoMemory;
+pub use token_list::{Bytes, Token, TokenList};
