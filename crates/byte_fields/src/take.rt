@@ -31,7 +31,7 @@ pub fn take_u32(from: &[u8], at: u64) -> Option<(u32, u64)>
         → result ≡ Some (n, at + 4)
     }
 {
-    let bytes = rest_from(from, at).first_chunk::<4>()?;
+    let (bytes, _) = rest_from(from, at).split_first_chunk::<4>()?;
     Some((u32::from_le_bytes(*bytes), at + 4))
 }
 
@@ -47,7 +47,7 @@ pub fn take_u64(from: &[u8], at: u64) -> Option<(u64, u64)>
         → result ≡ Some (n, at + 8)
     }
 {
-    let bytes = rest_from(from, at).first_chunk::<8>()?;
+    let (bytes, _) = rest_from(from, at).split_first_chunk::<8>()?;
     Some((u64::from_le_bytes(*bytes), at + 8))
 }
 

@@ -1,13 +1,14 @@
-// A library with one function.
+//! The free space of a store: extents of a file are taken and given back in whole units of 64 bytes.
+//! It stands on std alone.
+//! The contract that others use is that of `ExtentPool::take`: it hands out the front of the first hole
+//! that has room, where the holes are exactly the free units that `specs/Holes.antt` defines, and no
+//! byte ever belongs to two taken extents.
 #![tactic(auto)]
 
-ghost use Rattle.std.specs.Prelude.{◌≡◌};
-ghost use Rattle.extent_pool.specs.Echo.{echo_of};
+mod extent;
+mod holes;
+mod pool;
 
-// The `ensures` clause is the contract: what `echo` returns is `echo_of` of its argument, a definition
-// in `specs/Echo.antt`, which a caller's clause can cite too.
-pub fn echo(x: usize) -> usize
-    ensures { result ≡ echo_of x }
-{
-    x
-}
+pub use extent::{Extent, ExtentList, UNIT};
+pub use pool::{ExtentPool, PoolRefusal, TakeRefusal};
+
