@@ -79,7 +79,7 @@ past_extent e es unit count start stop rest end at_is end_is l s sum laid inner 
     past_free (is_free (e ∷ es)) unit (start - unit) (stop - start + rest) count start (omega arith) (omega arith) (λ i l h. free_in_front e es i end laid (omega arith)) elsewhere
     ∙ (ap (λ hs. gap (unit * UNIT) (start * UNIT) ++ hs) from_start ∙ ap (λ n. gap (unit * UNIT) n ++ gaps (end_of e) es end) (sym at_is))
 
-laid_order : (es : List Extent) (from end : ℕ) → AreLaid from es end → from ≤ end
+pub laid_order : (es : List Extent) (from end : ℕ) → AreLaid from es end → from ≤ end
 laid_order [] from end laid = laid
 laid_order (e ∷ es) from end laid = omega (arith, laid_order es (end_of e) end laid.3)
 

@@ -4,6 +4,13 @@ use Rattle.extent_pool.specs.declared.extent.Extent.{Extent}
 use Rattle.extent_pool.specs.Extents.{end_of}
 use Rattle.extent_pool.specs.Gaps.{gap}
 
+-- Does the extent begin before the byte? Does the hole end before it?
+abbrev pub begins_before : ℕ → Extent → Bool
+begins_before byte e = nat_lt e.at byte
+
+abbrev pub ends_before : ℕ → Extent → Bool
+ends_before byte h = nat_lt (h.at + h.len) byte
+
 -- Does each extent begin at the end of the one before it, or behind?
 abbrev pub are_apart : ℕ → List Extent → Bool
 are_apart from [] = true
@@ -33,10 +40,12 @@ in_front at end (h ∷ hs) =
         (record { at = at; len = h.at + h.len - at } ∷ hs)
         (record { at = at; len = end - at } ∷ h ∷ hs)
 
+-- The same where the first hole may end at the place, and none ends before it.
+abbrev pub freed_here : ℕ → ℕ → List Extent → List Extent
+freed_here at end [] = in_front at end []
+freed_here at end (h ∷ hs) = cond (h.at + h.len == at) (in_front h.at end hs) (in_front at end (h ∷ hs))
+
 -- The holes after the bytes from one place to another have become free: neighbours are one hole.
 abbrev pub freed : ℕ → ℕ → List Extent → List Extent
-freed at end [] = in_front at end []
-freed at end (h ∷ hs) =
-    cond (nat_lt (h.at + h.len) at)
-        (h ∷ freed at end hs)
-        (cond (h.at + h.len == at) (in_front h.at end hs) (in_front at end (h ∷ hs)))
+freed at end [] = freed_here at end []
+freed at end (h ∷ hs) = cond (ends_before at h) (h ∷ freed at end hs) (freed_here at end (h ∷ hs))

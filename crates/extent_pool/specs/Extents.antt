@@ -1,5 +1,5 @@
 -- Extents of a store, which keep whole units of 64 bytes.
-use Rattle.std.specs.Prelude.{◌≡◌, ℕ, ◌+◌, ◌≤◌, ◌%◌, Bool, ◌&&◌, nat_lt, nat_le, List, map, count_by, All}
+use Rattle.std.specs.Prelude.{◌≡◌, ℕ, ◌+◌, ◌≤◌, ◌%◌, Bool, ◌&&◌, nat_lt, nat_le, List, length, map, count_by, All}
 use Rattle.std.specs.Int.{next_multiple_of}
 use Rattle.std.specs.List.Sorted.{IsStrictlyIncreasing}
 use Rattle.extent_pool.specs.declared.extent.TheConstants.{UNIT}
@@ -9,6 +9,10 @@ use Rattle.extent_pool.specs.declared.extent.Extent.{Extent}
 pub record Extents : Type 0 where
   pub extents : List Extent
   pub spare : ℕ
+
+-- How many extents the list has room for in all.
+abbrev pub room_of : Extents → ℕ
+room_of l = length l.extents + l.spare
 
 -- What a pool is: the bytes below its limit, and the extents that are taken, in ascending order of place.
 pub record Pool : Type 0 where

@@ -2,7 +2,7 @@
 use Rattle.std.specs.Prelude.{◌≡◌, ℕ, ◌+◌, ◌-◌, ◌*◌, ◌/◌, ◌%◌, ◌^◌, ◌<◌, ◌≤◌, cond, nat_lt, List, [], ◌∷◌, ◌++◌, length}
 use Rattle.extent_pool.specs.declared.extent.TheConstants.{UNIT}
 use Rattle.extent_pool.specs.declared.extent.Extent.{Extent}
-use Rattle.extent_pool.specs.Extents.{Extents, end_of}
+use Rattle.extent_pool.specs.Extents.{Extents, end_of, room_of}
 
 -- The extents stand one behind the other between the two places, each in whole units.
 abbrev pub AreLaid : ℕ → List Extent → ℕ → Type 0
@@ -27,4 +27,4 @@ pub record IsKept (limit : ℕ) (taken : List Extent) (holes : Extents) : Type 0
   pub small : limit ≤ 2 ^ 60
   pub laid : AreLaid 0 taken (whole limit)
   pub holes_are : holes.extents ≡ gaps 0 taken (whole limit)
-  pub room : length taken + 1 ≤ length holes.extents + holes.spare
+  pub room : length taken + 1 ≤ room_of holes

@@ -1,5 +1,5 @@
-ghost use Rattle.std.specs.Prelude.{◌≡◌, ◌+◌, ◌-◌, ◌≤◌, ◌<◌, ◌^◌, ◌%◌, length, insert, remove, slice_set, OnOk, OnErr, IsTrue, ◌↔◌};
-ghost use Rattle.extent_pool.specs.Extents.{rounded, end_of};
+ghost use Rattle.std.specs.Prelude.{◌≡◌, ◌+◌, ◌≤◌, ◌<◌, ◌^◌, [], ◌∷◌, ◌++◌, ◌↔◌, length, insert, remove, slice_set, OnOk, IsTrue};
+ghost use Rattle.extent_pool.specs.Extents.{end_of, room_of};
 
 use std::alloc::AllocError;
 use std::marker::Model;
@@ -70,7 +70,7 @@ impl ExtentList {
     /// Makes room for so many more.
     pub(crate) fn reserve(&mut self, more: usize) -> Result<(), AllocError>
         ensures extents { self.new.extents ≡ self.old.extents }
-        ensures room { self.old.spare ≤ self.new.spare }
+        ensures room_stays { self.old.spare ≤ self.new.spare }
         ensures ok { OnOk result (more ≤ self.new.spare) }
     {
         self.extents.reserve(more)
@@ -80,23 +80,31 @@ impl ExtentList {
         requires place { place ≤ length self.old.extents }
         requires room { 1 ≤ self.old.spare }
         ensures extents { self.new.extents ≡ insert self.old.extents place extent }
-        ensures spare { self.new.spare + 1 ≡ self.old.spare }
+        ensures room { room_of self.new ≡ room_of self.old }
     {
         self.extents.insert(place, extent).unwrap()
     }
 
-    pub(crate) fn remove(&mut self, place: usize) -> Extent
+    pub(crate) fn push(&mut self, extent: Extent)
+        requires { 1 ≤ self.old.spare }
+        ensures extents { self.new.extents ≡ self.old.extents ++ extent ∷ [] }
+        ensures spare { self.new.spare + 1 ≡ self.old.spare }
+    {
+        self.extents.push_reserved(extent)
+    }
+
+    pub(crate) fn remove(&mut self, place: usize)
         requires { place < length self.old.extents }
         ensures extents { self.new.extents ≡ remove self.old.extents place }
-        ensures spare { self.new.spare ≡ self.old.spare + 1 }
+        ensures room { room_of self.new ≡ room_of self.old }
     {
-        self.extents.remove(place)
+        self.extents.remove(place);
     }
 
     pub(crate) fn set(&mut self, place: usize, extent: Extent)
         requires { place < length self.old.extents }
         ensures extents { self.new.extents ≡ slice_set self.old.extents place extent }
-        ensures spare { self.new.spare ≡ self.old.spare }
+        ensures room { room_of self.new ≡ room_of self.old }
     {
         self.extents[place] = extent;
     }

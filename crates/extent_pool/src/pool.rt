@@ -7,7 +7,7 @@ use std::alloc::{AllocError, Global};
 use std::marker::Model;
 
 use crate::extent::{Extent, ExtentList, UNIT};
-use crate::holes::{first_with_room};
+use crate::holes::{add_gaps, first_with_room, release, shorten};
 
 /// Why no pool can be made.
 #[derive(Clone, Copy, Debug, PartialEq, Eq)]
