@@ -1,0 +1,5 @@
+mod Units
+mod Laid
+mod Taking
+mod Freeing
+mod Places

@@ -1,0 +1,14 @@
+//! The free space of a store: extents of a file are taken and given back in whole units of 64 bytes.
+//! It stands on std alone.
+//! The contract that others use is that of `ExtentPool::take`: it hands out the front of the first hole
+//! that has room, where the holes are exactly the free units that `specs/Holes.antt` defines, and no
+//! byte ever belongs to two taken extents.
+#![tactic(auto)]
+
+mod extent;
+mod holes;
+mod pool;
+
+pub use extent::{Extent, ExtentList, UNIT};
+pub use pool::{ExtentPool, PoolRefusal, TakeRefusal};
+

@@ -1,0 +1,3 @@
+pub mod Scores
+pub mod Running
+pub mod Integers
