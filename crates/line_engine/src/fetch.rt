@@ -1,0 +1,159 @@
+//! Lines and requests from the input.
+
+ghost use Rattle.std.specs.Prelude.{◌≡◌, ◌≤◌, ◌⊎◌, Bool, List, ℕ};
+ghost use Rattle.io_edges.specs.Faults.{Rose};
+ghost use Rattle.line_engine.specs.Input.{KnowsEnd};
+ghost use Rattle.line_engine.specs.Line.{is_blank as is_blank_line};
+ghost use Rattle.line_engine.specs.Fetch.{LineRead, LineSpoken, RequestRead, SourceRead, Holds};
+
+use crate::input::{Filled, Input};
+use crate::line::{are_blanks, takes_source};
+use crate::line_buffer::LineBuffer;
+use io_edges::Source;
+use memchr::memchr;
+
+/// What came of reading a line.
+#[derive(Clone, Copy, Debug, PartialEq, Eq)]
+pub(crate) enum Fetched {
+    /// A line with its newline.
+    Line,
+    /// The last line, which the input ended.
+    Last,
+    /// The input has ended.
+    End,
+    /// The input goes on beyond the session's limit.
+    Limit,
+    /// Reading failed.
+    Fault,
+}
+
+/// What came of reading a request: one with or without a source line, or none.
+#[derive(Clone, Copy, Debug, PartialEq, Eq)]
+pub(crate) enum Asked {
+    /// A line that takes no source line.
+    Alone,
+    /// A line with its source line.
+    WithSource,
+    /// A line whose source line is missing.
+    WithoutSource,
+    /// The input has ended.
+    End,
+    /// The input goes on beyond the session's limit.
+    Limit,
+    /// Reading failed.
+    Fault,
+}
+
+/// Reads the next line. Each byte is copied once, and no memory is taken.
+fn read_line<S: Source>(source: &mut S, input: &mut Input, line: &mut LineBuffer) -> Fetched
+    requires known { KnowsEnd input.old (S.left source.old) }
+    ensures read { LineRead result input.old input.new (S.left source.old) (S.left source.new) line.new }
+    ensures known { KnowsEnd input.new (S.left source.new) }
+    ensures fault { result ≡ Fetched.Fault → Rose (S.faults source.old) (S.faults source.new) }
+    ensures later { S.faults source.old ≤ S.faults source.new }
+{
+    line.clear();
+    'pieces: loop {
+        if let Some(at) = memchr(b'\n', input.unread()) {
+            line.add(input.unread().split_at(at).0);
+            input.skip(at + 1);
+            return Fetched::Line;
+        }
+        line.add(input.unread());
+        input.skip_all();
+        match input.fill(source) {
+            Filled::More => {}
+            Filled::End => {
+                return if line.is_empty() {
+                    Fetched::End
+                } else {
+                    Fetched::Last
+                };
+            }
+            Filled::Limit => return Fetched::Limit,
+            Filled::Fault => return Fetched::Fault,
+        }
+    }
+}
+
+/// Reads the next line that isn't blank.
+fn next_line<S: Source>(source: &mut S, input: &mut Input, line: &mut LineBuffer) -> Fetched
+    requires known { KnowsEnd input.old (S.left source.old) }
+    ensures read { LineSpoken result input.old input.new (S.left source.old) (S.left source.new) line.new }
+    ensures known { KnowsEnd input.new (S.left source.new) }
+    ensures fault { result ≡ Fetched.Fault → Rose (S.faults source.old) (S.faults source.new) }
+    ensures later { S.faults source.old ≤ S.faults source.new }
+{
+    'lines: loop {
+        match read_line(source, input, line) {
+            Fetched::Line => {
+                if !is_blank(line) {
+                    return Fetched::Line;
+                }
+            }
+            Fetched::Last => {
+                return if is_blank(line) {
+                    Fetched::End
+                } else {
+                    Fetched::Last
+                };
+            }
+            Fetched::End => return Fetched::End,
+            Fetched::Limit => return Fetched::Limit,
+            Fetched::Fault => return Fetched::Fault,
+        }
+    }
+}
+
+// Whether a line is blank; one that is too long is not.
+fn is_blank(line: &LineBuffer) -> bool
+    ensures { (bytes : List ℕ) → Holds bytes line.now → (ended : Bool) → result ≡ is_blank_line (record { bytes = bytes; ended = ended }) }
+{
+    !line.is_long() && are_blanks(line.kept())
+}
+
+/// Reads the next request.
+pub(crate) fn fetch<S: Source>(
+    source: &mut S,
+    input: &mut Input,
+    first: &mut LineBuffer,
+    second: &mut LineBuffer,
+) -> Asked
+    requires known { KnowsEnd input.old (S.left source.old) }
+    ensures read { RequestRead result input.old input.new (S.left source.old) (S.left source.new) first.new second.new }
+    ensures known { KnowsEnd input.new (S.left source.new) }
+    ensures fault { result ≡ Asked.Fault → Rose (S.faults source.old) (S.faults source.new) }
+    ensures later { S.faults source.old ≤ S.faults source.new }
+{
+    match next_line(source, input, first) {
+        Fetched::Line | Fetched::Last => {
+            if takes_source(first.kept()) {
+                fetch_source(source, input, second)
+            } else {
+                Asked::Alone
+            }
+        }
+        Fetched::End => Asked::End,
+        Fetched::Limit => Asked::Limit,
+        Fetched::Fault => Asked::Fault,
+    }
+}
+
+// Reads the line that the first one takes as its source line.
+fn fetch_source<S: Source>(source: &mut S, input: &mut Input, second: &mut LineBuffer) -> Asked
+    requires known { KnowsEnd input.old (S.left source.old) }
+    ensures read { SourceRead result input.old input.new (S.left source.old) (S.left source.new) second.new }
+    ensures known { KnowsEnd input.new (S.left source.new) }
+    ensures fault { result ≡ Asked.Fault → Rose (S.faults source.old) (S.faults source.new) }
+    ensures later { S.faults source.old ≤ S.faults source.new }
+{
+    if input.has_ended() {
+        return Asked::WithoutSource;
+    }
+    match next_line(source, input, second) {
+        Fetched::Line | Fetched::Last => Asked::WithSource,
+        Fetched::End => Asked::WithoutSource,
+        Fetched::Limit => Asked::Limit,
+        Fetched::Fault => Asked::Fault,
+    }
+}
