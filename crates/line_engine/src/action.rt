@@ -3,7 +3,7 @@
 ghost use Rattle.std.specs.Prelude.{◌≡◌, option_map, IfOk, IfErr, IfSome, IfNone};
 ghost use Rattle.tree_json.specs.Reading.{reading, value};
 ghost use Rattle.tree_json.specs.Value.{object, members_of};
-ghost use Rattle.tree_json.specs.View.{view};
+ghost use Rattle.tree_json.specs.View.{view, entries};
 ghost use Rattle.query_ast.specs.View.{clause_of, search_of as search_view};
 ghost use Rattle.line_engine.specs.Action.{asked_of, asked_by, command_of as command_said, command_in as command_inside, command_with as command_under, command_named as command_by_name, index_in, index_with, id_of, query_in, query_of, search_in, search_of, single_of, is_empty_object, is_object as is_object_said, action};
 ghost use Rattle.line_engine.specs.View.{first_of, source_of};
@@ -138,7 +138,16 @@ fn object_of(value: Json) -> Option<JsonObject>
     }
 }
 
+// The one member of an object, lent.
+#[tactic(auto, using(crate::proofs::Members::single_at, crate::proofs::Members::single_other))]
+fn only(members: &[(JsonText, Json)]) -> Option<&(JsonText, Json)>
+    ensures { option_map (λ it. (it.now.0, view it.now.1)) result ≡ single_of (members_of (entries members.now)) }
+{
+    if members.len() == 1 { Some(&members[0]) } else { None }
+}
+
 // The one member of an object.
+#[tactic(auto, using(crate::proofs::Members::single_popped, crate::proofs::Members::single_none))]
 fn single(members: JsonObject) -> Option<(JsonText, Json)>
     ensures { option_map (λ it. (it.0, view it.1)) result ≡ single_of (members_of members) }
 {
@@ -211,23 +220,22 @@ fn id(value: Json) -> Option<JsonText>
     }
 }
 
+#[tactic(auto, using(crate::proofs::Members::search_of_some))]
 fn search(members: &JsonObject) -> Option<SearchBody>
     ensures { option_map search_view result ≡ search_of (members_of members.now) }
 {
-    match members.as_slice() {
-        [] => Some(SearchBody {
+    if members.as_slice().is_empty() {
+        return Some(SearchBody {
             query: Query::MatchAll { boost: 1 },
-        }),
-        [(name, value)] => {
-            if name.as_slice() == b"query".as_slice() {
-                Some(SearchBody {
-                    query: query(value)?,
-                })
-            } else {
-                None
-            }
-        }
-        _ => None,
+        });
+    }
+    let (name, value) = only(members.as_slice())?;
+    if name.as_slice() == b"query".as_slice() {
+        Some(SearchBody {
+            query: query(value)?,
+        })
+    } else {
+        None
     }
 }
 
@@ -243,18 +251,15 @@ fn query(value: &Json) -> Option<Query>
 fn query_single(members: &JsonObject) -> Option<Query>
     ensures { option_map clause_of result ≡ query_in (single_of (members_of members.now)) }
 {
-    match members.as_slice() {
-        [(name, value)] => {
-            if name.as_slice() == b"match_all".as_slice() && is_empty(value) {
-                Some(Query::MatchAll { boost: 1 })
-            } else {
-                None
-            }
-        }
-        _ => None,
+    let (name, value) = only(members.as_slice())?;
+    if name.as_slice() == b"match_all".as_slice() && is_empty(value) {
+        Some(Query::MatchAll { boost: 1 })
+    } else {
+        None
     }
 }
 
+#[tactic(auto, using(crate::proofs::Members::no_members_at))]
 fn is_empty(value: &Json) -> bool
     ensures { result ≡ is_empty_object (view value.now) }
 {
