@@ -1,1 +1,5 @@
 pub mod Members
+pub mod Fronts
+pub mod Cuts
+pub mod Uses
+pub mod LineReads

@@ -1,5 +1,5 @@
 -- What reading a line and a request uses up of the input, and what they are.
-use Rattle.std.specs.Prelude.{◌≡◌, ◌<◌, ◌==◌, nat_lt, ℕ, ◌+◌, Bool, true, false, not, IsTrue, List, [], ◌∷◌, ◌++◌, length, take, filter, Option, if◌then◌else◌, ◌⊎◌}
+use Rattle.std.specs.Prelude.{◌≡◌, ◌<◌, ◌==◌, nat_lt, ℕ, ◌+◌, Bool, true, false, not, IsTrue, List, [], ◌∷◌, ◌++◌, length, take, drop, filter, Option, if◌then◌else◌, ◌⊎◌}
 use Rattle.std.specs.List.{list_any, list_all}
 use Rattle.std.specs.Io.KnownBytes.{Consumes, IsAtEnd}
 use Rattle.line_engine.specs.Line.{Line, newline, longest_line, lines_of, is_blank, is_blank_byte}
@@ -34,6 +34,12 @@ pub record HasEnded (new : InputState) (left' : Option (List ℕ)) : Type 0 wher
 
 abbrev pub has_newline : List ℕ → Bool
 has_newline bytes = list_any (λ byte. byte == newline) bytes
+
+-- the first newline stands at this place
+pub record IsCutAt (at : ℕ) (bytes : List ℕ) : Type 0 where
+  pub within : at < length bytes
+  pub parts : bytes ≡ take at bytes ++ newline ∷ drop (at + 1) bytes
+  pub plain : has_newline (take at bytes) ≡ false
 
 -- the buffer has a line's front, and knows whether the line is too long
 pub record Holds (bytes : List ℕ) (line : LineState) : Type 0 where

@@ -14,6 +14,7 @@ pub record ReadsMore (old new : InputState) (left left' : Option (List ℕ)) : T
   pub read : Consumes left left' new.unread
   pub some : 0 < length new.unread
   pub allowance : new.allowance + length new.unread ≡ old.allowance
+  pub going : new.ended ≡ old.ended
 
 -- the input has ended
 pub record MeetsEnd (old new : InputState) (left left' : Option (List ℕ)) : Type 0 where
@@ -26,12 +27,12 @@ pub record MeetsLimit (old new : InputState) (left left' : Option (List ℕ)) : 
   pub more : ℕ
   pub read : Consumes left left' (more ∷ [])
   pub all : old.allowance ≡ 0
-  pub same : new ≡ old
+  pub same : new ≡ record { unread = []; allowance = old.allowance; ended = old.ended }
 
 -- the read failed and took nothing
 pub record MeetsFault (old new : InputState) (left left' : Option (List ℕ)) : Type 0 where
   pub read : Consumes left left' []
-  pub same : new ≡ old
+  pub same : new ≡ record { unread = []; allowance = old.allowance; ended = old.ended }
 
 abbrev pub IsFilled : Filled → InputState → InputState → Option (List ℕ) → Option (List ℕ) → Type 0
 IsFilled More old new left left' = ReadsMore old new left left'

@@ -1,10 +1,10 @@
 //! Lines and requests from the input.
 
-ghost use Rattle.std.specs.Prelude.{◌≡◌, ◌≤◌, ◌⊎◌, Bool, List, ℕ};
+ghost use Rattle.std.specs.Prelude.{◌≡◌, ◌≤◌, false, Bool, List, ℕ, IfSome, IfNone};
 ghost use Rattle.io_edges.specs.Faults.{Rose};
 ghost use Rattle.line_engine.specs.Input.{KnowsEnd};
 ghost use Rattle.line_engine.specs.Line.{is_blank as is_blank_line};
-ghost use Rattle.line_engine.specs.Fetch.{LineRead, LineSpoken, RequestRead, SourceRead, Holds};
+ghost use Rattle.line_engine.specs.Fetch.{LineRead, LineSpoken, RequestRead, SourceRead, Holds, IsCutAt, has_newline};
 
 use crate::input::{Filled, Input};
 use crate::line::{are_blanks, takes_source};
@@ -44,6 +44,15 @@ pub(crate) enum Asked {
     Fault,
 }
 
+// The place of the first newline.
+#[tactic(auto, using(crate::proofs::Cuts::found_cut, crate::proofs::Cuts::none_cut))]
+fn newline_at(bytes: &[u8]) -> Option<usize>
+    ensures found { IfSome result (λ at. IsCutAt at bytes.now) }
+    ensures none { IfNone result (has_newline bytes.now ≡ false) }
+{
+    memchr(b'\n', bytes)
+}
+
 /// Reads the next line. Each byte is copied once, and no memory is taken.
 fn read_line<S: Source>(source: &mut S, input: &mut Input, line: &mut LineBuffer) -> Fetched
     requires known { KnowsEnd input.old (S.left source.old) }
@@ -54,7 +63,7 @@ fn read_line<S: Source>(source: &mut S, input: &mut Input, line: &mut LineBuffer
 {
     line.clear();
     'pieces: loop {
-        if let Some(at) = memchr(b'\n', input.unread()) {
+        if let Some(at) = newline_at(input.unread()) {
             line.add(input.unread().split_at(at).0);
             input.skip(at + 1);
             return Fetched::Line;

@@ -105,6 +105,8 @@ impl Input {
         if self.allowance == 0 {
             return self.look_further(source);
         }
+        self.at = 0;
+        self.end = 0;
         let most = self.chunk.len().min(self.allowance as usize);
         match read_front(source, &mut self.chunk, most) {
             Ok(0) => {
@@ -112,7 +114,6 @@ impl Input {
                 Filled::End
             }
             Ok(count) => {
-                self.at = 0;
                 self.end = count;
                 self.allowance -= count as u64;
                 Filled::More
@@ -125,7 +126,7 @@ impl Input {
     fn look_further<S: Source>(&mut self, source: &mut S) -> Filled
         requires used { self.old.unread ≡ [] }
         requires all { self.old.allowance ≡ 0 }
-        requires known { KnowsEnd self.old (S.left source.old) }
+        requires going { self.old.ended ≡ false }
         ensures filled { IsFilled result self.old self.new (S.left source.old) (S.left source.new) }
         ensures known { KnowsEnd self.new (S.left source.new) }
         ensures fault { result ≡ Filled.Fault → Rose (S.faults source.old) (S.faults source.new) }

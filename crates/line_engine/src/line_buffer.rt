@@ -54,6 +54,7 @@ impl LineBuffer {
     }
 
     /// Adds the next piece of the line, as far as it is kept.
+    #[tactic(auto, using(crate::proofs::Fronts::kept_whole, crate::proofs::Fronts::kept_part))]
     pub(crate) fn add(&mut self, piece: &[u8])
         ensures kept { self.new.kept ≡ take longest_line (self.old.kept ++ piece.now) }
         ensures long { self.new.long ≡ (self.old.long || nat_lt longest_line (length (self.old.kept ++ piece.now))) }
