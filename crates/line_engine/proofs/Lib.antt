@@ -3,3 +3,4 @@ pub mod Fronts
 pub mod Cuts
 pub mod Uses
 pub mod LineReads
+pub mod Speaking

@@ -5,7 +5,7 @@ use Rattle.std.proofs.lemmas.List.{append-nil}
 use Rattle.std.specs.Io.KnownBytes.{Consumes, IsAtEnd}
 use Rattle.line_engine.specs.Seen.{InputState}
 use Rattle.line_engine.specs.Input.{ReadsMore, MeetsEnd, MeetsLimit, MeetsFault}
-use Rattle.line_engine.specs.Fetch.{Uses, UsesAll, HasEnded}
+use Rattle.line_engine.specs.Fetch.{Uses, UsesAll, HasEnded, ahead}
 
 pub consumes_none : (left : Option (List ℕ)) → Consumes left left []
 consumes_none None = tt
@@ -89,3 +89,8 @@ uses_both_all old mid left left' left'' first second one two = record {
     parts = sym (append_assoc old.unread one.read two.read) ∙ (ap (λ xs. xs ++ two.read) one.parts ∙ (append_assoc first mid.unread two.read ∙ ap (λ xs. first ++ xs) two.parts));
     allowance = omega (arith, length-append one.read two.read, one.allowance, two.allowance)
   }
+
+-- what is used is no longer ahead
+pub uses_ahead : (old new : InputState) (left left' : Option (List ℕ)) (used : List ℕ) → Uses old new left left' used → ahead new + length used ≡ ahead old
+uses_ahead old new left left' used uses =
+    omega (arith, length-append old.unread uses.read, length-append used new.unread, ap length uses.parts, uses.allowance)

@@ -1,10 +1,11 @@
 //! Lines and requests from the input.
 
-ghost use Rattle.std.specs.Prelude.{◌≡◌, ◌≤◌, false, Bool, List, ℕ, IfSome, IfNone};
+ghost use Rattle.std.specs.Prelude.{◌≡◌, ◌≤◌, ◌&&◌, not, false, IfSome, IfNone};
+ghost use Rattle.std.specs.List.{list_all};
 ghost use Rattle.io_edges.specs.Faults.{Rose};
 ghost use Rattle.line_engine.specs.Input.{KnowsEnd};
-ghost use Rattle.line_engine.specs.Line.{is_blank as is_blank_line};
-ghost use Rattle.line_engine.specs.Fetch.{LineRead, LineSpoken, RequestRead, SourceRead, Holds, IsCutAt, has_newline};
+ghost use Rattle.line_engine.specs.Line.{is_blank_byte};
+ghost use Rattle.line_engine.specs.Fetch.{LineRead, LineSpoken, RequestRead, SourceRead, IsCutAt, has_newline};
 
 use crate::input::{Filled, Input};
 use crate::line::{are_blanks, takes_source};
@@ -116,7 +117,7 @@ fn next_line<S: Source>(source: &mut S, input: &mut Input, line: &mut LineBuffer
 
 // Whether a line is blank; one that is too long is not.
 fn is_blank(line: &LineBuffer) -> bool
-    ensures { (bytes : List ℕ) → Holds bytes line.now → (ended : Bool) → result ≡ is_blank_line (record { bytes = bytes; ended = ended }) }
+    ensures { result ≡ (not line.now.long && list_all is_blank_byte line.now.kept) }
 {
     !line.is_long() && are_blanks(line.kept())
 }
