@@ -4,3 +4,4 @@ pub mod Cuts
 pub mod Uses
 pub mod LineReads
 pub mod Speaking
+pub mod Asking

@@ -136,9 +136,16 @@ pub(crate) fn fetch<S: Source>(
     ensures later { S.faults source.old ≤ S.faults source.new }
 {
     match next_line(source, input, first) {
-        Fetched::Line | Fetched::Last => {
+        Fetched::Line => {
             if takes_source(first.kept()) {
                 fetch_source(source, input, second)
+            } else {
+                Asked::Alone
+            }
+        }
+        Fetched::Last => {
+            if takes_source(first.kept()) {
+                Asked::WithoutSource
             } else {
                 Asked::Alone
             }
@@ -157,11 +164,9 @@ fn fetch_source<S: Source>(source: &mut S, input: &mut Input, second: &mut LineB
     ensures fault { result ≡ Asked.Fault → Rose (S.faults source.old) (S.faults source.new) }
     ensures later { S.faults source.old ≤ S.faults source.new }
 {
-    if input.has_ended() {
-        return Asked::WithoutSource;
-    }
     match next_line(source, input, second) {
-        Fetched::Line | Fetched::Last => Asked::WithSource,
+        Fetched::Line => Asked::WithSource,
+        Fetched::Last => Asked::WithSource,
         Fetched::End => Asked::WithoutSource,
         Fetched::Limit => Asked::Limit,
         Fetched::Fault => Asked::Fault,
