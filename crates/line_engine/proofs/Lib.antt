@@ -5,3 +5,4 @@ pub mod Uses
 pub mod LineReads
 pub mod Speaking
 pub mod Asking
+pub mod Writing

@@ -4,9 +4,12 @@ use Rattle.std.specs.List.{AllByRecursion}
 use Rattle.std.specs.Io.KnownBytes.{Consumes, Appends}
 use Rattle.line_engine.specs.Request.{Request, requests}
 use Rattle.line_engine.specs.Machine.{State}
-use Rattle.line_engine.specs.Run.{MayRun, IsFront}
-use Rattle.line_engine.specs.Seen.{InputState, EngineState}
-use Rattle.line_engine.specs.Reply.{reply_text, out_of_memory}
+use Rattle.line_engine.specs.Run.{MayStep, MayRun, IsFront}
+use Rattle.line_engine.specs.LineIn.{line_in}
+use Rattle.line_engine.specs.Fetch.{source_asked}
+use Rattle.line_engine.specs.Seen.{InputState, LineState, EngineState}
+use Rattle.line_engine.specs.Reply.{Reply, reply_text, out_of_memory}
+use Rattle.line_engine.specs.declared.fetch.Asked.{Asked}
 use Rattle.line_engine.specs.declared.limits.Limits.{Limits}
 use Rattle.line_engine.specs.declared.engine.Answered.{Answered}
 use Rattle.line_engine.specs.declared.engine.Answered.TheVariants.{Written, NoMemory}
@@ -33,6 +36,22 @@ pub record TakesFront (taken taken' : Option (List ℕ)) (piece : List ℕ) : Ty
   pub part : List ℕ
   pub written : Appends taken taken' part
   pub front : IsFront part piece
+
+-- The request is answered, and the sink took the reply.
+pub record Replies (engine engine' : EngineState) (request : Request) (taken taken' : Option (List ℕ)) : Type 0 where
+  pub reply : Reply
+  pub may : MayStep engine.limits engine.state request reply engine'.state
+  pub written : Appends taken taken' (reply_text reply)
+
+-- The request is answered, and the sink took a front of the reply.
+pub record RepliesPart (engine engine' : EngineState) (request : Request) (taken taken' : Option (List ℕ)) : Type 0 where
+  pub reply : Reply
+  pub may : MayStep engine.limits engine.state request reply engine'.state
+  pub part : TakesFront taken taken' (reply_text reply)
+
+-- the request that was read into the two buffers
+abbrev pub request_in : Asked → LineState → LineState → Request
+request_in asked first second = record { first = line_in first; source = source_asked asked second; ended = true }
 
 -- what is written for an answer: the reply, or the fixed one where there was no memory for it
 abbrev pub reply_bytes : Answered → List ℕ → List ℕ

@@ -7,7 +7,7 @@ ghost use Rattle.tree_json.specs.Output.{room_of};
 ghost use Rattle.line_engine.specs.Limit.{AreLimits};
 ghost use Rattle.line_engine.specs.Machine.{State, empty_state};
 ghost use Rattle.line_engine.specs.Run.{Serves, IsCaused};
-ghost use Rattle.line_engine.specs.Served.{Served, TakesFront, reply_bytes};
+ghost use Rattle.line_engine.specs.Served.{Served, Replies, RepliesPart, TakesFront, reply_bytes, request_in};
 ghost use Rattle.line_engine.specs.declared.limits.Limits.{Limits};
 ghost use Rattle.line_engine.specs.Fetch.{ahead, source_asked};
 ghost use Rattle.line_engine.specs.View.{source_of};
@@ -175,6 +175,32 @@ fn serve_next<S: Source, K: Sink, D: Disk, L: Ledger>(
         Asked::Fault => return Some(Status::ReadFault),
         Asked::Alone | Asked::WithSource | Asked::WithoutSource => {}
     }
+    if reply_to(session, asked, sink, disk, steps).is_err() {
+        return Some(Status::WriteFault);
+    }
+    if session.input.has_ended() {
+        return Some(Status::Done);
+    }
+    None
+}
+
+// Answers the request in the buffers, and writes the reply.
+fn reply_to<K: Sink, D: Disk, L: Ledger>(
+    session: &mut Session,
+    asked: Asked,
+    sink: &mut K,
+    disk: &mut D,
+    steps: &mut Steps<L>,
+) -> Result<(), Failed>
+    requires { session.old.engine.calls < 2 ^ 50 }
+    ensures replies { OnOk result (Replies session.old.engine session.new.engine (request_in asked session.old.first session.old.second) (K.taken sink.old) (K.taken sink.new)) }
+    ensures part { OnErr result (RepliesPart session.old.engine session.new.engine (request_in asked session.old.first session.old.second) (K.taken sink.old) (K.taken sink.new)) }
+    ensures cause { HasCause (K.faults sink.old) (K.faults sink.new) result }
+    ensures input { session.new.input ≡ session.old.input }
+    ensures limits { session.new.engine.limits ≡ session.old.engine.limits }
+    ensures calls { session.new.engine.calls ≡ session.old.engine.calls + 1 }
+    ensures disk { disk.new ≡ disk.old }
+{
     session.out.clear();
     let answered = session.engine.answer(
         disk,
@@ -183,13 +209,7 @@ fn serve_next<S: Source, K: Sink, D: Disk, L: Ledger>(
         &mut session.out,
         steps,
     );
-    if write_reply(sink, answered, &session.out).is_err() {
-        return Some(Status::WriteFault);
-    }
-    if session.input.has_ended() {
-        return Some(Status::Done);
-    }
-    None
+    write_reply(sink, answered, &session.out)
 }
 
 // The source line of a request that was read.
@@ -216,6 +236,7 @@ fn write_reply<K: Sink>(sink: &mut K, answered: Answered, out: &OutText) -> Resu
 }
 
 // Writes a piece, in as many writes as the sink asks for.
+#[tactic(auto, using(crate::proofs::Writing::writes))]
 fn write_whole<K: Sink>(sink: &mut K, piece: &[u8]) -> Result<(), Failed>
     ensures bytes { OnOk result (Appends (K.taken sink.old) (K.taken sink.new) piece.now) }
     ensures part { OnErr result (TakesFront (K.taken sink.old) (K.taken sink.new) piece.now) }
