@@ -1,1 +1,3 @@
 pub mod ReplyTexts
+pub mod PageTexts
+pub mod Pages

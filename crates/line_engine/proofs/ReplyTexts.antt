@@ -1,7 +1,7 @@
--- The texts of replies and of hits, piece by piece as they are written behind what stands there.
+-- The texts of replies to changes and of refusals, piece by piece as they are written behind what stands there.
 use Rattle.std.proofs.Common.{◌≡◌, ℕ, List, [], ◌∷◌, ◌++◌, codes, decimal, refl, append_assoc, append-nil}
 use Rattle.json.specs.Print.{escape_byte}
-use Rattle.tree_json.specs.Text.{quoted, compact}
+use Rattle.tree_json.specs.Text.{quoted}
 use Rattle.line_engine.specs.Line.{newline}
 use Rattle.line_engine.specs.Reply.{reply_text, changed, refusal, number_of_refusal, reason_of, word_of}
 use Rattle.line_engine.specs.declared.refusal.Refusal.{Refusal}
@@ -11,7 +11,7 @@ use Rattle.line_engine.specs.declared.reply.WriteResult.TheVariants.{Created, Up
 
 -- ---- the names that stand in them
 
-id_name : quoted (codes "_id") ≡ codes "\"_id\""
+pub id_name : quoted (codes "_id") ≡ codes "\"_id\""
 unfolding quoted escape_byte
 id_name = refl
 

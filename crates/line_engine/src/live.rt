@@ -3,11 +3,9 @@
 ghost use Rattle.std.specs.Prelude.{◌≡◌, ◌<◌, ◌≤◌, ◌++◌, [], false, length, map, take, OnOk, OnErr};
 ghost use Rattle.std.specs.List.{AllByRecursion};
 ghost use Rattle.tree_json.specs.View.{view};
-ghost use Rattle.query_ast.specs.Tree.{number_of};
+ghost use Rattle.query_ast.specs.Tree.{IsLiveList, number_of};
 ghost use Rattle.line_engine.specs.Machine.{with_put, new_tree};
-ghost use Rattle.line_engine.specs.Live.{scored};
-ghost use Rattle.line_engine.specs.Reply.{hit_values};
-ghost use Rattle.tree_json.specs.Text.{compact_elements};
+ghost use Rattle.line_engine.specs.Live.{scored, hits_text};
 ghost use Rattle.tree_json.specs.Output.{room_of};
 
 use crate::page::write_hits;
@@ -63,7 +61,8 @@ impl LiveTrees {
 
     /// How many trees there are.
     pub(crate) fn len(&self) -> u64
-        ensures { result ≡ length self.now }
+        ensures length { result ≡ length self.now }
+        ensures live { IsLiveList self.now }
     {
         self.trees.len() as u64
     }
@@ -103,7 +102,7 @@ impl LiveTrees {
 
     /// Writes the first hits, each with this score, as the elements of a list.
     pub(crate) fn write_hits(&self, score: u32, out: &mut OutText) -> Result<(), NoMemory>
-        ensures ok { OnOk result (out.new.bytes ≡ out.old.bytes ++ compact_elements false (hit_values (map (scored score) (take 10 self.now)))) }
+        ensures ok { OnOk result (out.new.bytes ≡ out.old.bytes ++ hits_text false (map (scored score) (take 10 self.now))) }
         ensures room { room_of out.old ≤ room_of out.new }
     {
         write_hits(&self.trees, score, out)
