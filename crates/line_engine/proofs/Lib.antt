@@ -1,3 +1,4 @@
 pub mod ReplyTexts
 pub mod PageTexts
 pub mod Pages
+pub mod Puts

@@ -1,5 +1,6 @@
 -- How the live trees are kept: by sequence number, and the sequence number of each by id.
-use Rattle.std.specs.Prelude.{◌≡◌, ℕ, Bool, List, map}
+use Rattle.std.specs.Prelude.{◌≡◌, ◌<◌, ℕ, Bool, List, map}
+use Rattle.std.specs.List.{AllByRecursion}
 use Rattle.std.specs.BTreeMap.{BTreeMap, get_by_text}
 use Rattle.std.specs.Prelude.{String}
 use Rattle.std.specs.Global.{Global}
@@ -16,6 +17,10 @@ tree_at entry = new_tree entry.1.id (view entry.1.source) entry.0
 
 abbrev pub trees_of : List (ℕ × Stored) → List Tree
 trees_of entries = map tree_at entries
+
+-- each tree is older than the number
+abbrev pub AreBelow : ℕ → List Tree → Type 0
+AreBelow number trees = AllByRecursion (λ (tree : Tree). tree.number < number) trees
 
 -- The trees are live trees, and the numbers are theirs.
 pub record IsIndexed (trees : BTreeMap ℕ Stored) (numbers : BTreeMap (String Global) ℕ) : Type 0 where
