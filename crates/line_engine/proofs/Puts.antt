@@ -1,5 +1,5 @@
 -- A tree is put under a number above all others, and the one with its id is taken out.
-use Rattle.std.proofs.Common.{◌≡◌, ◌≢◌, ℕ, ◌<◌, List, [], ◌∷◌, ◌++◌, Bool, true, false, cond, map, refl, ap, sym, ◌∙◌, Option, None, Some, nat_cmp, Greater, arith, subst}
+use Rattle.std.proofs.Common.{◌≡◌, ◌≢◌, ℕ, ◌+◌, ◌<◌, List, [], ◌∷◌, ◌++◌, Bool, true, false, cond, map, refl, ap, sym, ◌∙◌, Option, None, Some, nat_cmp, Greater, arith, subst}
 use Rattle.std.proofs.lemmas.Bool.{false_from_ne_true}
 use Rattle.std.proofs.lemmas.Bool.Decides.{nat_tests}
 use Rattle.std.proofs.lemmas.List.{map-append}
@@ -137,6 +137,15 @@ number_put id tree (first ∷ trees) = step (has_id tree.id first) (has_id id fi
     step false true false p q r more = ap (λ (test : Bool). cond test (Some first.number) (number_of id (with_put tree trees))) q
     step false false new p q r more =
         ap (λ (test : Bool). cond test (Some first.number) (number_of id (with_put tree trees))) q ∙ (more ∙ ap (λ (test : Bool). cond test (Some tree.number) (number_of id trees)) r)
+
+-- the numbers stay below the next one
+pub below_put : (tree : Tree) (trees : List Tree) → AreBelow tree.number trees → AreBelow (tree.number + 1) (with_put tree trees)
+below_put tree [] below = (omega arith, tt)
+below_put tree (first ∷ trees) below = step (has_id tree.id first) (below_put tree trees below.1)
+  where
+    step : (b : Bool) → AreBelow (tree.number + 1) (with_put tree trees) → AreBelow (tree.number + 1) (cond b (without tree.id trees) (first ∷ without tree.id trees) ++ tree ∷ [])
+    step true more = more
+    step false more = (omega (arith, below.0), more)
 
 -- ---- the maps
 
