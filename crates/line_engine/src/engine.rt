@@ -44,8 +44,8 @@ pub struct Engine {
 }
 
 impl Model for Engine {
-    ghost use Rattle.std.specs.Prelude.{◌≤◌, ◌<◌};
-    ghost use Rattle.std.specs.List.{AllByRecursion};
+    ghost use Rattle.std.specs.Prelude.{◌≤◌};
+    ghost use Rattle.line_engine.specs.Live.{AreBelow};
     ghost use Rattle.line_engine.specs.Seen.{EngineState, engine_code};
 
     ghost Value = { EngineState };
@@ -58,7 +58,7 @@ impl Model for Engine {
         calls = engine.calls
     } };
 
-    ghost invariant = { λ engine. (engine.next ≤ engine.calls) × AllByRecursion (λ tree. tree.number < engine.next) engine.live };
+    ghost invariant = { λ engine. (engine.next ≤ engine.calls) × AreBelow engine.next engine.live };
 }
 
 impl Engine {

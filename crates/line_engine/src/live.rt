@@ -1,13 +1,14 @@
 //! The live trees of an index.
 
 ghost use Rattle.std.specs.Prelude.{◌≡◌, ◌<◌, ◌≤◌, ◌++◌, [], false, length, map, take, OnOk, OnErr};
-ghost use Rattle.std.specs.List.{AllByRecursion};
+ghost use Rattle.std.specs.BTreeMap.{is_at};
+ghost use Rattle.std.specs.Map.{remove_entry};
+ghost use Rattle.std.specs.Ordering.{nat_cmp};
+ghost use Rattle.std.specs.String.{string_bytes};
 ghost use Rattle.tree_json.specs.View.{view};
-ghost use Rattle.query_ast.specs.Tree.{number_of};
+ghost use Rattle.query_ast.specs.Tree.{IsLiveList, number_of};
 ghost use Rattle.line_engine.specs.Machine.{with_put, new_tree};
-ghost use Rattle.line_engine.specs.Live.{scored};
-ghost use Rattle.line_engine.specs.Reply.{hit_values};
-ghost use Rattle.tree_json.specs.Text.{compact_elements};
+ghost use Rattle.line_engine.specs.Live.{IsIndexed, AreBelow, trees_of, tree_at, scored, hits_text};
 ghost use Rattle.tree_json.specs.Output.{room_of};
 
 use crate::page::write_hits;
@@ -63,7 +64,8 @@ impl LiveTrees {
 
     /// How many trees there are.
     pub(crate) fn len(&self) -> u64
-        ensures { result ≡ length self.now }
+        ensures length { result ≡ length self.now }
+        ensures live { IsLiveList self.now }
     {
         self.trees.len() as u64
     }
@@ -82,30 +84,60 @@ impl LiveTrees {
         id: JsonText,
         source: Json,
     ) -> Result<(), NoMemory>
-        requires { AllByRecursion (λ tree. tree.number < number) self.old }
+        requires { AreBelow number self.old }
         ensures ok { OnOk result (self.new ≡ with_put (new_tree id (view source) number) self.old) }
         ensures err { OnErr result (self.new ≡ self.old) }
     {
         let key = String::from_str(self.alloc, id.as_str())?;
-        self.trees.insert(number, Stored { id, source })?;
-        match self.numbers.insert(key, number) {
-            Ok(Some(old)) => {
-                self.trees.remove(&old);
-            }
-            Ok(None) => {}
-            Err(_failed) => {
-                self.trees.remove(&number);
-                return Err(NoMemory);
-            }
-        }
-        Ok(())
+        put_stored(
+            &mut self.trees,
+            &mut self.numbers,
+            key,
+            number,
+            Stored { id, source },
+        )
     }
 
     /// Writes the first hits, each with this score, as the elements of a list.
     pub(crate) fn write_hits(&self, score: u32, out: &mut OutText) -> Result<(), NoMemory>
-        ensures ok { OnOk result (out.new.bytes ≡ out.old.bytes ++ compact_elements false (hit_values (map (scored score) (take 10 self.now)))) }
+        ensures ok { OnOk result (out.new.bytes ≡ out.old.bytes ++ hits_text false (map (scored score) (take 10 self.now))) }
         ensures room { room_of out.old ≤ room_of out.new }
     {
         write_hits(&self.trees, score, out)
     }
+}
+
+// Puts a tree under a number above all others, and takes the one with its id out.
+fn put_stored(
+    trees: &mut BTreeMap<u64, Stored>,
+    numbers: &mut BTreeMap<String, u64>,
+    key: String,
+    number: u64,
+    stored: Stored,
+) -> Result<(), NoMemory>
+    requires indexed { IsIndexed trees.old numbers.old }
+    requires above { AreBelow number (trees_of trees.old.entries) }
+    requires key { string_bytes key ≡ stored.id }
+    ensures ok { OnOk result (trees_of trees.new.entries ≡ with_put (tree_at (number, stored)) (trees_of trees.old.entries)) }
+    ensures err { OnErr result (trees_of trees.new.entries ≡ trees_of trees.old.entries) }
+    ensures indexed { IsIndexed trees.new numbers.new }
+{
+    trees.insert(number, stored)?;
+    match numbers.insert(key, number) {
+        Ok(Some(old)) => {
+            take_out(trees, old);
+            Ok(())
+        }
+        Ok(None) => Ok(()),
+        Err(_failed) => {
+            take_out(trees, number);
+            Err(NoMemory)
+        }
+    }
+}
+
+fn take_out(trees: &mut BTreeMap<u64, Stored>, number: u64)
+    ensures { trees.new.entries ≡ remove_entry (is_at (nat_cmp number)) trees.old.entries }
+{
+    trees.remove(&number);
 }

@@ -3,11 +3,11 @@
 ghost use Rattle.std.specs.Prelude.{◌≡◌, ◌≤◌, ◌<◌, ◌++◌, false, map, take, OnOk};
 ghost use Rattle.std.specs.BTreeMap.{BTreeMap};
 ghost use Rattle.tree_json.specs.Output.{room_of};
-ghost use Rattle.tree_json.specs.Text.{compact, compact_elements};
-ghost use Rattle.query_ast.specs.View.{search_of};
+ghost use Rattle.query_ast.specs.Clause.{match_all};
+ghost use Rattle.query_ast.specs.View.{clause_of, search_of};
 ghost use Rattle.query_ast.specs.Page.{page_of};
-ghost use Rattle.line_engine.specs.Reply.{reply_text, found, hit_values, hit_value};
-ghost use Rattle.line_engine.specs.Live.{trees_of, tree_at, scored};
+ghost use Rattle.line_engine.specs.Reply.{reply_text, found};
+ghost use Rattle.line_engine.specs.Live.{trees_of, tree_at, scored, hit_text, hits_text};
 
 use crate::live::{LiveTrees, Stored};
 use crate::refusal::NoMemory;
@@ -28,13 +28,22 @@ pub(crate) fn write_page(
     ensures ok { OnOk result (out.new.bytes ≡ out.old.bytes ++ reply_text (found (page_of (search_of body.now) live.now))) }
     ensures room { room_of out.old ≤ room_of out.new }
 {
-    let Query::MatchAll { boost } = body.query;
+    let score = boost_of(&body.query);
     out.push(b"{\"hits\":{\"hits\":[")?;
-    live.write_hits(boost, out)?;
+    live.write_hits(score, out)?;
     out.push(b"],\"total\":")?;
     write_count(live.len(), out)?;
     out.push(b"}}\n")?;
     Ok(())
+}
+
+// The score that a query gives to each tree.
+fn boost_of(query: &Query) -> u32
+    ensures { clause_of query.now ≡ match_all result }
+{
+    match query {
+        Query::MatchAll { boost } => *boost,
+    }
 }
 
 /// Writes the hits of a page on which each tree has this score, as the elements of a list.
@@ -43,7 +52,7 @@ pub(crate) fn write_hits(
     score: u32,
     out: &mut OutText,
 ) -> Result<(), NoMemory>
-    ensures ok { OnOk result (out.new.bytes ≡ out.old.bytes ++ compact_elements false (hit_values (map (scored score) (take 10 (trees_of trees.now.entries))))) }
+    ensures ok { OnOk result (out.new.bytes ≡ out.old.bytes ++ hits_text false (map (scored score) (take 10 (trees_of trees.now.entries)))) }
     ensures room { room_of out.old ≤ room_of out.new }
 {
     let mut left = PAGE;
@@ -66,7 +75,7 @@ fn write_hit(
     score: u32,
     out: &mut OutText,
 ) -> Result<(), NoMemory>
-    ensures ok { OnOk result (out.new.bytes ≡ out.old.bytes ++ compact (hit_value (scored score (tree_at (number, stored.now))))) }
+    ensures ok { OnOk result (out.new.bytes ≡ out.old.bytes ++ hit_text (scored score (tree_at (number, stored.now)))) }
     ensures room { room_of out.old ≤ room_of out.new }
 {
     out.push(b"{\"_id\":")?;
