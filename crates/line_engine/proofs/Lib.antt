@@ -6,6 +6,7 @@ pub mod LineReads
 pub mod Speaking
 pub mod Asking
 pub mod Writing
+pub mod Serving
 pub mod ReplyTexts
 pub mod PageTexts
 pub mod Pages

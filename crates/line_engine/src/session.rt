@@ -6,6 +6,7 @@ ghost use Rattle.io_edges.specs.Faults.{Rose, HasCause};
 ghost use Rattle.tree_json.specs.Output.{room_of};
 ghost use Rattle.line_engine.specs.Limit.{AreLimits};
 ghost use Rattle.line_engine.specs.Machine.{State, empty_state};
+ghost use Rattle.line_engine.specs.Reply.{reply_text, out_of_memory as out_of_memory_reply};
 ghost use Rattle.line_engine.specs.Run.{Serves, IsCaused};
 ghost use Rattle.line_engine.specs.Served.{Served, Replies, RepliesPart, TakesFront, reply_bytes, request_in};
 ghost use Rattle.line_engine.specs.declared.limits.Limits.{Limits};
@@ -29,9 +30,6 @@ use tree_json::OutText;
 
 /// The room that is kept for a reply.
 const REPLY_ROOM: u64 = 4_096;
-
-/// The reply where there is no memory. It is written from here, so that it needs none.
-const OUT_OF_MEMORY: &[u8] = b"{\"error\":{\"reason\":\"out_of_memory\"}}\n";
 
 /// The engine, and all the memory that reading a request and the usual reply take.
 #[derive(Drop)]
@@ -231,8 +229,16 @@ fn write_reply<K: Sink>(sink: &mut K, answered: Answered, out: &OutText) -> Resu
 {
     match answered {
         Answered::Written => write_whole(sink, out.as_slice()),
-        Answered::NoMemory => write_whole(sink, OUT_OF_MEMORY),
+        Answered::NoMemory => write_whole(sink, out_of_memory()),
     }
+}
+
+// The reply where there is no memory. It needs none.
+#[tactic(auto, using(crate::proofs::Serving::out_of_memory_text))]
+fn out_of_memory() -> &'static [u8]
+    ensures { result.now ≡ reply_text out_of_memory_reply }
+{
+    b"{\"error\":{\"reason\":\"out_of_memory\"}}\n"
 }
 
 // Writes a piece, in as many writes as the sink asks for.
