@@ -39,18 +39,18 @@ total_name = refl
 hit_parts : (name id name2 score name3 source name4 number : List ℕ) → List ℕ
 hit_parts name id name2 score name3 source name4 number =
     codes "{" ++ (((name ++ (codes ":" ++ id)) ++ (codes "," ++ ((name2 ++ (codes ":" ++ score)) ++ (codes "," ++ ((name3 ++ (codes ":" ++ source)) ++ (codes ","
-        ++ ((name4 ++ (codes ":" ++ (codes "[" ++ ((score ++ (codes "," ++ (number ++ []))) ++ codes "]")))) ++ []))))))) ++ codes "}")
+    ++ ((name4 ++ (codes ":" ++ (codes "[" ++ ((score ++ (codes "," ++ (number ++ []))) ++ codes "]")))) ++ []))))))) ++ codes "}")
 
 hit_read : (tree : Tree) (score : ℕ)
     → hit_text (scored score tree) ≡ hit_parts (quoted (codes "_id")) (quoted tree.id) (quoted (codes "_score")) (decimal score) (quoted (codes "_source")) (compact tree.source) (quoted (codes "sort")) (decimal tree.number)
 unfolding hit_text hit_parts
 hit_read tree score = refl
 
-hit_regrouped : (old front colon comma list tsil back name id name2 score name3 source name4 number : List ℕ)
+hit_regrouped : (old front colon comma list list_end back name id name2 score name3 source name4 number : List ℕ)
     → old ++ (front ++ (((name ++ (colon ++ id)) ++ (comma ++ ((name2 ++ (colon ++ score)) ++ (comma ++ ((name3 ++ (colon ++ source)) ++ (comma
-        ++ ((name4 ++ (colon ++ (list ++ ((score ++ (comma ++ (number ++ []))) ++ tsil)))) ++ []))))))) ++ back))
-    ≡ ((((((((((old ++ (front ++ (name ++ colon))) ++ id) ++ (comma ++ (name2 ++ colon))) ++ score) ++ (comma ++ (name3 ++ colon))) ++ source) ++ (comma ++ (name4 ++ (colon ++ list)))) ++ score) ++ comma) ++ number) ++ (tsil ++ back)
-hit_regrouped old front colon comma list tsil back name id name2 score name3 source name4 number = simp (append_assoc, append-nil)
+    ++ ((name4 ++ (colon ++ (list ++ ((score ++ (comma ++ (number ++ []))) ++ list_end)))) ++ []))))))) ++ back))
+    ≡ ((((((((((old ++ (front ++ (name ++ colon))) ++ id) ++ (comma ++ (name2 ++ colon))) ++ score) ++ (comma ++ (name3 ++ colon))) ++ source) ++ (comma ++ (name4 ++ (colon ++ list)))) ++ score) ++ comma) ++ number) ++ (list_end ++ back)
+hit_regrouped old front colon comma list list_end back name id name2 score name3 source name4 number = simp (append_assoc, append-nil)
 
 hit_written : (old id score source number : List ℕ)
     → old ++ hit_parts (codes "\"_id\"") id (codes "\"_score\"") score (codes "\"_source\"") source (codes "\"sort\"") number
@@ -75,10 +75,10 @@ page_read : (page : Page) → reply_text (found page) ≡ page_parts (quoted (co
 unfolding reply_text hits_text page_parts
 page_read page = refl
 
-page_regrouped : (old front colon comma list tsil back end name name2 hits name3 total : List ℕ)
-    → old ++ ((front ++ (((name ++ (colon ++ (front ++ (((name2 ++ (colon ++ (list ++ (hits ++ tsil)))) ++ (comma ++ ((name3 ++ (colon ++ total)) ++ []))) ++ back)))) ++ []) ++ back)) ++ end)
-    ≡ ((((old ++ (front ++ (name ++ (colon ++ (front ++ (name2 ++ (colon ++ list))))))) ++ hits) ++ (tsil ++ (comma ++ (name3 ++ colon)))) ++ total) ++ (back ++ (back ++ end))
-page_regrouped old front colon comma list tsil back end name name2 hits name3 total = simp (append_assoc, append-nil)
+page_regrouped : (old front colon comma list list_end back end name name2 hits name3 total : List ℕ)
+    → old ++ ((front ++ (((name ++ (colon ++ (front ++ (((name2 ++ (colon ++ (list ++ (hits ++ list_end)))) ++ (comma ++ ((name3 ++ (colon ++ total)) ++ []))) ++ back)))) ++ []) ++ back)) ++ end)
+    ≡ ((((old ++ (front ++ (name ++ (colon ++ (front ++ (name2 ++ (colon ++ list))))))) ++ hits) ++ (list_end ++ (comma ++ (name3 ++ colon)))) ++ total) ++ (back ++ (back ++ end))
+page_regrouped old front colon comma list list_end back end name name2 hits name3 total = simp (append_assoc, append-nil)
 
 page_written : (old hits total : List ℕ)
     → old ++ page_parts (codes "\"hits\"") (codes "\"hits\"") hits (codes "\"total\"") total
@@ -126,7 +126,7 @@ pub rest_step : (done new all : List ℕ) (score left next : ℕ) (e : ℕ × St
 rest_step done new all score left next e entries rest at_e is small wrote inv =
     let more : rest_text score (next + 1) (e ∷ rest) ≡ comma_if (nat_lt (next + 1) 10) ++ (hit_text (scored score (tree_at e)) ++ rest_text score next rest) = rest_more score next e rest (omega arith) in
     let apart : ((done ++ comma_if (nat_lt left 10)) ++ hit_text (scored score (tree_at e))) ++ rest_text score next rest ≡ done ++ (comma_if (nat_lt left 10) ++ (hit_text (scored score (tree_at e)) ++ rest_text score next rest)) =
-        simp append_assoc in
+    simp append_assoc in
     cc (rw is at inv)
 
 -- all that there are on the page

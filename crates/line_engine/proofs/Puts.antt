@@ -32,7 +32,7 @@ other_id id tree apart = false_from_ne_true (has_id id tree) (λ e. apart (same_
 -- ---- looking a number up
 
 -- what isn't found isn't there
-pub without_none : (id : List ℕ) (trees : List Tree) → number_of id trees ≡ None → without id trees ≡ trees
+without_none : (id : List ℕ) (trees : List Tree) → number_of id trees ≡ None → without id trees ≡ trees
 without_none id [] none = refl
 without_none id (tree ∷ trees) none = step (has_id id tree) (without_none id trees) none
   where
@@ -68,22 +68,22 @@ above : (n m : ℕ) → m < n → nat_cmp n m ≡ Greater
 above n m h = grind (arith, nat_tests)
 
 -- a number above all others goes to the end
-pub put_last : (n : ℕ) (stored : Stored) (entries : List (ℕ × Stored)) → AreBelow n (trees_of entries) → insert_entry nat_cmp entries n stored ≡ entries ++ (n, stored) ∷ []
+put_last : (n : ℕ) (stored : Stored) (entries : List (ℕ × Stored)) → AreBelow n (trees_of entries) → insert_entry nat_cmp entries n stored ≡ entries ++ (n, stored) ∷ []
 put_last n stored [] below = refl
 put_last n stored (entry ∷ entries) below =
     let greater : nat_cmp n entry.0 ≡ Greater = above n entry.0 below.0 in
     rw greater (ap (λ (rest : List (ℕ × Stored)). entry ∷ rest) (put_last n stored entries below.1))
 
 -- and is taken out again
-pub taken_back : (n : ℕ) (stored : Stored) (entries : List (ℕ × Stored)) → AreBelow n (trees_of entries) → remove_entry (is_at (nat_cmp n)) (entries ++ (n, stored) ∷ []) ≡ entries
+taken_back : (n : ℕ) (stored : Stored) (entries : List (ℕ × Stored)) → AreBelow n (trees_of entries) → remove_entry (is_at (nat_cmp n)) (entries ++ (n, stored) ∷ []) ≡ entries
 taken_back n stored [] below = rw (at_itself n) refl
 taken_back n stored (entry ∷ entries) below = rw (not_at n entry.0 below.0) (ap (λ (rest : List (ℕ × Stored)). entry ∷ rest) (taken_back n stored entries below.1))
 
-pub trees_more : (entries : List (ℕ × Stored)) (entry : ℕ × Stored) → trees_of (entries ++ entry ∷ []) ≡ trees_of entries ++ tree_at entry ∷ []
+trees_more : (entries : List (ℕ × Stored)) (entry : ℕ × Stored) → trees_of (entries ++ entry ∷ []) ≡ trees_of entries ++ tree_at entry ∷ []
 trees_more entries entry = map-append tree_at entries (entry ∷ [])
 
 -- the tree with an id is taken out by its number
-pub taken_out : (id : List ℕ) (n : ℕ) (entries : List (ℕ × Stored)) (last : ℕ × Stored) → IsLiveList (trees_of entries) → number_of id (trees_of entries) ≡ Some n
+taken_out : (id : List ℕ) (n : ℕ) (entries : List (ℕ × Stored)) (last : ℕ × Stored) → IsLiveList (trees_of entries) → number_of id (trees_of entries) ≡ Some n
     → trees_of (remove_entry (is_at (nat_cmp n)) (entries ++ last ∷ [])) ≡ without id (trees_of entries) ++ tree_at last ∷ []
 taken_out id n [] last live found = absurd (none_or_some n found)
 taken_out id n (entry ∷ entries) last live found = step (has_id id (tree_at entry)) refl (taken_out id n entries last live.1) found
@@ -112,7 +112,7 @@ first_put first tree (later ∷ trees) comes below apart = step (has_id tree.id 
     step true more = more
     step false more = (comes.0, more)
 
-pub live_put : (tree : Tree) (trees : List Tree) → IsLiveList trees → AreBelow tree.number trees → IsLiveList (with_put tree trees)
+live_put : (tree : Tree) (trees : List Tree) → IsLiveList trees → AreBelow tree.number trees → IsLiveList (with_put tree trees)
 live_put tree [] live below = (tt, tt)
 live_put tree (first ∷ trees) live below = step (has_id tree.id first) refl (live_put tree trees live.1 below.1)
   where
@@ -123,7 +123,7 @@ live_put tree (first ∷ trees) live below = step (has_id tree.id first) refl (l
         (first_put first tree trees live.0 below.0 apart, more)
 
 -- the tree that was put is found by its id, and the others as before
-pub number_put : (id : List ℕ) (tree : Tree) (trees : List Tree) → number_of id (with_put tree trees) ≡ cond (bytes_eq tree.id id) (Some tree.number) (number_of id trees)
+number_put : (id : List ℕ) (tree : Tree) (trees : List Tree) → number_of id (with_put tree trees) ≡ cond (bytes_eq tree.id id) (Some tree.number) (number_of id trees)
 number_put id tree [] = refl
 number_put id tree (first ∷ trees) = step (has_id tree.id first) (has_id id first) (has_id id tree) refl refl refl (number_put id tree trees)
   where
@@ -154,7 +154,7 @@ pub indexed_same : (trees trees' : BTreeMap ℕ Stored) (numbers numbers' : BTre
 indexed_same trees trees' numbers numbers' e f is = record { live = rw e is.live; found = λ id. rw (e, f) (is.found id) }
 
 -- the number that was kept under a key is that of the tree with this id
-pub number_kept : (trees : BTreeMap ℕ Stored) (numbers : BTreeMap (String Global) ℕ) (key id : List ℕ) (old : Option ℕ) → IsIndexed trees numbers → key ≡ id → get_by_text numbers key ≡ old
+number_kept : (trees : BTreeMap ℕ Stored) (numbers : BTreeMap (String Global) ℕ) (key id : List ℕ) (old : Option ℕ) → IsIndexed trees numbers → key ≡ id → get_by_text numbers key ≡ old
     → number_of id (trees_of trees.entries) ≡ old
 number_kept trees numbers key id old is same kept = sym (is.found id) ∙ (ap (λ (bytes : List ℕ). get_by_text numbers bytes) (sym same) ∙ kept)
 
@@ -163,28 +163,37 @@ pub indexed_put : (trees trees' : BTreeMap ℕ Stored) (numbers numbers' : BTree
     → trees_of trees'.entries ≡ with_put tree (trees_of trees.entries) → key ≡ tree.id
     → ((id : List ℕ) → get_by_text numbers' id ≡ cond (bytes_eq key id) (Some tree.number) (get_by_text numbers id)) → IsIndexed trees' numbers'
 indexed_put trees trees' numbers numbers' tree key is below put same look = record {
-    live = subst (λ (now : List Tree). IsLiveList now) (sym put) (live_put tree (trees_of trees.entries) is.live below);
-    found = λ id. look id ∙ (ap (λ (bytes : List ℕ). cond (bytes_eq bytes id) (Some tree.number) (get_by_text numbers id)) same
-        ∙ (ap (λ (found : Option ℕ). cond (bytes_eq tree.id id) (Some tree.number) found) (is.found id)
-        ∙ (sym (number_put id tree (trees_of trees.entries)) ∙ ap (λ (now : List Tree). number_of id now) (sym put))))
-  }
+  live = subst (λ (now : List Tree). IsLiveList now) (sym put) (live_put tree (trees_of trees.entries) is.live below);
+  found = λ id. look id ∙ (ap (λ (bytes : List ℕ). cond (bytes_eq bytes id) (Some tree.number) (get_by_text numbers id)) same
+      ∙ (ap (λ (found : Option ℕ). cond (bytes_eq tree.id id) (Some tree.number) found) (is.found id)
+      ∙ (sym (number_put id tree (trees_of trees.entries)) ∙ ap (λ (now : List Tree). number_of id now) (sym put))));
+}
 
--- ---- the steps on the map of trees, where it is as `insert` and `remove` say
+-- ---- the steps on the map of trees, which is as `insert` and `remove` say
 
-pub grown : (n : ℕ) (stored : Stored) (old now : List (ℕ × Stored)) → AreBelow n (trees_of old) → now ≡ insert_entry nat_cmp old n stored → now ≡ old ++ (n, stored) ∷ []
+grown : (n : ℕ) (stored : Stored) (old now : List (ℕ × Stored)) → AreBelow n (trees_of old) → now ≡ insert_entry nat_cmp old n stored → now ≡ old ++ (n, stored) ∷ []
 grown n stored old now below put = put ∙ put_last n stored old below
 
-pub back : (n : ℕ) (stored : Stored) (old mid now : List (ℕ × Stored)) → AreBelow n (trees_of old) → mid ≡ insert_entry nat_cmp old n stored → now ≡ remove_entry (is_at (nat_cmp n)) mid → now ≡ old
-back n stored old mid now below put took = took ∙ (ap (λ (entries : List (ℕ × Stored)). remove_entry (is_at (nat_cmp n)) entries) (grown n stored old mid below put) ∙ taken_back n stored old below)
+-- a tree that was put and taken out
+pub as_before : (n : ℕ) (stored : Stored) (old mid now : List (ℕ × Stored)) → AreBelow n (trees_of old) → mid ≡ insert_entry nat_cmp old n stored → now ≡ remove_entry (is_at (nat_cmp n)) mid → now ≡ old
+as_before n stored old mid now below put took =
+    took ∙ ap (λ (entries : List (ℕ × Stored)). remove_entry (is_at (nat_cmp n)) entries) (grown n stored old mid below put) ∙ taken_back n stored old below
 
-pub put_new : (n : ℕ) (stored : Stored) (old now : List (ℕ × Stored)) → AreBelow n (trees_of old) → now ≡ insert_entry nat_cmp old n stored → number_of stored.id (trees_of old) ≡ None
-    → trees_of now ≡ with_put (tree_at (n, stored)) (trees_of old)
-put_new n stored old now below put none =
-    ap (λ (entries : List (ℕ × Stored)). trees_of entries) (grown n stored old now below put)
-    ∙ (trees_more old (n, stored) ∙ ap (λ (kept : List Tree). kept ++ tree_at (n, stored) ∷ []) (sym (without_none stored.id (trees_of old) none)))
+-- a tree whose id is new
+pub put_new : {trees : BTreeMap ℕ Stored} {numbers : BTreeMap (String Global) ℕ} (n : ℕ) (stored : Stored) (key : List ℕ) (now : List (ℕ × Stored))
+    → IsIndexed trees numbers → AreBelow n (trees_of trees.entries) → key ≡ stored.id → None ≡ get_by_text numbers key → now ≡ insert_entry nat_cmp trees.entries n stored
+    → trees_of now ≡ with_put (tree_at (n, stored)) (trees_of trees.entries)
+put_new {trees} {numbers} n stored key now is below same kept put =
+    let none : number_of stored.id (trees_of trees.entries) ≡ None = number_kept trees numbers key stored.id None is same (sym kept) in
+    ap trees_of (grown n stored trees.entries now below put)
+    ∙ trees_more trees.entries (n, stored)
+    ∙ ap (λ (rest : List Tree). rest ++ tree_at (n, stored) ∷ []) (sym (without_none stored.id (trees_of trees.entries) none))
 
-pub put_over : (n m : ℕ) (stored : Stored) (old mid now : List (ℕ × Stored)) → IsLiveList (trees_of old) → AreBelow n (trees_of old) → mid ≡ insert_entry nat_cmp old n stored → number_of stored.id (trees_of old) ≡ Some m
-    → now ≡ remove_entry (is_at (nat_cmp m)) mid → trees_of now ≡ with_put (tree_at (n, stored)) (trees_of old)
-put_over n m stored old mid now live below put found took =
-    ap (λ (entries : List (ℕ × Stored)). trees_of entries) (took ∙ ap (λ (entries : List (ℕ × Stored)). remove_entry (is_at (nat_cmp m)) entries) (grown n stored old mid below put))
-    ∙ taken_out stored.id m old (n, stored) live found
+-- a tree whose id another one has, under the number m
+pub put_over : {trees : BTreeMap ℕ Stored} {numbers : BTreeMap (String Global) ℕ} (n m : ℕ) (stored : Stored) (key : List ℕ) (mid now : List (ℕ × Stored))
+    → IsIndexed trees numbers → AreBelow n (trees_of trees.entries) → key ≡ stored.id → Some m ≡ get_by_text numbers key → mid ≡ insert_entry nat_cmp trees.entries n stored
+    → now ≡ remove_entry (is_at (nat_cmp m)) mid → trees_of now ≡ with_put (tree_at (n, stored)) (trees_of trees.entries)
+put_over {trees} {numbers} n m stored key mid now is below same kept put took =
+    let found : number_of stored.id (trees_of trees.entries) ≡ Some m = number_kept trees numbers key stored.id (Some m) is same (sym kept) in
+    ap trees_of (took ∙ ap (λ (entries : List (ℕ × Stored)). remove_entry (is_at (nat_cmp m)) entries) (grown n stored trees.entries mid below put))
+    ∙ taken_out stored.id m trees.entries (n, stored) is.live found

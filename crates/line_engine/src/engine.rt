@@ -53,9 +53,9 @@ impl Model for Engine {
     ghost coded = { engine_code };
 
     ghost view = { λ engine. record {
-        limits = engine.limits;
-        state = record { live = engine.live; next = engine.next };
-        calls = engine.calls
+      limits = engine.limits;
+      state = record { live = engine.live; next = engine.next };
+      calls = engine.calls;
     } };
 
     ghost invariant = { λ engine. (engine.next ≤ engine.calls) × AreBelow engine.next engine.live };
@@ -150,12 +150,7 @@ impl Engine {
     }
 
     // The reply is written first, so that want of memory leaves the trees as they were.
-    fn index(
-        &mut self,
-        id: JsonText,
-        source: Json,
-        out: &mut OutText,
-    ) -> Result<(), NoMemory>
+    fn index(&mut self, id: JsonText, source: Json, out: &mut OutText) -> Result<(), NoMemory>
         requires room { self.old.state.next < 2 ^ 50 }
         requires calls { self.old.state.next < self.old.calls }
         ensures ok { OnOk result (out.new.bytes ≡ out.old.bytes ++ reply_text (put_step id (view source) self.old.state).reply) }

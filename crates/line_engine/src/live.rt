@@ -78,12 +78,7 @@ impl LiveTrees {
     }
 
     /// Puts a tree with the next number in place of the one with its id, or as a new one.
-    pub(crate) fn put(
-        &mut self,
-        number: u64,
-        id: JsonText,
-        source: Json,
-    ) -> Result<(), NoMemory>
+    pub(crate) fn put(&mut self, number: u64, id: JsonText, source: Json) -> Result<(), NoMemory>
         requires { AreBelow number self.old }
         ensures ok { OnOk result (self.new ≡ with_put (new_tree id (view source) number) self.old) }
         ensures err { OnErr result (self.new ≡ self.old) }

@@ -69,12 +69,7 @@ pub(crate) fn write_hits(
     Ok(())
 }
 
-fn write_hit(
-    number: u64,
-    stored: &Stored,
-    score: u32,
-    out: &mut OutText,
-) -> Result<(), NoMemory>
+fn write_hit(number: u64, stored: &Stored, score: u32, out: &mut OutText) -> Result<(), NoMemory>
     ensures ok { OnOk result (out.new.bytes ≡ out.old.bytes ++ hit_text (scored score (tree_at (number, stored.now)))) }
     ensures room { room_of out.old ≤ room_of out.new }
 {

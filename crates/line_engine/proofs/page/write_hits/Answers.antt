@@ -12,15 +12,19 @@ hits-preserved c =
     let was : left ≡ next + 1 = omega arith in
     let small : left ≤ 10 = c.hits.invariant.2 in
     let comma : c.if-left-lt-PAGE.out.bytes ≡ c.hits.out.bytes ++ comma_if (nat_lt left 10) = elim c.if-left-lt-PAGE.branch [
-        then-left-lt-PAGE+in_ok-push w ↦ cc (w.out-is, w.in_ok-push.ensures.bytes, comma_if-yes left w.if-left-lt-PAGE.true)
+      | then-left-lt-PAGE+in_ok-push w ↦ cc (w.out-is, w.in_ok-push.ensures.bytes, comma_if-yes left w.if-left-lt-PAGE.true)
       | else-left-lt-PAGE w ↦ cc (w.out-is, comma_if-no left w.if-left-lt-PAGE.false, append-nil c.hits.out.bytes)
     ] in
     let room : room_of c.hits.out ≤ room_of c.if-left-lt-PAGE.out = elim c.if-left-lt-PAGE.branch [
-        then-left-lt-PAGE+in_ok-push w ↦ rw w.out-is w.in_ok-push.ensures.room
+      | then-left-lt-PAGE+in_ok-push w ↦ rw w.out-is w.in_ok-push.ensures.room
       | else-left-lt-PAGE w ↦ rw w.out-is (omega arith)
-    ] in
-    (tt, tt, omega arith, omega (arith, c.in_ok-write_hit.ensures.room),
-        rest_step c.hits.out.bytes c.write_hit.new.out.bytes _ c.args.score left next _ c.hits.number-iterator c.next.new.self c.in-Some.ensures.steps was small (cc (comma, c.in_ok-write_hit.ensures.ok)) c.hits.invariant.4)
+    ] in (
+      tt,
+      tt,
+      omega arith,
+      omega (arith, c.in_ok-write_hit.ensures.room),
+      rest_step c.hits.out.bytes c.write_hit.new.out.bytes _ c.args.score left next _ c.hits.number-iterator c.next.new.self c.in-Some.ensures.steps was small (cc (comma, c.in_ok-write_hit.ensures.ok)) c.hits.invariant.4,
+    )
 
 pub returns-in-None-clause-ok : goal.returns-in-None-clause-ok
 returns-in-None-clause-ok c =
