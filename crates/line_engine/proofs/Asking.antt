@@ -7,9 +7,10 @@ use Rattle.line_engine.specs.Line.{Line, longest_line, kept, is_long}
 use Rattle.line_engine.specs.Request.{ReadLine, in_full, too_long, SourceLine, not_taken, missing, given, Request, takes_source, read_of, alone, with_source, without_source, grouped, grouped_with, requests, whole_requests}
 use Rattle.line_engine.specs.Seen.{InputState, LineState}
 use Rattle.line_engine.specs.LineIn.{line_in}
-use Rattle.line_engine.specs.Fetch.{Uses, UsesAll, HasEnded, Holds, spoken, IsSpoken, IsUnfinished, IsRequest, SpeaksLine, SpeaksLast, SpeaksNone, SpeaksPast, SpeaksPart, AsksWhole, AsksLast, AsksNone, AsksPast, AsksPart, SourceRead, RequestRead}
-use Rattle.line_engine.specs.declared.fetch.Asked.{Asked}
-use Rattle.line_engine.specs.declared.fetch.Asked.TheVariants.{Alone, WithSource, WithoutSource, End, Limit, Fault}
+use Rattle.line_engine.specs.Fetch.{Uses, UsesAll, HasEnded, Holds, spoken, IsSpoken, IsUnfinished, IsRequest, SpeaksLine, SpeaksLast, SpeaksNone, SpeaksPast, SpeaksPart, AsksWhole, AsksLast, AsksNone, AsksPast, AsksPart, SourceRead, NextRead}
+use Rattle.line_engine.specs.declared.fetch.Asked.TheVariants.{Alone, WithSource, WithoutSource}
+use Rattle.line_engine.specs.declared.fetch.Next.{Next}
+use Rattle.line_engine.specs.declared.fetch.Next.TheVariants.{Request as NextRequest, End, Limit, Fault}
 use Rattle.line_engine.proofs.Uses.{uses_both, uses_both_all}
 use Rattle.line_engine.proofs.Speaking.{ended_line, last_line}
 
@@ -215,12 +216,12 @@ asks_part_source old mid new left left' left'' line speaks some then = record {
   }
 
 -- a request whose first line takes a source, by what came of reading that
-pub asks_source : (asked : Asked) (old mid new : InputState) (left left' left'' : Option (List ℕ)) (line next : LineState) → SpeaksLine old mid left left' line → takes_source line.kept ≡ true →
-    SourceRead asked mid new left' left'' next → RequestRead asked old new left left'' line next
-asks_source Alone old mid new left left' left'' line next speaks some then = absurd then
-asks_source WithSource old mid new left left' left'' line next speaks some then =
+pub asks_source : (next_is : Next) (old mid new : InputState) (left left' left'' : Option (List ℕ)) (line next : LineState) → SpeaksLine old mid left left' line → takes_source line.kept ≡ true →
+    SourceRead next_is mid new left' left'' next → NextRead next_is old new left left'' line next
+asks_source (NextRequest Alone) old mid new left left' left'' line next speaks some then = absurd then
+asks_source (NextRequest WithSource) old mid new left left' left'' line next speaks some then =
     elim then [ inl it ↦ inl (asks_both old mid new left left' left'' line next speaks some it) | inr it ↦ inr (asks_both_last old mid new left left' left'' line next speaks some it) ]
-asks_source WithoutSource old mid new left left' left'' line next speaks some then = asks_missing old mid new left left' left'' line speaks some then
+asks_source (NextRequest WithoutSource) old mid new left left' left'' line next speaks some then = asks_missing old mid new left left' left'' line speaks some then
 asks_source End old mid new left left' left'' line next speaks some then = absurd then
 asks_source Limit old mid new left left' left'' line next speaks some then = asks_past_source old mid left left' left'' line speaks some then
 asks_source Fault old mid new left left' left'' line next speaks some then = asks_part_source old mid new left left' left'' line speaks some then

@@ -1,5 +1,5 @@
 -- A session, request after request.
-use Rattle.std.proofs.Common.{◌≡◌, ℕ, ◌+◌, ◌≤◌, ◌<◌, ◌⊎◌, Bool, true, false, List, [], ◌∷◌, ◌++◌, length, filter, codes, Option, Some, None, refl, sym, ap, subst, inl, inr, ◌∙◌, append_assoc, arith, length-append}
+use Rattle.std.proofs.Common.{◌≡◌, ℕ, ◌+◌, ◌≤◌, ◌<◌, ◌⊎◌, Bool, true, false, IsTrue, List, [], ◌∷◌, ◌++◌, length, filter, codes, Option, Some, None, IfNone, IfSome, refl, sym, ap, subst, inl, inr, ◌∙◌, append_assoc, arith, length-append}
 use Rattle.std.proofs.lemmas.Grind.{common_steps}
 use Rattle.std.proofs.lemmas.List.{append-nil}
 use Rattle.std.specs.List.{AllByRecursion}
@@ -9,13 +9,18 @@ use Rattle.tree_json.specs.Text.{quoted}
 use Rattle.line_engine.specs.Line.{newline}
 use Rattle.line_engine.specs.Request.{ReadLine, SourceLine, Request, requests, whole_requests}
 use Rattle.line_engine.specs.Reply.{Reply, reply_text, out_of_memory}
-use Rattle.line_engine.specs.Machine.{State, step}
-use Rattle.line_engine.specs.Run.{MayStep, MayRun, IsFront, AnswersAll, AnswersRead, AnswersWithin, AnswersFront}
-use Rattle.line_engine.specs.Seen.{InputState, EngineState}
-use Rattle.line_engine.specs.Fetch.{Uses, UsesAll, HasEnded, AsksWhole, AsksLast, AsksNone, AsksPast, AsksPart, Asks, ahead}
-use Rattle.line_engine.specs.Served.{Served, Replies, RepliesPart, TakesFront}
+use Rattle.line_engine.specs.Machine.{State, empty_state, step}
+use Rattle.line_engine.specs.Run.{MayStep, MayRun, IsFront, AnswersAll, AnswersRead, AnswersWithin, AnswersFront, Serves}
+use Rattle.line_engine.specs.Seen.{InputState, LineState, EngineState}
+use Rattle.line_engine.specs.Fetch.{Uses, UsesAll, HasEnded, AsksWhole, AsksLast, AsksNone, AsksPast, AsksPart, Asks, RequestRead, source_asked, ahead}
+use Rattle.line_engine.specs.LineIn.{line_in}
+use Rattle.line_engine.specs.declared.fetch.Asked.{Asked}
+use Rattle.line_engine.specs.declared.fetch.Asked.TheVariants.{Alone, WithSource, WithoutSource}
+use Rattle.line_engine.specs.declared.status.Status.{Status}
+use Rattle.line_engine.specs.declared.status.Status.TheVariants.{Done, BadWords, ReadFault, WriteFault, DiskFault, NotAStore, Damaged, SessionLimit, NoMemory}
+use Rattle.line_engine.specs.Served.{Served, Replies, RepliesPart, IsNext, IsLast, TakesFront, request_in}
 use Rattle.line_engine.specs.declared.limits.Limits.{Limits}
-use Rattle.line_engine.proofs.Uses.{consumes_none, consumes_more}
+use Rattle.line_engine.proofs.Uses.{consumes_none, consumes_more, uses_ahead}
 use Rattle.line_engine.proofs.Writing.{appends_none, appends_more}
 
 pub out_of_memory_text : codes "{\"error\":{\"reason\":\"out_of_memory\"}}\n" ≡ reply_text out_of_memory
@@ -227,3 +232,82 @@ served_last_front limits start left l l' taken t t' input input' engine engine' 
         (step_of limits engine.state engine'.state first source true false replies.reply
           (subst (λ (given : Limits). MayStep given engine.state (record { first = first; source = source; ended = true }) replies.reply engine'.state) served.within replies.may))
     }
+
+-- ## by the kind of request
+
+-- a request that the input ends is known by that
+went_on : (input input' : InputState) (l l' : Option (List ℕ)) (first : ReadLine) (source : SourceLine) → input'.ended ≡ false → Asks input input' l l' first source → AsksWhole input input' l l' first source
+went_on input input' l l' first source going asks =
+    elim asks [ inl whole ↦ whole | inr last ↦ absurd (let both : true ≡ false = sym last.ended.ended ∙ going in cc) ]
+
+ended_with : (input input' : InputState) (l l' : Option (List ℕ)) (first : ReadLine) (source : SourceLine) → input.ended ≡ false → IsTrue input'.ended → Asks input input' l l' first source → AsksLast input input' l l' first source
+ended_with input input' l l' first source going ended asks =
+    elim asks [ inl whole ↦ absurd (let both : true ≡ false = sym ended ∙ (whole.going ∙ going) in cc) | inr last ↦ last ]
+
+asks_of : (asked : Asked) (input input' : InputState) (l l' : Option (List ℕ)) (first second : LineState) → RequestRead asked input input' l l' first second → Asks input input' l l' (line_in first) (source_asked asked second)
+asks_of Alone input input' l l' first second read = read
+asks_of WithSource input input' l l' first second read = read
+asks_of WithoutSource input input' l l' first second read = inr read
+
+pub served_on : (asked : Asked) (first second : LineState) (limits : Limits) (start : State) (left l l' taken t t' : Option (List ℕ)) (input input' : InputState) (engine engine' : EngineState) →
+    RequestRead asked input input' l l' first second → IsNext input' engine engine' (request_in asked first second) t t' → engine'.limits ≡ engine.limits → engine'.calls ≡ engine.calls + 1 →
+    Served limits start left l taken t input engine → Served limits start left l' taken t' input' engine'
+served_on asked first second limits start left l l' taken t t' input input' engine engine' read next same calls served =
+    served_next limits start left l l' taken t t' input input' engine engine' (line_in first) (source_asked asked second) served
+      (went_on input input' l l' (line_in first) (source_asked asked second) next.going (asks_of asked input input' l l' first second read)) next.replies same calls
+
+pub served_out : (status : Status) (asked : Asked) (first second : LineState) (limits : Limits) (start : State) (left l l' taken t t' : Option (List ℕ)) (input input' : InputState) (engine engine' : EngineState) →
+    RequestRead asked input input' l l' first second → IsLast status input' engine engine' (request_in asked first second) t t' →
+    Served limits start left l taken t input engine → Serves status limits start left l' taken t'
+served_out Done asked first second limits start left l l' taken t t' input input' engine engine' read last served =
+    served_last limits start left l l' taken t t' input input' engine engine' (line_in first) (source_asked asked second) served
+      (ended_with input input' l l' (line_in first) (source_asked asked second) served.going last.0 (asks_of asked input input' l l' first second read)) last.1
+served_out WriteFault asked first second limits start left l l' taken t t' input input' engine engine' read last served =
+    elim (asks_of asked input input' l l' first second read) [
+      inl whole ↦ served_front limits start left l l' taken t t' input input' engine engine' (line_in first) (source_asked asked second) served whole last
+    | inr ends ↦ served_last_front limits start left l l' taken t t' input input' engine engine' (line_in first) (source_asked asked second) served ends last ]
+served_out BadWords asked first second limits start left l l' taken t t' input input' engine engine' read last served = absurd last
+served_out ReadFault asked first second limits start left l l' taken t t' input input' engine engine' read last served = absurd last
+served_out DiskFault asked first second limits start left l l' taken t t' input input' engine engine' read last served = absurd last
+served_out NotAStore asked first second limits start left l l' taken t t' input input' engine engine' read last served = absurd last
+served_out Damaged asked first second limits start left l l' taken t t' input input' engine engine' read last served = absurd last
+served_out SessionLimit asked first second limits start left l l' taken t t' input input' engine engine' read last served = absurd last
+served_out NoMemory asked first second limits start left l l' taken t t' input input' engine engine' read last served = absurd last
+
+-- at the start nothing is read, and nothing answered
+pub served_start : (limits : Limits) (left taken : Option (List ℕ)) (input : InputState) (engine : EngineState) →
+    input ≡ record { unread = []; allowance = limits.session_bytes; ended = false } → engine ≡ record { limits = limits; state = empty_state; calls = 0 } →
+    Served limits empty_state left left taken taken input engine
+served_start limits left taken input engine fresh new = record {
+    read = [];
+    used = [];
+    answered = [];
+    out = [];
+    consumed = consumes_none left;
+    parts = sym (ap (λ (it : InputState). it.unread) fresh);
+    allowance = omega (arith, ap (λ (it : InputState). it.allowance) fresh);
+    going = ap (λ (it : InputState). it.ended) fresh;
+    asks = λ after. refl;
+    whole = tt;
+    written = appends_none taken;
+    run = (refl, ap (λ (it : EngineState). it.state) new);
+    within = ap (λ (it : EngineState). it.limits) new;
+    calls = omega (arith, ap (λ (it : EngineState). it.calls) new)
+  }
+
+-- one request takes at least one byte
+pub asks_ahead : (asked : Asked) (input input' : InputState) (l l' : Option (List ℕ)) (first second : LineState) → RequestRead asked input input' l l' first second → ahead input' < ahead input
+asks_ahead asked input input' l l' first second read =
+    elim (asks_of asked input input' l l' first second read) [
+      inl whole ↦ omega (arith, uses_ahead input input' l l' whole.used whole.uses, whole.some)
+    | inr last ↦ omega (arith, uses_ahead input input' l l' last.used last.uses, last.some) ]
+
+-- ## facts of one variant, and what follows
+
+pub if_none_then : {T : Type 0} {P Q : Type 0} → (r : Option T) → (P → Q) → IfNone r P → IfNone r Q
+if_none_then None follows p = follows p
+if_none_then (Some x) follows p = tt
+
+pub if_some_then : {T : Type 0} {P Q : T → Type 0} → (r : Option T) → ((x : T) → P x → Q x) → IfSome r P → IfSome r Q
+if_some_then None follows p = tt
+if_some_then (Some x) follows p = follows x p

@@ -9,7 +9,9 @@ use Rattle.line_engine.specs.LineIn.{line_in}
 use Rattle.line_engine.specs.declared.fetch.Fetched.{Fetched}
 use Rattle.line_engine.specs.declared.fetch.Fetched.TheVariants as Line
 use Rattle.line_engine.specs.declared.fetch.Asked.{Asked}
-use Rattle.line_engine.specs.declared.fetch.Asked.TheVariants as Asked
+use Rattle.line_engine.specs.declared.fetch.Asked.TheVariants.{Alone, WithSource, WithoutSource}
+use Rattle.line_engine.specs.declared.fetch.Next.{Next}
+use Rattle.line_engine.specs.declared.fetch.Next.TheVariants as Next
 
 -- These bytes were used up: they and what is unread now are what was unread before and what the source gave.
 pub record Uses (old new : InputState) (left left' : Option (List ℕ)) (used : List ℕ) : Type 0 where
@@ -186,21 +188,24 @@ abbrev pub Asks : InputState → InputState → Option (List ℕ) → Option (Li
 Asks old new left left' first source = AsksWhole old new left left' first source ⊎ AsksLast old new left left' first source
 
 abbrev pub RequestRead : Asked → InputState → InputState → Option (List ℕ) → Option (List ℕ) → LineState → LineState → Type 0
-RequestRead Asked.Alone old new left left' first second = Asks old new left left' (line_in first) not_taken
-RequestRead Asked.WithSource old new left left' first second = Asks old new left left' (line_in first) (given (line_in second))
-RequestRead Asked.WithoutSource old new left left' first second = AsksLast old new left left' (line_in first) missing
-RequestRead Asked.End old new left left' first second = AsksNone old new left left'
-RequestRead Asked.Limit old new left left' first second = AsksPast old left left'
-RequestRead Asked.Fault old new left left' first second = AsksPart old new left left'
+RequestRead Alone old new left left' first second = Asks old new left left' (line_in first) not_taken
+RequestRead WithSource old new left left' first second = Asks old new left left' (line_in first) (given (line_in second))
+RequestRead WithoutSource old new left left' first second = AsksLast old new left left' (line_in first) missing
+
+abbrev pub NextRead : Next → InputState → InputState → Option (List ℕ) → Option (List ℕ) → LineState → LineState → Type 0
+NextRead (Next.Request asked) old new left left' first second = RequestRead asked old new left left' first second
+NextRead Next.End old new left left' first second = AsksNone old new left left'
+NextRead Next.Limit old new left left' first second = AsksPast old left left'
+NextRead Next.Fault old new left left' first second = AsksPart old new left left'
 
 -- the line behind one that takes it as its source line
-abbrev pub SourceRead : Asked → InputState → InputState → Option (List ℕ) → Option (List ℕ) → LineState → Type 0
-SourceRead Asked.Alone old new left left' second = ⊥
-SourceRead Asked.WithSource old new left left' second = SpeaksLine old new left left' second ⊎ SpeaksLast old new left left' second
-SourceRead Asked.WithoutSource old new left left' second = SpeaksNone old new left left'
-SourceRead Asked.End old new left left' second = ⊥
-SourceRead Asked.Limit old new left left' second = SpeaksPast old left left'
-SourceRead Asked.Fault old new left left' second = SpeaksPart old new left left'
+abbrev pub SourceRead : Next → InputState → InputState → Option (List ℕ) → Option (List ℕ) → LineState → Type 0
+SourceRead (Next.Request Alone) old new left left' second = ⊥
+SourceRead (Next.Request WithSource) old new left left' second = SpeaksLine old new left left' second ⊎ SpeaksLast old new left left' second
+SourceRead (Next.Request WithoutSource) old new left left' second = SpeaksNone old new left left'
+SourceRead Next.End old new left left' second = ⊥
+SourceRead Next.Limit old new left left' second = SpeaksPast old left left'
+SourceRead Next.Fault old new left left' second = SpeaksPart old new left left'
 
 -- how many bytes may still be used
 abbrev pub ahead : InputState → ℕ
@@ -208,6 +213,6 @@ ahead input = input.allowance + length input.unread
 
 -- the source line that goes with a request that was read
 abbrev pub source_asked : Asked → LineState → SourceLine
-source_asked Asked.WithSource second = given (line_in second)
-source_asked Asked.WithoutSource second = missing
-source_asked _ second = not_taken
+source_asked WithSource second = given (line_in second)
+source_asked WithoutSource second = missing
+source_asked Alone second = not_taken

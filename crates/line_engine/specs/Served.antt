@@ -1,5 +1,5 @@
 -- A session that goes on: what was read, used, answered and written so far.
-use Rattle.std.specs.Prelude.{◌≡◌, ◌≤◌, ℕ, ◌+◌, false, true, List, ◌++◌, length, Option}
+use Rattle.std.specs.Prelude.{◌≡◌, ◌≤◌, ℕ, ◌+◌, false, true, IsTrue, List, ◌++◌, length, Option}
 use Rattle.std.specs.List.{AllByRecursion}
 use Rattle.std.specs.Io.KnownBytes.{Consumes, Appends}
 use Rattle.line_engine.specs.Request.{Request, requests}
@@ -10,6 +10,8 @@ use Rattle.line_engine.specs.Fetch.{source_asked}
 use Rattle.line_engine.specs.Seen.{InputState, LineState, EngineState}
 use Rattle.line_engine.specs.Reply.{Reply, reply_text, out_of_memory}
 use Rattle.line_engine.specs.declared.fetch.Asked.{Asked}
+use Rattle.line_engine.specs.declared.status.Status.{Status}
+use Rattle.line_engine.specs.declared.status.Status.TheVariants.{Done, WriteFault}
 use Rattle.line_engine.specs.declared.limits.Limits.{Limits}
 use Rattle.line_engine.specs.declared.engine.Answered.{Answered}
 use Rattle.line_engine.specs.declared.engine.Answered.TheVariants.{Written, NoMemory}
@@ -48,6 +50,17 @@ pub record RepliesPart (engine engine' : EngineState) (request : Request) (taken
   pub reply : Reply
   pub may : MayStep engine.limits engine.state request reply engine'.state
   pub part : TakesFront taken taken' (reply_text reply)
+
+-- The request is answered, and the input goes on.
+pub record IsNext (input : InputState) (engine engine' : EngineState) (request : Request) (taken taken' : Option (List ℕ)) : Type 0 where
+  pub going : input.ended ≡ false
+  pub replies : Replies engine engine' request taken taken'
+
+-- It is the last that is answered: the input has ended, or the sink failed.
+abbrev pub IsLast : Status → InputState → EngineState → EngineState → Request → Option (List ℕ) → Option (List ℕ) → Type 0
+IsLast Done input engine engine' request taken taken' = IsTrue input.ended × Replies engine engine' request taken taken'
+IsLast WriteFault input engine engine' request taken taken' = RepliesPart engine engine' request taken taken'
+IsLast _ input engine engine' request taken taken' = ⊥
 
 -- the request that was read into the two buffers
 abbrev pub request_in : Asked → LineState → LineState → Request

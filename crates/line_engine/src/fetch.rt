@@ -5,7 +5,7 @@ ghost use Rattle.std.specs.List.{list_all};
 ghost use Rattle.io_edges.specs.Faults.{Rose};
 ghost use Rattle.line_engine.specs.Input.{KnowsEnd};
 ghost use Rattle.line_engine.specs.Line.{is_blank_byte};
-ghost use Rattle.line_engine.specs.Fetch.{LineRead, LineSpoken, RequestRead, SourceRead, IsCutAt, has_newline};
+ghost use Rattle.line_engine.specs.Fetch.{LineRead, LineSpoken, NextRead, SourceRead, IsCutAt, has_newline};
 
 use crate::input::{Filled, Input};
 use crate::line::{are_blanks, takes_source};
@@ -28,7 +28,7 @@ pub(crate) enum Fetched {
     Fault,
 }
 
-/// What came of reading a request: one with or without a source line, or none.
+/// A request that was read, by its source line.
 #[derive(Clone, Copy, Debug, PartialEq, Eq)]
 pub(crate) enum Asked {
     /// A line that takes no source line.
@@ -37,6 +37,13 @@ pub(crate) enum Asked {
     WithSource,
     /// A line whose source line is missing.
     WithoutSource,
+}
+
+/// What came of reading a request.
+#[derive(Clone, Copy, Debug, PartialEq, Eq)]
+pub(crate) enum Next {
+    /// One stands in the line buffers.
+    Request(Asked),
     /// The input has ended.
     End,
     /// The input goes on beyond the session's limit.
@@ -128,11 +135,11 @@ pub(crate) fn fetch<S: Source>(
     input: &mut Input,
     first: &mut LineBuffer,
     second: &mut LineBuffer,
-) -> Asked
+) -> Next
     requires known { KnowsEnd input.old (S.left source.old) }
-    ensures read { RequestRead result input.old input.new (S.left source.old) (S.left source.new) first.new second.new }
+    ensures read { NextRead result input.old input.new (S.left source.old) (S.left source.new) first.new second.new }
     ensures known { KnowsEnd input.new (S.left source.new) }
-    ensures fault { result ≡ Asked.Fault → Rose (S.faults source.old) (S.faults source.new) }
+    ensures fault { result ≡ Next.Fault → Rose (S.faults source.old) (S.faults source.new) }
     ensures later { S.faults source.old ≤ S.faults source.new }
 {
     match next_line(source, input, first) {
@@ -140,35 +147,35 @@ pub(crate) fn fetch<S: Source>(
             if takes_source(first.kept()) {
                 fetch_source(source, input, second)
             } else {
-                Asked::Alone
+                Next::Request(Asked::Alone)
             }
         }
         Fetched::Last => {
             if takes_source(first.kept()) {
-                Asked::WithoutSource
+                Next::Request(Asked::WithoutSource)
             } else {
-                Asked::Alone
+                Next::Request(Asked::Alone)
             }
         }
-        Fetched::End => Asked::End,
-        Fetched::Limit => Asked::Limit,
-        Fetched::Fault => Asked::Fault,
+        Fetched::End => Next::End,
+        Fetched::Limit => Next::Limit,
+        Fetched::Fault => Next::Fault,
     }
 }
 
 // Reads the line that the first one takes as its source line.
-fn fetch_source<S: Source>(source: &mut S, input: &mut Input, second: &mut LineBuffer) -> Asked
+fn fetch_source<S: Source>(source: &mut S, input: &mut Input, second: &mut LineBuffer) -> Next
     requires known { KnowsEnd input.old (S.left source.old) }
     ensures read { SourceRead result input.old input.new (S.left source.old) (S.left source.new) second.new }
     ensures known { KnowsEnd input.new (S.left source.new) }
-    ensures fault { result ≡ Asked.Fault → Rose (S.faults source.old) (S.faults source.new) }
+    ensures fault { result ≡ Next.Fault → Rose (S.faults source.old) (S.faults source.new) }
     ensures later { S.faults source.old ≤ S.faults source.new }
 {
     match next_line(source, input, second) {
-        Fetched::Line => Asked::WithSource,
-        Fetched::Last => Asked::WithSource,
-        Fetched::End => Asked::WithoutSource,
-        Fetched::Limit => Asked::Limit,
-        Fetched::Fault => Asked::Fault,
+        Fetched::Line => Next::Request(Asked::WithSource),
+        Fetched::Last => Next::Request(Asked::WithSource),
+        Fetched::End => Next::Request(Asked::WithoutSource),
+        Fetched::Limit => Next::Limit,
+        Fetched::Fault => Next::Fault,
     }
 }

@@ -8,13 +8,13 @@ ghost use Rattle.line_engine.specs.Limit.{AreLimits};
 ghost use Rattle.line_engine.specs.Machine.{State, empty_state};
 ghost use Rattle.line_engine.specs.Reply.{reply_text, out_of_memory as out_of_memory_reply};
 ghost use Rattle.line_engine.specs.Run.{Serves, IsCaused};
-ghost use Rattle.line_engine.specs.Served.{Served, Replies, RepliesPart, TakesFront, reply_bytes, request_in};
+ghost use Rattle.line_engine.specs.Served.{Served, Replies, RepliesPart, TakesFront, IsNext, IsLast, reply_bytes, request_in};
 ghost use Rattle.line_engine.specs.declared.limits.Limits.{Limits};
 ghost use Rattle.line_engine.specs.Fetch.{ahead, source_asked};
 ghost use Rattle.line_engine.specs.View.{source_of};
 
 use crate::engine::{Answered, Engine};
-use crate::fetch::{Asked, fetch};
+use crate::fetch::{Asked, Next, fetch};
 use crate::input::Input;
 use crate::limits::Limits;
 use crate::line::SourceLine;
@@ -161,18 +161,37 @@ fn serve_next<S: Source, K: Sink, D: Disk, L: Ledger>(
     ensures sink_later { K.faults sink.old ≤ K.faults sink.new }
     ensures disk { disk.new ≡ disk.old }
 {
-    let asked = fetch(
+    match fetch(
         source,
         &mut session.input,
         &mut session.first,
         &mut session.second,
-    );
-    match asked {
-        Asked::End => return Some(Status::Done),
-        Asked::Limit => return Some(Status::SessionLimit),
-        Asked::Fault => return Some(Status::ReadFault),
-        Asked::Alone | Asked::WithSource | Asked::WithoutSource => {}
+    ) {
+        Next::Request(asked) => serve_asked(session, asked, sink, disk, steps),
+        Next::End => Some(Status::Done),
+        Next::Limit => Some(Status::SessionLimit),
+        Next::Fault => Some(Status::ReadFault),
     }
+}
+
+// Answers the request in the buffers and writes the reply; the status where there is no further request.
+fn serve_asked<K: Sink, D: Disk, L: Ledger>(
+    session: &mut Session,
+    asked: Asked,
+    sink: &mut K,
+    disk: &mut D,
+    steps: &mut Steps<L>,
+) -> Option<Status>
+    requires { session.old.engine.calls < 2 ^ 50 }
+    ensures next { IfNone result (IsNext session.old.input session.old.engine session.new.engine (request_in asked session.old.first session.old.second) (K.taken sink.old) (K.taken sink.new)) }
+    ensures ends { IfSome result (λ status. IsLast status session.old.input session.old.engine session.new.engine (request_in asked session.old.first session.old.second) (K.taken sink.old) (K.taken sink.new)) }
+    ensures cause { IfSome result (λ status. IsCaused status 0 0 (K.faults sink.old) (K.faults sink.new)) }
+    ensures input { session.new.input ≡ session.old.input }
+    ensures limits { session.new.engine.limits ≡ session.old.engine.limits }
+    ensures calls { session.new.engine.calls ≡ session.old.engine.calls + 1 }
+    ensures sink_later { K.faults sink.old ≤ K.faults sink.new }
+    ensures disk { disk.new ≡ disk.old }
+{
     if reply_to(session, asked, sink, disk, steps).is_err() {
         return Some(Status::WriteFault);
     }
@@ -217,7 +236,7 @@ fn source_line(asked: Asked, second: &LineBuffer) -> SourceLine<'_>
     match asked {
         Asked::WithSource => second.as_source(),
         Asked::WithoutSource => SourceLine::Missing,
-        _ => SourceLine::NotTaken,
+        Asked::Alone => SourceLine::NotTaken,
     }
 }
 
