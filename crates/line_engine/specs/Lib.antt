@@ -1,0 +1,16 @@
+pub mod Line
+pub mod Request
+pub mod Action
+pub mod Reply
+pub mod Machine
+pub mod Run
+pub mod Word
+pub mod Limit
+pub mod View
+pub mod Seen
+pub mod Input
+pub mod Live
+pub mod LineIn
+pub mod Fetch
+pub mod Served
+pub mod Read

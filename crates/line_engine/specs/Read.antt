@@ -1,0 +1,31 @@
+-- How the reading of a request is seen.
+use Rattle.std.specs.Prelude.{◌≡◌, ℕ, ⊤, List, Option, Some, None}
+use Rattle.tree_json.specs.Value.{JsonValue, null, bool, whole, text, list, object, Members}
+use Rattle.tree_json.specs.declared.reader.JsonRefusal.{JsonRefusal}
+use Rattle.tree_json.specs.declared.reader.JsonRefusal.TheVariants as Json
+use Rattle.query_ast.specs.View.{search_of}
+use Rattle.line_engine.specs.Action.{Command, index, search, Asked, refused}
+use Rattle.line_engine.specs.declared.refusal.Refusal.TheVariants.{BadJson, FractionNumber}
+use Rattle.line_engine.specs.declared.action.Command as Declared
+use Rattle.line_engine.specs.declared.action.Command.TheVariants.{Index, Search}
+use Rattle.line_engine.specs.declared.action.NoAction.{NoAction}
+use Rattle.line_engine.specs.declared.action.NoAction.TheVariants.{Refused, NoMemory}
+
+abbrev pub command_view : Declared.Command → Command
+command_view (Index id) = index id
+command_view (Search body) = search (search_of body)
+
+abbrev pub no_action_of : JsonRefusal → NoAction
+no_action_of Json.BadJson = Refused BadJson
+no_action_of Json.FractionNumber = Refused FractionNumber
+no_action_of Json.NoMemory = NoMemory
+
+-- where memory didn't run out, the request is refused so
+abbrev pub IsRefused : Asked → NoAction → Type 0
+IsRefused asked (Refused why) = asked ≡ refused why
+IsRefused asked NoMemory = ⊤
+
+-- None is said of what is no object
+abbrev pub IsNoObject : JsonValue → Type 0
+IsNoObject (object ms) = ⊥
+IsNoObject _ = ⊤

@@ -1,0 +1,172 @@
+//! The engine: one request, one reply.
+
+ghost use Rattle.std.specs.Prelude.{◌≡◌, ◌≤◌, ◌<◌, ◌+◌, ◌^◌, ◌++◌, [], OnOk, OnErr, IfOk};
+ghost use Rattle.tree_json.specs.Output.{room_of};
+ghost use Rattle.tree_json.specs.View.{view};
+ghost use Rattle.line_engine.specs.Limit.{AreLimits};
+ghost use Rattle.line_engine.specs.Machine.{empty_state, step, action_step, put_step};
+ghost use Rattle.line_engine.specs.Reply.{reply_text, refusal};
+ghost use Rattle.line_engine.specs.Seen.{action_view};
+ghost use Rattle.line_engine.specs.View.{request_of};
+
+use crate::action::{Action, NoAction, action_of};
+use crate::limits::Limits;
+use crate::line::{FirstLine, SourceLine};
+use crate::live::LiveTrees;
+use crate::page::write_page;
+use crate::refusal::NoMemory;
+use crate::reply::{WriteResult, write_change, write_refusal};
+use io_edges::Disk;
+use query_ast::SearchBody;
+use source_steps::Steps;
+use std::alloc::Global;
+use std::marker::Model;
+use std::sync::ledger::Ledger;
+use tree_json::{Json, JsonText, OutText};
+
+/// The answer to a request.
+#[derive(Clone, Copy, Debug, PartialEq, Eq)]
+pub enum Answered {
+    /// The reply was written.
+    Written,
+    /// There was no memory, and nothing has changed.
+    NoMemory,
+}
+
+/// The index, and what answers requests on it.
+#[derive(Drop)]
+pub struct Engine {
+    alloc: Global,
+    limits: Limits,
+    live: LiveTrees,
+    next: u64,
+    calls: u64,
+}
+
+impl Model for Engine {
+    ghost use Rattle.std.specs.Prelude.{◌≤◌};
+    ghost use Rattle.line_engine.specs.Live.{AreBelow};
+    ghost use Rattle.line_engine.specs.Seen.{EngineState, engine_code};
+
+    ghost Value = { EngineState };
+
+    ghost coded = { engine_code };
+
+    ghost view = { λ engine. record {
+      limits = engine.limits;
+      state = record { live = engine.live; next = engine.next };
+      calls = engine.calls;
+    } };
+
+    ghost invariant = { λ engine. (engine.next ≤ engine.calls) × AreBelow engine.next engine.live };
+}
+
+impl Engine {
+    /// An engine without trees. It takes no memory today, and may want some later.
+    pub fn over(alloc: Global, limits: &Limits) -> Result<Engine, NoMemory>
+        requires { AreLimits limits.now }
+        ensures { IfOk result (λ engine. engine ≡ record { limits = limits.now; state = empty_state; calls = 0 }) }
+    {
+        Ok(Engine {
+            alloc,
+            limits: *limits,
+            live: LiveTrees::empty(alloc),
+            next: 0,
+            calls: 0,
+        })
+    }
+
+    /// Answers a request: `out` has the reply's text with its newline, or nothing where there was no memory.
+    ///
+    /// Beside a whole first line, `second` is `NotTaken` exactly where that line takes no source line.
+    pub fn answer<D: Disk, L: Ledger>(
+        &mut self,
+        disk: &mut D,
+        first: FirstLine<'_>,
+        second: SourceLine<'_>,
+        out: &mut OutText,
+        steps: &mut Steps<L>,
+    ) -> Answered
+        requires calls { self.old.calls < 2 ^ 50 }
+        requires empty { out.old.bytes ≡ [] }
+        ensures written { result ≡ Answered.Written → out.new.bytes ≡ reply_text (step self.old.limits self.old.state (request_of first.entry second.entry)).reply }
+        ensures state { result ≡ Answered.Written → self.new.state ≡ (step self.old.limits self.old.state (request_of first.entry second.entry)).state }
+        ensures no_memory { result ≡ Answered.NoMemory → out.new.bytes ≡ [] }
+        ensures unchanged { result ≡ Answered.NoMemory → self.new.state ≡ self.old.state }
+        ensures limits { self.new.limits ≡ self.old.limits }
+        ensures calls { self.new.calls ≡ self.old.calls + 1 }
+        ensures room { room_of out.old ≤ room_of out.new }
+        ensures disk { disk.new ≡ disk.old }
+        ensures reads { steps.new ≡ steps.old }
+    {
+        self.calls += 1;
+        match self.reply(first, second, out) {
+            Ok(()) => Answered::Written,
+            Err(NoMemory) => {
+                out.clear();
+                Answered::NoMemory
+            }
+        }
+    }
+
+    // The reply to a request. Where there is no memory, a part of a reply may stand in `out`.
+    #[tactic(auto, unfolding(crate::specs::Machine::step))]
+    fn reply(
+        &mut self,
+        first: FirstLine<'_>,
+        second: SourceLine<'_>,
+        out: &mut OutText,
+    ) -> Result<(), NoMemory>
+        requires room { self.old.state.next < 2 ^ 50 }
+        requires calls { self.old.state.next < self.old.calls }
+        ensures ok { OnOk result (out.new.bytes ≡ out.old.bytes ++ reply_text (step self.old.limits self.old.state (request_of first.entry second.entry)).reply) }
+        ensures state { OnOk result (self.new.state ≡ (step self.old.limits self.old.state (request_of first.entry second.entry)).state) }
+        ensures err { OnErr result (self.new.state ≡ self.old.state) }
+        ensures limits { self.new.limits ≡ self.old.limits }
+        ensures calls { self.new.calls ≡ self.old.calls }
+        ensures room { room_of out.old ≤ room_of out.new }
+    {
+        match action_of(self.alloc, first, second) {
+            Ok(action) => self.perform(action, out),
+            Err(NoAction::Refused(why)) => write_refusal(why, out),
+            Err(NoAction::NoMemory) => Err(NoMemory),
+        }
+    }
+
+    fn perform(&mut self, action: Action, out: &mut OutText) -> Result<(), NoMemory>
+        requires room { self.old.state.next < 2 ^ 50 }
+        requires calls { self.old.state.next < self.old.calls }
+        ensures ok { OnOk result (out.new.bytes ≡ out.old.bytes ++ reply_text (action_step (action_view action) self.old.state).reply) }
+        ensures state { OnOk result (self.new.state ≡ (action_step (action_view action) self.old.state).state) }
+        ensures err { OnErr result (self.new.state ≡ self.old.state) }
+        ensures limits { self.new.limits ≡ self.old.limits }
+        ensures calls { self.new.calls ≡ self.old.calls }
+        ensures room { room_of out.old ≤ room_of out.new }
+    {
+        match action {
+            Action::Index(id, source) => self.index(id, source, out),
+            Action::Search(body) => write_page(&body, &self.live, out),
+        }
+    }
+
+    // The reply is written first, so that want of memory leaves the trees as they were.
+    fn index(&mut self, id: JsonText, source: Json, out: &mut OutText) -> Result<(), NoMemory>
+        requires room { self.old.state.next < 2 ^ 50 }
+        requires calls { self.old.state.next < self.old.calls }
+        ensures ok { OnOk result (out.new.bytes ≡ out.old.bytes ++ reply_text (put_step id (view source) self.old.state).reply) }
+        ensures state { OnOk result (self.new.state ≡ (put_step id (view source) self.old.state).state) }
+        ensures err { OnErr result (self.new.state ≡ self.old.state) }
+        ensures limits { self.new.limits ≡ self.old.limits }
+        ensures calls { self.new.calls ≡ self.old.calls }
+        ensures room { room_of out.old ≤ room_of out.new }
+    {
+        let word = match self.live.number(&id) {
+            Some(_) => WriteResult::Updated,
+            None => WriteResult::Created,
+        };
+        write_change(id.as_slice(), self.next, word, out)?;
+        self.live.put(self.next, id, source)?;
+        self.next += 1;
+        Ok(())
+    }
+}

@@ -1,0 +1,138 @@
+//! The live trees of an index.
+
+ghost use Rattle.std.specs.Prelude.{◌≡◌, ◌<◌, ◌≤◌, ◌++◌, [], false, length, map, take, OnOk, OnErr};
+ghost use Rattle.std.specs.BTreeMap.{is_at};
+ghost use Rattle.std.specs.Map.{remove_entry};
+ghost use Rattle.std.specs.Ordering.{nat_cmp};
+ghost use Rattle.std.specs.String.{string_bytes};
+ghost use Rattle.tree_json.specs.View.{view};
+ghost use Rattle.query_ast.specs.Tree.{IsLiveList, number_of};
+ghost use Rattle.line_engine.specs.Machine.{with_put, new_tree};
+ghost use Rattle.line_engine.specs.Live.{IsIndexed, AreBelow, trees_of, tree_at, scored, hits_text};
+ghost use Rattle.tree_json.specs.Output.{room_of};
+
+use crate::page::write_hits;
+use crate::refusal::NoMemory;
+use std::alloc::Global;
+use std::collections::BTreeMap;
+use std::marker::Model;
+use tree_json::{Json, JsonText, OutText};
+
+/// A tree as it is kept, under its sequence number.
+#[derive(Drop)]
+pub(crate) struct Stored {
+    pub(crate) id: JsonText,
+    pub(crate) source: Json,
+}
+
+/// The live trees, by sequence number and by id. One is found in time that grows with the logarithm of their number.
+#[derive(Drop)]
+pub(crate) struct LiveTrees {
+    alloc: Global,
+    trees: BTreeMap<u64, Stored>,
+    numbers: BTreeMap<String, u64>,
+}
+
+impl Model for LiveTrees {
+    ghost use Rattle.std.specs.Prelude.{List};
+    ghost use Rattle.std.specs.Coded.{coded_list};
+    ghost use Rattle.query_ast.specs.Tree.{Tree};
+    ghost use Rattle.line_engine.specs.Seen.{tree_code};
+
+    ghost Value = { List Tree };
+
+    ghost coded = { coded_list tree_code };
+
+    ghost use Rattle.line_engine.specs.Live.{trees_of, IsIndexed};
+
+    ghost view = { λ live. trees_of live.trees.entries };
+
+    ghost invariant = { λ live. IsIndexed live.trees live.numbers };
+}
+
+impl LiveTrees {
+    /// No tree.
+    pub(crate) fn empty(alloc: Global) -> LiveTrees
+        ensures { result ≡ [] }
+    {
+        LiveTrees {
+            alloc,
+            trees: BTreeMap::new(alloc),
+            numbers: BTreeMap::new(alloc),
+        }
+    }
+
+    /// How many trees there are.
+    pub(crate) fn len(&self) -> u64
+        ensures length { result ≡ length self.now }
+        ensures live { IsLiveList self.now }
+    {
+        self.trees.len() as u64
+    }
+
+    /// The number of the tree with this id.
+    pub(crate) fn number(&self, id: &JsonText) -> Option<u64>
+        ensures { result ≡ number_of id.now self.now }
+    {
+        self.numbers.get(id.as_str()).copied()
+    }
+
+    /// Puts a tree with the next number in place of the one with its id, or as a new one.
+    pub(crate) fn put(&mut self, number: u64, id: JsonText, source: Json) -> Result<(), NoMemory>
+        requires { AreBelow number self.old }
+        ensures ok { OnOk result (self.new ≡ with_put (new_tree id (view source) number) self.old) }
+        ensures err { OnErr result (self.new ≡ self.old) }
+    {
+        let key = String::from_str(self.alloc, id.as_str())?;
+        put_stored(
+            &mut self.trees,
+            &mut self.numbers,
+            key,
+            number,
+            Stored { id, source },
+        )
+    }
+
+    /// Writes the first hits, each with this score, as the elements of a list.
+    pub(crate) fn write_hits(&self, score: u32, out: &mut OutText) -> Result<(), NoMemory>
+        ensures ok { OnOk result (out.new.bytes ≡ out.old.bytes ++ hits_text false (map (scored score) (take 10 self.now))) }
+        ensures room { room_of out.old ≤ room_of out.new }
+    {
+        write_hits(&self.trees, score, out)
+    }
+}
+
+// Puts a tree under a number above all others, and takes the one with its id out.
+fn put_stored(
+    trees: &mut BTreeMap<u64, Stored>,
+    numbers: &mut BTreeMap<String, u64>,
+    key: String,
+    number: u64,
+    stored: Stored,
+) -> Result<(), NoMemory>
+    requires indexed { IsIndexed trees.old numbers.old }
+    requires above { AreBelow number (trees_of trees.old.entries) }
+    requires key { string_bytes key ≡ stored.id }
+    ensures ok { OnOk result (trees_of trees.new.entries ≡ with_put (tree_at (number, stored)) (trees_of trees.old.entries)) }
+    ensures err { OnErr result (trees_of trees.new.entries ≡ trees_of trees.old.entries) }
+    ensures indexed { IsIndexed trees.new numbers.new }
+{
+    trees.insert(number, stored)?;
+    match numbers.insert(key, number) {
+        Ok(Some(old)) => {
+            take_out(trees, old);
+            Ok(())
+        }
+        Ok(None) => Ok(()),
+        Err(_failed) => {
+            take_out(trees, number);
+            Err(NoMemory)
+        }
+    }
+}
+
+fn take_out(trees: &mut BTreeMap<u64, Stored>, number: u64)
+    ensures { trees.new.entries ≡ remove_entry (is_at (nat_cmp number)) trees.old.entries }
+{
+    trees.remove(&number);
+}

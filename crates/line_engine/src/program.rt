@@ -1,0 +1,50 @@
+//! The program's call.
+
+ghost use Rattle.std.specs.Prelude.{◌≡◌, ◌≤◌, ◌↔◌, false, true};
+ghost use Rattle.line_engine.specs.Limit.{standard_limits};
+ghost use Rattle.line_engine.specs.Machine.{empty_state};
+ghost use Rattle.line_engine.specs.Run.{Serves, IsCaused, Untouched};
+ghost use Rattle.line_engine.specs.Word.{is_serve};
+
+use crate::limits::Limits;
+use crate::session::serve;
+use crate::status::Status;
+use io_edges::{Disk, Sink, Source, Word};
+use std::alloc::Global;
+
+/// Does what the words of the command line ask for: `serve STORE` answers the requests of the source.
+///
+/// What the sink takes is what the plain machine over trees replies, or out_of_memory, to each request of what the
+/// source gives.
+pub fn run<S: Source, K: Sink, D: Disk>(
+    alloc: Global,
+    words: &[Word],
+    source: &mut S,
+    sink: &mut K,
+    disk: &mut D,
+) -> Status
+    ensures bad_words { (result ≡ Status.BadWords) ↔ (is_serve words.now ≡ false) }
+    ensures untouched { result ≡ Status.BadWords → Untouched (S.left source.old) (S.left source.new) (K.taken sink.old) (K.taken sink.new) }
+    ensures serves { is_serve words.now ≡ true → Serves result standard_limits empty_state (S.left source.old) (S.left source.new) (K.taken sink.old) (K.taken sink.new) }
+    ensures cause { IsCaused result (S.faults source.old) (S.faults source.new) (K.faults sink.old) (K.faults sink.new) }
+    ensures source_later { S.faults source.old ≤ S.faults source.new }
+    ensures sink_later { K.faults sink.old ≤ K.faults sink.new }
+    ensures disk { disk.new ≡ disk.old }
+{
+    if is_serve_command(words) {
+        serve(alloc, &Limits::standard(), source, sink, disk)
+    } else {
+        Status::BadWords
+    }
+}
+
+fn is_serve_command(words: &[Word]) -> bool
+    ensures { result ≡ is_serve words.now }
+{
+    match words {
+        [command, store] => {
+            command.as_bytes() == b"serve".as_slice() && !store.as_bytes().is_empty()
+        }
+        _ => false,
+    }
+}

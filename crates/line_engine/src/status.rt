@@ -1,0 +1,31 @@
+//! How the program ends.
+
+/// How the program ends. The number is its exit status.
+#[derive(Clone, Copy, Debug, PartialEq, Eq)]
+pub enum Status {
+    /// The input was read to its end, and each request is answered.
+    Done = 0,
+    /// The words of the command line are none that the program knows.
+    BadWords = 2,
+    /// Reading the input failed.
+    ReadFault = 3,
+    /// Writing a reply failed.
+    WriteFault = 4,
+    /// The disk failed while the store was opened.
+    DiskFault = 5,
+    /// The file is no store.
+    NotAStore = 6,
+    /// The store is damaged.
+    Damaged = 7,
+    /// The input has more bytes than a session may have.
+    SessionLimit = 8,
+    /// There was no memory before the first request.
+    NoMemory = 9,
+}
+
+impl Status {
+    /// The exit status.
+    pub fn code(self) -> u8 {
+        self as u8
+    }
+}
