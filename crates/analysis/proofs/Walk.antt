@@ -2,9 +2,8 @@
 use Rattle.std.proofs.Common.{◌≡◌, ℕ, ◌+◌, ◌<◌, ◌≤◌, List, [], ◌∷◌, ◌++◌, length, IsUtf8, append_assoc, append-nil, sym, ap, ◌∙◌, arith}
 use Rattle.analysis.specs.declared.token_list.Token.{Token}
 use Rattle.analysis.specs.Words.{folded}
-use Rattle.analysis.specs.Places.{placed_words}
-use Rattle.analysis.specs.Tokens.{tokens_from}
-use Rattle.analysis.proofs.Placed.{StandBetween, earlier, within, placed_words_stand, few_placed_words}
+use Rattle.analysis.proofs.Placed.{StandBetween, placed_words, earlier, within, placed_words_stand, few_placed_words}
+use Rattle.analysis.proofs.TokenLemmas.{tokens_from}
 
 -- these tokens have been made, and these words are left
 pub record IsUnderWay (text : List ℕ) (done : List Token) (position : ℕ) (left : List (ℕ × List ℕ)) : Type 0 where
