@@ -1,3 +1,4 @@
+mod Examples
 pub mod Placed
 pub mod TokenLemmas
 pub mod Walk

@@ -4,7 +4,10 @@ use Rattle.std.specs.List.{concat}
 use Rattle.unicode_segmentation.specs.Segments.{with_offsets, has_alphanumeric}
 use Rattle.unicode_segmentation.specs.Word.{is_word_break, word_bounds, words as unfolded_words}
 use Rattle.unicode_segmentation.proofs.SegmentsLemmas.{map-with_offsets, length-with_offsets, length-segments, concat-segments, length-filter-le, segments_nonempty, StandAtOffsets-segments, AllPieces, StandAtOffsets}
-use Rattle.analysis.specs.Places.{placed_words}
+
+-- the words as they stand in the text, each after the number of bytes before it
+unfoldable pub placed_words : List ℕ → List (ℕ × List ℕ)
+placed_words text = filter (λ (_, piece). has_alphanumeric piece) (with_offsets 0 (word_bounds text))
 
 -- words stand in the text where they are said to, one after the other between two places, and none is empty
 abbrev pub StandBetween : List ℕ → ℕ → ℕ → List (ℕ × List ℕ) → Type 0

@@ -1,13 +1,20 @@
--- The tokens of words, field by field.
+-- The tokens of a text, field by field.
 use Rattle.std.proofs.Common.{◌≡◌, ℕ, suc, ◌+◌, ◌≤◌, List, [], ◌∷◌, map, length, slice_range, IsUtf8, refl, sym, ap, ap₂, ◌∙◌, arith}
 use Rattle.std.specs.List.{range_with_len}
+use Rattle.unicode_segmentation.specs.Word.{words as unfolded_words}
 use Rattle.analysis.specs.declared.token_list.Token.{Token}
 use Rattle.analysis.specs.Words.{folded, words}
-use Rattle.analysis.specs.Places.{placed_words}
-use Rattle.analysis.specs.Tokens.{AreApart, tokens_from}
-use Rattle.analysis.proofs.Placed.{StandBetween, placed_words_stand, second-placed_words, few_placed_words}
+use Rattle.analysis.specs.Tokens.{AreApart}
+use Rattle.analysis.proofs.Placed.{StandBetween, placed_words, placed_words_stand, second-placed_words, few_placed_words}
 
-pub length-tokens_from : (position : ℕ) (ws : List (ℕ × List ℕ)) → length (tokens_from position ws) ≡ length ws
+-- the tokens of words at their places, with positions that count up
+abbrev pub tokens_from : ℕ → List (ℕ × List ℕ) → List Token
+tokens_from position [] = []
+tokens_from position ((at, word) ∷ words) =
+    record { folded = folded word; from = at; to = at + length word; position = position }
+    ∷ tokens_from (position + 1) words
+
+length-tokens_from : (position : ℕ) (ws : List (ℕ × List ℕ)) → length (tokens_from position ws) ≡ length ws
 length-tokens_from position [] = refl
 length-tokens_from position (w ∷ ws) = ap suc (length-tokens_from (position + 1) ws)
 
@@ -19,10 +26,10 @@ position-tokens_from : (position : ℕ) (ws : List (ℕ × List ℕ)) → map (�
 position-tokens_from position [] = refl
 position-tokens_from position (w ∷ ws) = ap (λ ps. position ∷ ps) (position-tokens_from (position + 1) ws)
 
-place-tokens_from : (text : List ℕ) (position from to : ℕ) (ws : List (ℕ × List ℕ)) → StandBetween text from to ws → map (λ (t : Token). (t.from, slice_range text t.from t.to)) (tokens_from position ws) ≡ ws
+place-tokens_from : (text : List ℕ) (position from to : ℕ) (ws : List (ℕ × List ℕ)) → StandBetween text from to ws → map (λ (t : Token). slice_range text t.from t.to) (tokens_from position ws) ≡ map (λ (w : ℕ × List ℕ). w.1) ws
 place-tokens_from text position from to [] stand = refl
 place-tokens_from text position from to (w ∷ ws) stand =
-    ap₂ (λ bytes rest. (w.0, bytes) ∷ rest) (sym stand.2) (place-tokens_from text (position + 1) (w.0 + length w.1) to ws stand.3)
+    ap₂ (λ bytes rest. bytes ∷ rest) (sym stand.2) (place-tokens_from text (position + 1) (w.0 + length w.1) to ws stand.3)
 
 apart-tokens_from : (text : List ℕ) (position from to : ℕ) (ws : List (ℕ × List ℕ)) → StandBetween text from to ws → AreApart from to (tokens_from position ws)
 apart-tokens_from text position from to [] stand = stand
@@ -35,9 +42,10 @@ unfolding words
 words_of_tokens text ts same =
     ap (map (λ (t : Token). t.folded)) same ∙ folded-tokens_from 0 (placed_words text) ∙ ap (map folded) (second-placed_words text)
 
-pub places_of_tokens : (text : List ℕ) (ts : List Token) → IsUtf8 text → ts ≡ tokens_from 0 (placed_words text) → map (λ (t : Token). (t.from, slice_range text t.from t.to)) ts ≡ placed_words text
+pub places_of_tokens : (text : List ℕ) (ts : List Token) → IsUtf8 text → ts ≡ tokens_from 0 (placed_words text) → map (λ (t : Token). slice_range text t.from t.to) ts ≡ unfolded_words text
 places_of_tokens text ts utf8 same =
-    ap (map (λ (t : Token). (t.from, slice_range text t.from t.to))) same ∙ place-tokens_from text 0 0 (length text) (placed_words text) (placed_words_stand text utf8)
+    ap (map (λ (t : Token). slice_range text t.from t.to)) same
+    ∙ place-tokens_from text 0 0 (length text) (placed_words text) (placed_words_stand text utf8) ∙ second-placed_words text
 
 pub tokens_are_apart : (text : List ℕ) (ts : List Token) → IsUtf8 text → ts ≡ tokens_from 0 (placed_words text) → AreApart 0 (length text) ts
 tokens_are_apart text ts utf8 same =

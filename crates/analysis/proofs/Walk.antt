@@ -1,10 +1,9 @@
 -- The loop that makes the tokens of a text, word by word.
-use Rattle.std.proofs.Common.{◌≡◌, ℕ, ◌+◌, ◌<◌, ◌≤◌, List, [], ◌∷◌, ◌++◌, length, IsUtf8, append_assoc, append-nil, sym, ap, ◌∙◌, arith}
+use Rattle.std.proofs.Common.{◌≡◌, ℕ, ◌+◌, ◌≤◌, List, [], ◌∷◌, ◌++◌, length, IsUtf8, append_assoc, append-nil, sym, ap, ◌∙◌, arith}
 use Rattle.analysis.specs.declared.token_list.Token.{Token}
 use Rattle.analysis.specs.Words.{folded}
-use Rattle.analysis.specs.Places.{placed_words}
-use Rattle.analysis.specs.Tokens.{tokens_from}
-use Rattle.analysis.proofs.Placed.{StandBetween, earlier, within, placed_words_stand, few_placed_words}
+use Rattle.analysis.proofs.Placed.{StandBetween, placed_words, earlier, placed_words_stand, few_placed_words}
+use Rattle.analysis.proofs.TokenLemmas.{tokens_from}
 
 -- these tokens have been made, and these words are left
 pub record IsUnderWay (text : List ℕ) (done : List Token) (position : ℕ) (left : List (ℕ × List ℕ)) : Type 0 where
@@ -18,13 +17,6 @@ started text left utf8 same = record {
   few = omega (arith, ap length same, few_placed_words text utf8);
   ahead = rw same (placed_words_stand text utf8);
 }
-
--- the next word ends in the text
-pub word_ends : (text : List ℕ) (done : List Token) (position : ℕ) (left rest : List (ℕ × List ℕ)) (word : ℕ × List ℕ) → left ≡ word ∷ rest → IsUnderWay text done position left → (word.0 + length word.1 ≤ length text) × (position < length text)
-word_ends text done position left rest word first way =
-    let ahead = rw first at way.ahead in
-    let few = rw first at way.few in
-    (within text (word.0 + length word.1) (length text) rest ahead.3, omega arith)
 
 pub one_more : (text : List ℕ) (done : List Token) (position : ℕ) (left rest : List (ℕ × List ℕ)) (word : ℕ × List ℕ) (token : Token) → left ≡ word ∷ rest → IsUnderWay text done position left
     → token ≡ record { folded = folded word.1; from = word.0; to = word.0 + length word.1; position = position } → IsUnderWay text (done ++ token ∷ []) (position + 1) rest

@@ -7,6 +7,7 @@ use Rattle.caseless.specs.Caseless.{default_case_fold}
 unfoldable pub folded : List ℕ → List ℕ
 folded word = encode_utf8_all (default_case_fold (chars word))
 
--- the words of a text in order, each folded: a word is a piece between two word boundaries of UAX #29 that has a letter or a number
+-- The words of a text in order, each folded. Before folding they are what `unicode_segmentation` calls words:
+-- the pieces between two word boundaries of UAX #29 that have a letter or a number.
 unfoldable pub words : List ℕ → List (List ℕ)
 words text = map folded (unfolded_words text)

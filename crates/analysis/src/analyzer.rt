@@ -1,7 +1,7 @@
 //! From a text to its tokens.
 ghost use Rattle.std.specs.Prelude.{◌≡◌, ◌+◌, ◌≤◌, ◌<◌, ◌^◌, length, map, slice_range, IfOk};
 ghost use Rattle.std.specs.List.{range_with_len};
-ghost use Rattle.analysis.specs.Places.{placed_words};
+ghost use Rattle.unicode_segmentation.specs.Word.{words as unfolded_words};
 ghost use Rattle.analysis.specs.Tokens.{AreApart};
 ghost use Rattle.analysis.specs.Words.{words, folded};
 
@@ -17,7 +17,7 @@ use unicode_segmentation::UnicodeSegmentation;
 /// `strasse`). Fails only for want of memory.
 pub fn tokens(alloc: Global, text: &str) -> Result<TokenList, NoMemory>
     ensures words { IfOk result (λ tokens. map (λ t. t.folded) tokens ≡ words text.now) }
-    ensures places { IfOk result (λ tokens. map (λ t. (t.from, slice_range text.now t.from t.to)) tokens ≡ placed_words text.now) }
+    ensures places { IfOk result (λ tokens. map (λ t. slice_range text.now t.from t.to) tokens ≡ unfolded_words text.now) }
     ensures apart { IfOk result (AreApart 0 (length text.now)) }
     ensures positions { IfOk result (λ tokens. map (λ t. t.position) tokens ≡ range_with_len 0 (length tokens)) }
     ensures few { IfOk result (λ tokens. length tokens ≤ length text.now) }
@@ -37,6 +37,7 @@ pub fn tokens(alloc: Global, text: &str) -> Result<TokenList, NoMemory>
 }
 
 /// The word with full case folding.
+#[tactic(auto, unfolding(crate::specs::Words::folded))]
 fn folded(alloc: Global, word: &str) -> Result<Bytes, NoMemory>
     ensures { IfOk result (λ bytes. bytes ≡ folded word.now) }
 {

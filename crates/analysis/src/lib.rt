@@ -7,6 +7,8 @@
 
 mod analyzer;
 mod no_memory;
+#[cfg(test)]
+mod tests;
 mod token_list;
 
 pub use analyzer::tokens;

@@ -1,8 +1,7 @@
 use Rattle.std.proofs.Common.{◌∙◌, ◌≡◌, ap, refl}
 use Rattle.unicode_segmentation.specs.Iter.{unicode_word_indices_left}
-use Rattle.analysis.specs.Places.{placed_words}
-use Rattle.analysis.specs.Tokens.{tokens_from}
-use Rattle.analysis.proofs.TokenLemmas.{words_of_tokens, places_of_tokens, tokens_are_apart, positions_of_tokens, few_tokens}
+use Rattle.analysis.proofs.Placed.{placed_words}
+use Rattle.analysis.proofs.TokenLemmas.{tokens_from, words_of_tokens, places_of_tokens, tokens_are_apart, positions_of_tokens, few_tokens}
 use Rattle.analysis.proofs.Walk.{started, one_more, ended}
 use Rattle.analysis.proofs.analyzer.tokens.Goals as goal
 
