@@ -1,5 +1,5 @@
 -- Two sets of one length, word by word: flag by flag.
-use Rattle.std.proofs.Common.{◌≡◌, ◌≢◌, ℕ, ◌+◌, ◌-◌, subst, ◌/◌, ◌%◌, ◌^◌, ◌<◌, ◌≤◌, Bool, true, false, List, length, get_or, set, map, refl, sym, ap, ap₂, ◌∙◌, inl, inr, arith, eqb, bit_and, bit_or, min, max, ◌&&◌, ◌||◌, not}
+use Rattle.std.proofs.Common.{◌≡◌, ◌≢◌, ℕ, ◌+◌, ◌-◌, subst, ◌/◌, ◌%◌, ◌^◌, ◌<◌, ◌≤◌, Bool, false, List, length, get_or, set, map, refl, sym, ap, ap₂, ◌∙◌, inl, inr, arith, eqb, bit_and, bit_or, min, max, ◌&&◌, ◌||◌, not}
 use Rattle.std.specs.Int.{bit_at, w64, bit_not}
 use Rattle.std.specs.List.{zip}
 use Rattle.std.proofs.lemmas.List.{same_lists, get_or_read, get_or-set_same, get_or-set_other, length-set, get_or_past, get_or-map, length-map}

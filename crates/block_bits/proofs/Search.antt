@@ -1,11 +1,11 @@
 -- The search for a set bit, word by word.
-use Rattle.std.proofs.Common.{◌≡◌, ℕ, zero, suc, ◌+◌, ◌-◌, ◌*◌, ◌/◌, ◌%◌, ◌^◌, ◌<◌, ◌≤◌, ◌⊎◌, Bool, true, false, List, length, get_or, take, Option, Some, None, min, refl, sym, ap, subst, ◌∙◌, inl, inr, arith, eqb, bit_and}
+use Rattle.std.proofs.Common.{◌≡◌, ℕ, suc, ◌+◌, ◌-◌, ◌*◌, ◌/◌, ◌%◌, ◌^◌, ◌<◌, ◌≤◌, Bool, true, false, List, length, get_or, take, Some, None, min, sym, ap, subst, ◌∙◌, inl, inr, arith, eqb, bit_and}
 use Rattle.std.specs.Int.{bit_at, w64, trailing_zeros, leading_zeros}
 use Rattle.std.proofs.lemmas.List.{get_or-take, length-take}
 use Rattle.std.proofs.lemmas.Nat.{and_le_l, leading_top, shr_below, le-div, pow_pos}
 use Rattle.std.proofs.lemmas.Nat.Bits.{bit_at_and, bit_at-zero, bit_at-lt, ones_shl, ones_shr, bit_at_mask_inside, bit_at_mask_below, bit_at_ones, bit_at_ones_above, bit_at-trailing_zeros, bit_at_above}
 use Rattle.std.proofs.lemmas.Bool.{cases_lt}
-use Rattle.block_bits.specs.Flags.{is_marked, is_set, flags, IsTight}
+use Rattle.block_bits.specs.Flags.{is_marked, is_set, flags}
 use Rattle.block_bits.specs.Places.{next_place, previous_place}
 use Rattle.block_bits.proofs.Marks.{get_or-flags, len_is, is_set-bit}
 use Rattle.block_bits.proofs.Places.{next_place-first, next_place-none, previous_place-last, previous_place-none}

@@ -36,7 +36,8 @@ pub record EnclosesAt (parents : List (Option ℕ)) (scopes : List ℕ) (doc out
 -- The documents are a list of blocks: each has, after it, a document of the scope around its own before any
 -- document of a scope above that one, and the last document is a root.
 pub record IsBlocks (parents : List (Option ℕ)) (scopes : List ℕ) : Type 0 where
-  pub enclosed : (doc outer : ℕ) → doc < length scopes → enclosing parents (scope_at scopes doc) ≡ Some outer → (at : ℕ) × EnclosesAt parents scopes doc outer at
+  pub enclosed : (doc outer : ℕ) → doc < length scopes → enclosing parents (scope_at scopes doc) ≡ Some outer
+      → (at : ℕ) × EnclosesAt parents scopes doc outer at
   pub last : (doc : ℕ) → doc + 1 ≡ length scopes → scope_at scopes doc ≡ 0
 
 -- the document of the object at `scope` around a document, for a scope strictly above the document's own

@@ -1,5 +1,5 @@
 -- The tree of scopes: the root is scope 0, and each nested path is a scope inside the one around it.
-use Rattle.std.specs.Prelude.{◌≡◌, ◌==◌, ℕ, ◌<◌, zero, suc, Bool, false, ◌||◌, List, length, slice_index_or, Option, Some, None, IsSomeAnd}
+use Rattle.std.specs.Prelude.{◌≡◌, ◌==◌, ℕ, ◌<◌, zero, suc, Bool, false, ◌||◌, List, length, slice_index_or, Option, None, IsSomeAnd}
 use Rattle.std.specs.Option.{option_map_or}
 
 -- the scope around a scope; the root has none

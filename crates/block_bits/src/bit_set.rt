@@ -1,4 +1,4 @@
-ghost use Rattle.std.specs.Prelude.{◌≡◌, ◌==◌, ◌+◌, ◌*◌, ℕ, ◌<◌, ◌≤◌, Bool, true, false, List, length, replicate, take, slice_index_or, slice_set, count_by, IfOk, IfSome};
+ghost use Rattle.std.specs.Prelude.{◌≡◌, ◌==◌, ◌+◌, ◌*◌, ◌^◌, ℕ, ◌<◌, ◌≤◌, Bool, true, false, List, length, replicate, take, slice_index_or, slice_set, count_by, IfOk, IfSome};
 ghost use Rattle.std.specs.Int.{bit_at};
 ghost use Rattle.block_bits.specs.Flags.{is_marked, intersection, union, difference};
 ghost use Rattle.block_bits.specs.Places.{next_place, previous_place};
@@ -74,6 +74,7 @@ impl BitSet {
     pub fn next_set(&self, from: u32) -> Option<u32>
         ensures value { result ≡ next_place is_marked from self.now }
         ensures within { IfSome result (λ at. (from ≤ at) × (at < length self.now)) }
+        ensures numbered { length self.now < 2 ^ 32 }
     {
         self.next_set_before(from, self.len())
     }

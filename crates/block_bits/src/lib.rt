@@ -7,10 +7,14 @@
 #![tactic(auto)]
 
 mod bit_set;
+mod blocks;
 mod lists;
+mod partition;
+mod scope_bits;
 
 pub use bit_set::BitSet;
 pub use lists::{BitList, ScopeList};
+pub use scope_bits::{BitsRefusal, ScopeBits};
 use std::alloc::AllocError;
 
 /// Memory ran out. What the call was to change is as it was.

@@ -1,4 +1,4 @@
-use Rattle.std.proofs.Common.{◌≡◌, ◌<◌, ◌≤◌, length, refl, arith, rules, ◌&&◌, ◌||◌, not}
+use Rattle.std.proofs.Common.{◌<◌, length, refl, arith, rules, ◌&&◌, not}
 use Rattle.block_bits.proofs.Combined.{same_words, combined_none, step, value-combined, tight-combined, Follows-and_not}
 use Rattle.block_bits.proofs.bit_set.BitSet.and_not.Goals as goal
 

@@ -1,4 +1,4 @@
-use Rattle.std.proofs.Common.{◌<◌, false}
+use Rattle.std.proofs.Common.{false}
 use Rattle.block_bits.proofs.Marks.{word_is_there, tight-changed, value-changed, IsChangedAt-clear}
 use Rattle.block_bits.proofs.bit_set.BitSet.clear.Goals as goal
 

@@ -1,4 +1,4 @@
-use Rattle.std.proofs.Common.{◌≡◌, ◌<◌, ◌≤◌, ◌*◌, ◌^◌, rules, arith, sym, ap, ◌∙◌, length, get_or, ◌+◌}
+use Rattle.std.proofs.Common.{◌≡◌, ◌*◌, rules, arith, sym, ap, ◌∙◌, length, ◌+◌}
 use Rattle.std.specs.List.{count_by}
 use Rattle.std.proofs.lemmas.List.Sums.{count_by-le-length}
 use Rattle.block_bits.specs.Flags.{is_marked}

@@ -1,4 +1,4 @@
-use Rattle.std.proofs.Common.{◌≡◌, ◌+◌, ◌/◌, arith, rules}
+use Rattle.std.proofs.Common.{arith, rules}
 use Rattle.block_bits.proofs.Marks.{flags-zeros, IsTight-zeros}
 use Rattle.block_bits.proofs.bit_set.BitSet.empty.Goals as goal
 

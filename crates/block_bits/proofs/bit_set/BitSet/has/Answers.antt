@@ -1,4 +1,3 @@
-use Rattle.std.proofs.Common.{◌<◌, subst, sym}
 use Rattle.block_bits.proofs.Marks.{word_is_there, flag-read}
 use Rattle.block_bits.proofs.bit_set.BitSet.has.Goals as goal
 

@@ -1,8 +1,8 @@
-use Rattle.std.proofs.Common.{◌≡◌, ◌<◌, ◌≤◌, ◌+◌, ◌*◌, ◌/◌, ◌^◌, get_or, length, rules, arith, sym, refl}
+use Rattle.std.proofs.Common.{◌<◌, ◌+◌, ◌*◌, ◌/◌, length, rules, arith, sym}
 use Rattle.std.specs.Int.{trailing_zeros, w64}
 use Rattle.std.proofs.lemmas.List.{get_or_read}
 use Rattle.block_bits.proofs.Marks.{len_is, word_is_there}
-use Rattle.block_bits.proofs.Search.{IsNext, search_begins, search_goes_on, search_finds, none_in_word, next_of-found, next_of-past}
+use Rattle.block_bits.proofs.Search.{search_begins, search_goes_on, search_finds, none_in_word, next_of-found, next_of-past}
 use Rattle.block_bits.proofs.bit_set.BitSet.next_set_before.Goals as goal
 
 pub index-requires : goal.index-requires

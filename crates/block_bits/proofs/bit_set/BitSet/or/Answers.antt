@@ -1,4 +1,4 @@
-use Rattle.std.proofs.Common.{◌≡◌, ◌<◌, ◌≤◌, length, refl, arith, ◌&&◌, ◌||◌, not}
+use Rattle.std.proofs.Common.{◌<◌, length, refl, arith, ◌||◌}
 use Rattle.block_bits.proofs.Combined.{same_words, combined_none, step, value-combined, tight-combined, Follows-or}
 use Rattle.block_bits.proofs.bit_set.BitSet.or.Goals as goal
 

@@ -1,4 +1,4 @@
-use Rattle.std.proofs.Common.{◌≡◌, ◌&&◌, ◌||◌, not}
+use Rattle.std.proofs.Common.{◌≡◌, ◌||◌}
 use Rattle.block_bits.proofs.Combined.{Combined, AreAlike}
 use Rattle.block_bits.proofs.bit_set.BitSet.or.Given as goal
 

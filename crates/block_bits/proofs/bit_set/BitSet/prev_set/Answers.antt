@@ -1,8 +1,8 @@
-use Rattle.std.proofs.Common.{◌≡◌, refl, ◌<◌, ◌≤◌, ◌+◌, ◌-◌, ◌*◌, ◌/◌, get_or, length, min, rules, arith, sym, ap, ◌∙◌}
+use Rattle.std.proofs.Common.{refl, ◌<◌, ◌+◌, ◌-◌, ◌*◌, ◌/◌, length, rules, arith, sym}
 use Rattle.std.specs.Int.{leading_zeros, w64}
 use Rattle.std.proofs.lemmas.List.{get_or_read}
 use Rattle.block_bits.proofs.Marks.{len_is}
-use Rattle.block_bits.proofs.Search.{IsPrevious, search_down_begins, search_down_goes_on, search_down_finds, highest, none_in_word_down, previous_of-found, previous_of-none, previous_of-nothing}
+use Rattle.block_bits.proofs.Search.{search_down_begins, search_down_goes_on, search_down_finds, highest, none_in_word_down, previous_of-found, previous_of-none, previous_of-nothing}
 use Rattle.block_bits.proofs.bit_set.BitSet.prev_set.Goals as goal
 
 pub returns-then-end-eq0-clause-value : goal.returns-then-end-eq0-clause-value

@@ -1,4 +1,4 @@
-use Rattle.std.proofs.Common.{◌<◌, true}
+use Rattle.std.proofs.Common.{true}
 use Rattle.block_bits.proofs.Marks.{word_is_there, tight-changed, value-changed, IsChangedAt-set}
 use Rattle.block_bits.proofs.bit_set.BitSet.set.Goals as goal
 

@@ -1,4 +1,4 @@
-use Rattle.std.proofs.Common.{◌≡◌, ◌<◌, length, arith}
+use Rattle.std.proofs.Common.{◌<◌, length, arith}
 use Rattle.block_bits.proofs.Marks.{len_is, word-read}
 use Rattle.block_bits.proofs.bit_set.BitSet.word.Goals as goal
 
