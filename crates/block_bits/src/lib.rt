@@ -11,6 +11,8 @@ mod blocks;
 mod lists;
 mod partition;
 mod scope_bits;
+#[cfg(test)]
+mod tests;
 
 pub use bit_set::BitSet;
 pub use lists::{BitList, ScopeList};
