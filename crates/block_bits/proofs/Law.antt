@@ -103,14 +103,16 @@ pub record AnswersParent (nesting : Nesting) (doc scope : ℕ) (answer : Option 
   pub value : answer ≡ enclosing_document nesting doc scope
   pub some : is_some answer ≡ true
   pub above : is_above nesting.parents scope (scope_at nesting.scopes doc) ≡ true
-  pub parent : IfSome answer (λ at. (doc < at) × (at < length nesting.scopes) × (scope_at nesting.scopes at ≡ scope))
+  pub later : IfSome answer (λ at. (doc < at) × (at < length nesting.scopes))
+  pub of_scope : IfSome answer (λ at. scope_at nesting.scopes at ≡ scope)
 
-if_first : (scopes : List ℕ) (scope doc : ℕ) (answer : Option ℕ) → answer ≡ next_place (has_scope scope) (doc + 1) scopes
-    → IfSome answer (λ at. (doc < at) × (at < length scopes) × (scope_at scopes at ≡ scope))
-if_first scopes scope doc None e = tt
-if_first scopes scope doc (Some at) e =
-    let first = first_of scopes scope (doc + 1) at (sym e) in
-    (omega (arith, first.low), first.high, first.here)
+if_later : (scopes : List ℕ) (scope doc : ℕ) (answer : Option ℕ) → answer ≡ next_place (has_scope scope) (doc + 1) scopes → IfSome answer (λ at. (doc < at) × (at < length scopes))
+if_later scopes scope doc None e = tt
+if_later scopes scope doc (Some at) e = let first = first_of scopes scope (doc + 1) at (sym e) in (omega (arith, first.low), first.high)
+
+if_of_scope : (scopes : List ℕ) (scope doc : ℕ) (answer : Option ℕ) → answer ≡ next_place (has_scope scope) (doc + 1) scopes → IfSome answer (λ at. scope_at scopes at ≡ scope)
+if_of_scope scopes scope doc None e = tt
+if_of_scope scopes scope doc (Some at) e = (first_of scopes scope (doc + 1) at (sym e)).here
 
 pub answers_parent : (parents : List (Option ℕ)) (bits : List (List Bool)) (nesting : Nesting) (doc scope : ℕ) (set : List Bool) (answer : Option ℕ) → IsOpen parents bits nesting → doc < length nesting.scopes
     → is_above parents scope (scope_at (scopes_seen bits) doc) ≡ true → set ≡ get_or bits scope set → answer ≡ next_place is_marked (doc + 1) set → AnswersParent nesting doc scope answer
@@ -125,7 +127,8 @@ answers_parent parents bits nesting doc scope set answer open' h above read aske
       value = value ∙ rw above refl;
       some = ap is_some value ∙ found_above parents scopes doc scope open'.nested.blocks inside above;
       above = above;
-      parent = if_first scopes scope doc answer value;
+      later = if_later scopes scope doc answer value;
+      of_scope = if_of_scope scopes scope doc answer value;
     }
 
 -- what `child_range` answers

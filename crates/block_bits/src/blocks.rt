@@ -90,7 +90,8 @@ fn has_above(parents: &[Option<u32>], sets: &[BitSet], scope: usize, from: u32, 
     requires scopes { AreScopes parents.now sets.now }
     requires within { scope < length parents.now }
     requires end { end ≤ length (scopes_seen sets.now) }
-    ensures { IsTrue result ↔ ((at : ℕ) × (from ≤ at) × (at < end) × IsTrue (is_above parents.now (scope_at (scopes_seen sets.now) at) scope)) }
+    ensures { IsTrue result ↔ ((at : ℕ) × (from ≤ at) × (at < end) ×
+        IsTrue (is_above parents.now (scope_at (scopes_seen sets.now) at) scope)) }
 {
     let mut inner = scope;
     'scopes: while let Some(outer) = parents[inner] {

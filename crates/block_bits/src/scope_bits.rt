@@ -43,8 +43,14 @@ impl<'a> ScopeBits<'a> {
         ensures parents { IfOk result (λ made. made.parents ≡ parents.now) }
         ensures bits { IfOk result (λ made. AreBits (length parents.now) bits.now made.scopes) }
         ensures blocks { IfOk result (λ made. IsBlocks made.parents made.scopes) }
-        ensures not_one_scope { IsErrOf result BitsRefusal.NotOneScope ↔ ¬ ((scopes : List ℕ) × AreBits (length parents.now) bits.now scopes) }
-        ensures not_blocks { IsErrOf result BitsRefusal.NotBlocks ↔ ((scopes : List ℕ) × AreBits (length parents.now) bits.now scopes × (¬ IsBlocks parents.now scopes)) }
+
+        // No scopes have these bits.
+        ensures not_one_scope { IsErrOf result BitsRefusal.NotOneScope ↔
+            ¬ ((scopes : List ℕ) × AreBits (length parents.now) bits.now scopes) }
+
+        // Some have, and their documents are no list of blocks.
+        ensures not_blocks { IsErrOf result BitsRefusal.NotBlocks ↔
+            ((scopes : List ℕ) × AreBits (length parents.now) bits.now scopes × (¬ IsBlocks parents.now scopes)) }
     {
         let scopes = parents.as_slice();
         let sets = bits.as_slice();
@@ -79,8 +85,10 @@ impl<'a> ScopeBits<'a> {
     pub fn parent_of(&self, doc: u32, scope: u32) -> Option<u32>
         requires { doc < length self.now.scopes }
         ensures value { result ≡ enclosing_document self.now doc scope }
-        ensures enclosed { IsSome result ↔ IsTrue (is_above self.now.parents scope (scope_at self.now.scopes doc)) }
-        ensures parent { IfSome result (λ parent. (doc < parent) × (parent < length self.now.scopes) × (scope_at self.now.scopes parent ≡ scope)) }
+        ensures enclosed { IsSome result ↔
+            IsTrue (is_above self.now.parents scope (scope_at self.now.scopes doc)) }
+        ensures later { IfSome result (λ parent. (doc < parent) × (parent < length self.now.scopes)) }
+        ensures of_scope { IfSome result (λ parent. scope_at self.now.scopes parent ≡ scope) }
     {
         let sets = self.bits.as_slice();
         if lies_above(self.parents.as_slice(), scope, scope_of(sets, doc)) {
@@ -95,7 +103,10 @@ impl<'a> ScopeBits<'a> {
         requires parent { parent < length self.now.scopes }
         requires scope { scope_at self.now.scopes parent ≡ scope }
         ensures range { result ≡ (child_start self.now parent scope, parent) }
-        ensures inside { (doc : ℕ) → doc < length self.now.scopes → IsTrue (is_above self.now.parents scope (scope_at self.now.scopes doc)) →
+
+        // Of the documents of scopes below, exactly those inside the parent are in the range.
+        ensures inside { (doc : ℕ) → doc < length self.now.scopes →
+            IsTrue (is_above self.now.parents scope (scope_at self.now.scopes doc)) →
             (((result.0 ≤ doc) × (doc < result.1)) ↔ (enclosing_document self.now doc scope ≡ Some parent)) }
     {
         match self.bits.as_slice()[scope as usize].prev_set(parent) {

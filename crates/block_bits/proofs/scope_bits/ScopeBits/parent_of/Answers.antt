@@ -28,5 +28,8 @@ returns-then-lies_above-clause-value c = (answers c).value
 pub returns-then-lies_above-clause-enclosed : goal.returns-then-lies_above-clause-enclosed
 returns-then-lies_above-clause-enclosed c = (λ _. (answers c).above, λ _. (answers c).some)
 
-pub returns-then-lies_above-clause-parent : goal.returns-then-lies_above-clause-parent
-returns-then-lies_above-clause-parent c = (answers c).parent
+pub returns-then-lies_above-clause-later : goal.returns-then-lies_above-clause-later
+returns-then-lies_above-clause-later c = (answers c).later
+
+pub returns-then-lies_above-clause-of_scope : goal.returns-then-lies_above-clause-of_scope
+returns-then-lies_above-clause-of_scope c = (answers c).of_scope
