@@ -1,0 +1,11 @@
+pub mod Marks
+pub mod Combined
+pub mod Counts
+pub mod Places
+pub mod Search
+pub mod OneEach
+pub mod Above
+pub mod Scoped
+pub mod Nested
+pub mod Counted
+pub mod Law

@@ -1,0 +1,189 @@
+ghost use Rattle.std.specs.Prelude.{◌≡◌, ◌==◌, ◌+◌, ◌*◌, ◌^◌, ℕ, ◌<◌, ◌≤◌, Bool, true, false, List, length, replicate, take, slice_index_or, slice_set, count_by, IfOk, IfSome};
+ghost use Rattle.std.specs.Int.{bit_at};
+ghost use Rattle.block_bits.specs.Flags.{is_marked, intersection, union, difference};
+ghost use Rattle.block_bits.specs.Places.{next_place, previous_place};
+
+use crate::NoMemory;
+use std::alloc::Global;
+use std::marker::Model;
+
+/// Documents a word.
+pub(crate) const WORD: u32 = 64;
+
+/// A set of the documents of a segment, seen as one flag a document.
+///
+/// A document is one bit, 64 to a word, and the bits past the last document are 0.
+#[derive(Drop)]
+pub struct BitSet {
+    words: Vec<u64>,
+    len: u32,
+}
+
+impl Model for BitSet {
+    ghost use Rattle.std.specs.Prelude.{Bool, List};
+    ghost use Rattle.block_bits.specs.Flags.{flags, IsTight};
+
+    ghost Value = { List Bool };
+
+    ghost view = { λ set. flags set.words.items set.len };
+
+    ghost invariant = { λ set. IsTight set.words.items set.len };
+}
+
+impl BitSet {
+    /// The set of none of `len` documents.
+    pub fn empty(alloc: Global, len: u32) -> Result<BitSet, NoMemory>
+        ensures { IfOk result (λ set. set ≡ replicate len false) }
+    {
+        let words = zero_words(alloc, len.div_ceil(WORD) as usize)?;
+        Ok(BitSet { words, len })
+    }
+
+    /// How many documents there are, in the set or not.
+    pub fn len(&self) -> u32
+        ensures { result ≡ length self.now }
+    {
+        self.len
+    }
+
+    /// Puts a document into the set.
+    pub fn set(&mut self, at: u32)
+        requires { at < length self.old }
+        ensures { self.new ≡ slice_set self.old at true }
+    {
+        self.words[(at / WORD) as usize] |= 1 << (at % WORD);
+    }
+
+    /// Takes a document out of the set.
+    pub fn clear(&mut self, at: u32)
+        requires { at < length self.old }
+        ensures { self.new ≡ slice_set self.old at false }
+    {
+        self.words[(at / WORD) as usize] &= !(1 << (at % WORD));
+    }
+
+    /// Whether a document is in the set.
+    pub fn has(&self, at: u32) -> bool
+        requires { at < length self.now }
+        ensures { result ≡ slice_index_or self.now at false }
+    {
+        (self.words[(at / WORD) as usize] >> (at % WORD)) & 1 == 1
+    }
+
+    /// The first document of the set at or after `from`.
+    pub fn next_set(&self, from: u32) -> Option<u32>
+        ensures value { result ≡ next_place is_marked from self.now }
+        ensures within { IfSome result (λ at. (from ≤ at) × (at < length self.now)) }
+        ensures numbered { length self.now < 2 ^ 32 }
+    {
+        self.next_set_before(from, self.len())
+    }
+
+    /// The first document of the set at or after `from` and before `end`.
+    ///
+    /// It looks at the words between the two and no further.
+    pub(crate) fn next_set_before(&self, from: u32, end: u32) -> Option<u32>
+        requires { end ≤ length self.now }
+        ensures value { result ≡ next_place is_marked from (take end self.now) }
+        ensures within { IfSome result (λ at. (from ≤ at) × (at < end)) }
+    {
+        if from >= end {
+            return None;
+        }
+        let last = ((end - 1) / WORD) as usize;
+        let mut place = (from / WORD) as usize;
+        let mut word = self.words[place] & (u64::MAX << (from % WORD));
+        'words: while word == 0 {
+            if place == last {
+                return None;
+            }
+            place += 1;
+            word = self.words[place];
+        }
+        let at = place as u64 * WORD as u64 + word.trailing_zeros() as u64;
+        if at < end as u64 {
+            Some(at as u32)
+        } else {
+            None
+        }
+    }
+
+    /// The last document of the set before `below`.
+    pub fn prev_set(&self, below: u32) -> Option<u32>
+        ensures value { result ≡ previous_place is_marked below self.now }
+        ensures within { IfSome result (λ at. (at < below) × (at < length self.now)) }
+    {
+        let end = below.min(self.len);
+        if end == 0 {
+            return None;
+        }
+        let last = end - 1;
+        let mut place = (last / WORD) as usize;
+        let mut word = self.words[place] & (u64::MAX >> (63 - last % WORD));
+        'words: while word == 0 {
+            if place == 0 {
+                return None;
+            }
+            place -= 1;
+            word = self.words[place];
+        }
+        Some(place as u32 * WORD + (63 - word.leading_zeros()))
+    }
+
+    /// Keeps the documents that are in `other` too.
+    pub fn and(&mut self, other: &BitSet)
+        requires { length self.old ≡ length other.now }
+        ensures { self.new ≡ intersection self.old other.now }
+    {
+        'words: for place in 0..self.words.len() {
+            self.words[place] &= other.words[place];
+        }
+    }
+
+    /// Adds the documents of `other`.
+    pub fn or(&mut self, other: &BitSet)
+        requires { length self.old ≡ length other.now }
+        ensures { self.new ≡ union self.old other.now }
+    {
+        'words: for place in 0..self.words.len() {
+            self.words[place] |= other.words[place];
+        }
+    }
+
+    /// Takes out the documents of `other`.
+    pub fn and_not(&mut self, other: &BitSet)
+        requires { length self.old ≡ length other.now }
+        ensures { self.new ≡ difference self.old other.now }
+    {
+        'words: for place in 0..self.words.len() {
+            let taken = other.words[place];
+            self.words[place] &= !taken;
+        }
+    }
+
+    /// How many documents are in the set.
+    pub fn count(&self) -> u32
+        ensures { result ≡ count_by is_marked self.now }
+    {
+        let mut total = 0u64;
+        'words: for word in &self.words {
+            total += word.count_ones() as u64;
+        }
+        total as u32
+    }
+
+    /// Word `place` of the set: its first document in the lowest bit, and 0 past the last document.
+    pub(crate) fn word(&self, place: u32) -> u64
+        requires { 64 * place < length self.now }
+        ensures { (i : ℕ) → i < 64 → (bit_at result i == 1) ≡ slice_index_or self.now (64 * place + i) false }
+    {
+        self.words[place as usize]
+    }
+}
+
+/// So many words of no document.
+fn zero_words(alloc: Global, count: usize) -> Result<Vec<u64>, NoMemory>
+    ensures { IfOk result (λ words. words.items ≡ replicate count 0) }
+{
+    Ok(vec![in alloc; 0; count]?)
+}
