@@ -37,10 +37,10 @@ cut_at (b ∷ bs) (suc at) within here =
 pub found_cut : (bytes : List ℕ) (r : Option ℕ) → IsFirstByte (is_byte newline) bytes r → IfSome r (λ at. IsCutAt at bytes)
 found_cut bytes None first = tt
 found_cut bytes (Some at) first = record {
-    within = first.0.high;
-    parts = cut_at bytes at first.0.high first.1;
-    plain = plain_front bytes at (let h : at < length bytes = first.0.high in omega arith) first.0.before
-  }
+  within = first.0.high;
+  parts = cut_at bytes at first.0.high first.1;
+  plain = plain_front bytes at (let h : at < length bytes = first.0.high in omega arith) first.0.before;
+}
 
 pub none_cut : (bytes : List ℕ) (r : Option ℕ) → IsFirstByte (is_byte newline) bytes r → IfNone r (has_newline bytes ≡ false)
 none_cut bytes None first = rw (sym (take_all (length bytes) bytes (omega arith))) (plain_front bytes (length bytes) (omega arith) first)

@@ -26,7 +26,7 @@ pub data Asked : Type 0 where
 -- the member of an object that has just one
 abbrev pub single_of : Members → Option (List ℕ × JsonValue)
 single_of no_members = None
-single_of (member name only no_members) = Some (name , only)
+single_of (member name only no_members) = Some (name, only)
 single_of (member name first (member other second rest)) = None
 
 -- an id is a text of 1 to 512 bytes

@@ -91,11 +91,7 @@ fn action_by(
     }
 }
 
-fn index_action(
-    alloc: Global,
-    id: JsonText,
-    second: SourceLine<'_>,
-) -> Result<Action, NoAction>
+fn index_action(alloc: Global, id: JsonText, second: SourceLine<'_>) -> Result<Action, NoAction>
     ensures ok { IfOk result (λ a. index_with id (source_of second.entry) ≡ action (action_view a)) }
     ensures refused { IfErr result (IsRefused (index_with id (source_of second.entry))) }
 {
@@ -143,7 +139,11 @@ fn object_of(value: Json) -> Option<JsonObject>
 fn only(members: &[(JsonText, Json)]) -> Option<&(JsonText, Json)>
     ensures { option_map (λ it. (it.now.0, view it.now.1)) result ≡ single_of (members_of (entries members.now)) }
 {
-    if members.len() == 1 { Some(&members[0]) } else { None }
+    if members.len() == 1 {
+        Some(&members[0])
+    } else {
+        None
+    }
 }
 
 // The one member of an object.
@@ -210,7 +210,11 @@ fn id(value: Json) -> Option<JsonText>
     match value {
         Json::Text(id) => {
             let len = id.as_slice().len();
-            if 1 <= len && len <= LONGEST_ID { Some(id) } else { None }
+            if 1 <= len && len <= LONGEST_ID {
+                Some(id)
+            } else {
+                None
+            }
         }
         Json::Null => None,
         Json::Bool(_) => None,
