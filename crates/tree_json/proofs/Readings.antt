@@ -4,7 +4,7 @@ use Rattle.std.proofs.lemmas.Str.{IsUtf8-from_is_utf8, is_utf8-from_IsUtf8}
 use Rattle.std.specs.Str.{IsUtf8, is_utf8}
 use Rattle.serde_json.specs.Data.{Data}
 use Rattle.serde_json.specs.Read.{read}
-use Rattle.tree_json.specs.Reading.{Reading, bad_json, fraction, value, reading, reading_of_data, whole_value}
+use Rattle.tree_json.specs.Reading.{bad_json, fraction, value, reading, whole_value}
 use Rattle.tree_json.specs.Value.{JsonValue}
 
 pub reading_value : (bytes : List ℕ) (d : Data) (v : JsonValue) → IsUtf8 bytes × (read bytes ≡ Some d) → whole_value d ≡ Some v → reading bytes ≡ value v
