@@ -9,6 +9,8 @@ mod out_text;
 mod printer;
 mod quote;
 mod reader;
+#[cfg(test)]
+mod tests;
 mod value;
 mod whole;
 
