@@ -49,9 +49,7 @@ pub fn put_bytes(into: &mut Vec<u8>, value: &[u8]) -> Result<(), NoMemory>
     ensures ok { OnOk result (into.new.items ≡ into.old.items ++ spelled_bytes value.now) }
     ensures unchanged { OnErr result (into.new.items ≡ into.old.items) }
     ensures room_stays { vec_capacity into.old ≤ vec_capacity into.new }
-    ensures only_without_room {
-        OnErr result (vec_capacity into.old < vec_len into.old + (4 + length value.now))
-    }
+    ensures only_without_room { OnErr result (vec_capacity into.old < vec_len into.old + (4 + length value.now)) }
 {
     let length = value.len();
     into.reserve(4 + length)?;
