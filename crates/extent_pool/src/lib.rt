@@ -12,3 +12,6 @@ mod taken;
 
 pub use extent::{Extent, ExtentList, UNIT};
 pub use pool::{ExtentPool, PoolRefusal, TakeRefusal};
+
+#[cfg(test)]
+mod tests;
