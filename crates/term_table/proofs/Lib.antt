@@ -1,3 +1,3 @@
-pub mod Rows
+pub mod Flat
 pub mod Tables
 pub mod Orders

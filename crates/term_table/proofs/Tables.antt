@@ -6,7 +6,7 @@ use Rattle.std.proofs.lemmas.List.{get_or_append_left, get_or_push, length_push,
 use Rattle.std.proofs.lemmas.Option.{slice_get-get_or}
 use Rattle.term_table.specs.Kept.{row, AreStarts, term_at, terms_of}
 use Rattle.std.proofs.lemmas.Grind.{common_steps}
-use Rattle.term_table.proofs.Rows.{row-push_before, row-push_last, AreStarts-push}
+use Rattle.term_table.proofs.Flat.{row-push_before, row-push_last, AreStarts-push}
 
 pub length-terms_of : (fields starts bytes : List ℕ) → length (terms_of fields starts bytes) ≡ length fields
 unfolding terms_of
