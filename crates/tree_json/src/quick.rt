@@ -24,7 +24,7 @@ const MAX_LEVELS: usize = 127;
 // The greatest number of members among which one is put out of order.
 const MAX_SHIFTED: usize = 32;
 
-// Why there is no value.
+// Why there is no value: the text is no JSON, it is left to another way, or an allocation failed.
 #[derive(Clone, Copy, Debug, PartialEq, Eq)]
 pub(crate) enum Stop {
     BadJson,
@@ -65,6 +65,7 @@ impl<T: Drop> From<AllocFailed<T>> for Stop {
     }
 }
 
+// The value that the whole text is.
 #[tactic(auto, using(crate::proofs::Tokens::texts))]
 pub(crate) fn read_text(alloc: Global, text: &str, scratch: &mut Scratch) -> Result<Json, Stop>
     ensures ok { IfOk result (λ j. SaysText (read text.now) (view j)) }
@@ -80,6 +81,7 @@ pub(crate) fn read_text(alloc: Global, text: &str, scratch: &mut Scratch) -> Res
     Ok(value)
 }
 
+// The value that begins at the reader's place.
 #[cycle(quick)]
 fn read_value(alloc: Global, reader: &mut Reader<'_>, depth: usize) -> Result<Json, Stop>
     ensures ok { IfOk result
@@ -169,6 +171,7 @@ fn put_among(members: &mut Vec<(JsonText, Json)>, name: JsonText, value: Json) -
     Ok(())
 }
 
+// Whether the name comes after all of these.
 #[tactic(auto, using(crate::proofs::Insertion::comes_last_is))]
 fn comes_last(members: &[(JsonText, Json)], name: &[u8]) -> bool
     requires { IsAscending (entries members.now) }

@@ -73,7 +73,7 @@ impl JsonReader {
         }
     }
 
-    /// The value that the bytes say.
+    /// The value that the bytes say (RFC 8259). A repeated name keeps its last value.
     #[tactic(auto, using(crate::proofs::Readings::readings))]
     pub fn read(&mut self, alloc: Global, bytes: &[u8]) -> Result<Json, JsonRefusal>
         ensures ok { IfOk result (λ j. reading bytes.now ≡ value (view j)) }
@@ -93,7 +93,7 @@ impl JsonReader {
     }
 }
 
-/// The value that the bytes say.
+/// The value that the bytes say, over a buffer of its own: `JsonReader` reads many lines over one.
 pub fn read(alloc: Global, bytes: &[u8]) -> Result<Json, JsonRefusal>
     ensures ok { IfOk result (λ j. reading bytes.now ≡ value (view j)) }
     ensures bad { IsErrOf result JsonRefusal.BadJson → reading bytes.now ≡ bad_json }
