@@ -22,6 +22,6 @@ u64_from from bytes at n long small is here =
 pub small_part : (from part : List ℕ) (at k : ℕ) → ((i : ℕ) → Fits w8 (get_or from i 0)) → part ≡ take k (drop at from) → (i : ℕ) → get_or part i 0 < 256
 small_part from part at k small here i =
     ⊎_elim
-        (λ (below : i < k). rw here (rw (get_or-take k (drop at from) i 0 below, get_or-drop at from i 0) (small (at + i)).fits))
-        (λ (past : k ≤ i). rw (get_or_past part i 0 (rw here (omega (arith, length-take k (drop at from))))) (omega arith))
-        (cases_lt i k)
+    (λ (below : i < k). rw here (rw (get_or-take k (drop at from) i 0 below, get_or-drop at from i 0) (small (at + i)).fits))
+    (λ (past : k ≤ i). rw (get_or_past part i 0 (rw here (omega (arith, length-take k (drop at from))))) (omega arith))
+    (cases_lt i k)

@@ -30,7 +30,7 @@ pub fn put_u32(into: &mut Vec<u8>, value: u32) -> Result<(), NoMemory>
     ensures room_stays { vec_capacity into.old ≤ vec_capacity into.new }
     ensures only_without_room { OnErr result (vec_capacity into.old < vec_len into.old + 4) }
 {
-    Ok(into.extend_from_slice(&value.to_le_bytes())?)
+    Ok(into.extend_from_slice(&u32::to_le_bytes(value))?)
 }
 
 /// Appends eight bytes, the lowest first. After NoMemory nothing has been written.
@@ -40,7 +40,7 @@ pub fn put_u64(into: &mut Vec<u8>, value: u64) -> Result<(), NoMemory>
     ensures room_stays { vec_capacity into.old ≤ vec_capacity into.new }
     ensures only_without_room { OnErr result (vec_capacity into.old < vec_len into.old + 8) }
 {
-    Ok(into.extend_from_slice(&value.to_le_bytes())?)
+    Ok(into.extend_from_slice(&u64::to_le_bytes(value))?)
 }
 
 /// Appends the length of the bytes as a u32, and then the bytes. After NoMemory nothing has been written.
@@ -49,9 +49,7 @@ pub fn put_bytes(into: &mut Vec<u8>, value: &[u8]) -> Result<(), NoMemory>
     ensures ok { OnOk result (into.new.items ≡ into.old.items ++ spelled_bytes value.now) }
     ensures unchanged { OnErr result (into.new.items ≡ into.old.items) }
     ensures room_stays { vec_capacity into.old ≤ vec_capacity into.new }
-    ensures only_without_room {
-        OnErr result (vec_capacity into.old < vec_len into.old + (4 + length value.now))
-    }
+    ensures only_without_room { OnErr result (vec_capacity into.old < vec_len into.old + (4 + length value.now)) }
 {
     let length = value.len();
     into.reserve(4 + length)?;

@@ -1,9 +1,8 @@
 -- Giving back: the bytes of an extent become a hole, one with its neighbours.
-use Rattle.std.proofs.Common.{◌≡◌, ℕ, suc, ◌+◌, ◌-◌, ◌*◌, ◌/◌, ◌%◌, ◌<◌, ◌≤◌, ◌==◌, Bool, true, false, not, cond, nat_le, nat_lt, List, [], ◌∷◌, ◌++◌, length, Option, Some, None, refl, sym, ap, ◌∙◌, subst, arith}
-use Rattle.extent_pool.specs.declared.extent.TheConstants.{UNIT}
+use Rattle.std.proofs.Common.{◌≡◌, ℕ, ◌+◌, ◌-◌, ◌<◌, ◌≤◌, ◌==◌, true, false, List, [], ◌∷◌, ◌++◌, length, Some, subst, arith}
 use Rattle.extent_pool.specs.declared.extent.Extent.{Extent}
-use Rattle.extent_pool.specs.Extents.{rounded, end_of}
-use Rattle.extent_pool.specs.Gaps.{AreLaid, gap, gaps, whole}
+use Rattle.extent_pool.specs.Extents.{end_of}
+use Rattle.extent_pool.specs.Gaps.{AreLaid, gap, gaps}
 use Rattle.std.specs.List.{find}
 use Rattle.extent_pool.specs.Changes.{without_extent, in_front, freed}
 use Rattle.extent_pool.proofs.Laid.{split}
@@ -23,9 +22,13 @@ gaps_from_earlier : (es : List Extent) (from to end : ℕ) → AreLaid to es end
 gaps_from_earlier [] from to end laid h = grind arith
 gaps_from_earlier (e ∷ es) from to end laid h = grind (arith, in_front_apart es (end_of e) end from to laid.3)
 
-found_place : (es : List Extent) (from end at : ℕ) (e : Extent) → AreLaid from es end → find (λ x. x.at == at) es ≡ Some e → from ≤ at
+pub found_place : (es : List Extent) (from end at : ℕ) (e : Extent) → AreLaid from es end → find (λ x. x.at == at) es ≡ Some e → from ≤ at
 found_place [] from end at e laid is = grind arith
 found_place (x ∷ xs) from end at e laid is = grind (arith, found_place xs (end_of x) end at e laid.3)
+
+pub found_len : (es : List Extent) (from end at : ℕ) (e : Extent) → AreLaid from es end → find (λ x. x.at == at) es ≡ Some e → 1 ≤ e.len
+found_len [] from end at e laid is = grind arith
+found_len (x ∷ xs) from end at e laid is = grind (arith, found_len xs (end_of x) end at e laid.3)
 
 laid_earlier : (es : List Extent) (from to end : ℕ) → AreLaid to es end → from ≤ to → AreLaid from es end
 laid_earlier [] from to end laid h = omega arith
@@ -35,8 +38,8 @@ pub laid_without : (es : List Extent) (from end at : ℕ) → AreLaid from es en
 laid_without [] from end at laid = laid
 laid_without (x ∷ xs) from end at laid =
     split (x.at == at)
-        (λ (same : (x.at == at) ≡ true). rw same (laid_earlier xs from (end_of x) end laid.3 (omega arith)))
-        (λ (other : (x.at == at) ≡ false). rw other (laid.0, laid.1, laid.2, laid_without xs (end_of x) end at laid.3))
+    (λ (same : (x.at == at) ≡ true). rw same (laid_earlier xs from (end_of x) end laid.3 (omega arith)))
+    (λ (other : (x.at == at) ≡ false). rw other (laid.0, laid.1, laid.2, laid_without xs (end_of x) end at laid.3))
 
 pub length-without : (es : List Extent) (at : ℕ) (e : Extent) → find (λ x. x.at == at) es ≡ Some e → length (without_extent at es) + 1 ≡ length es
 length-without [] at e is = grind arith
@@ -50,10 +53,10 @@ pub gaps_without : (es : List Extent) (from end : ℕ) (e : Extent) → AreLaid 
 gaps_without [] from end e laid is = grind arith
 gaps_without (x ∷ xs) from end e laid is =
     split (x.at == e.at)
-        (λ (same : (x.at == e.at) ≡ true).
-            let found = rw same at is in
-            let it : x ≡ e = cc in
-            rw same (subst (λ y. gaps from xs end ≡ freed y.at (end_of y) (gap from x.at ++ gaps (end_of x) xs end)) it (removed_here x xs from end laid)))
-        (λ (other : (x.at == e.at) ≡ false).
-            let found = rw other at is in
-            rw other (grind (arith, found_place xs (end_of x) end e.at e laid.3 found, gaps_without xs (end_of x) end e laid.3 found)))
+    (λ (same : (x.at == e.at) ≡ true).
+    let found = rw same at is in
+    let it : x ≡ e = cc in
+    rw same (subst (λ y. gaps from xs end ≡ freed y.at (end_of y) (gap from x.at ++ gaps (end_of x) xs end)) it (removed_here x xs from end laid)))
+    (λ (other : (x.at == e.at) ≡ false).
+    let found = rw other at is in
+    rw other (grind (arith, found_place xs (end_of x) end e.at e laid.3 found, gaps_without xs (end_of x) end e laid.3 found)))

@@ -1,5 +1,9 @@
 mod Units
 mod Laid
+mod Rising
 mod Taking
 mod Freeing
 mod Places
+mod Members
+mod Sorting
+mod Kept

@@ -1,5 +1,5 @@
 -- Lists changed at one place.
-use Rattle.std.proofs.Common.{◌≡◌, ℕ, zero, suc, ◌+◌, ◌-◌, ◌<◌, ◌≤◌, ◌==◌, Bool, true, false, cond, nat_lt, List, [], ◌∷◌, ◌++◌, length, length-append, take, drop, get_or, set, refl, sym, ap, ◌∙◌, subst, arith}
+use Rattle.std.proofs.Common.{◌≡◌, ℕ, zero, suc, ◌+◌, ◌-◌, ◌<◌, ◌≤◌, true, false, List, [], ◌∷◌, ◌++◌, length, length-append, take, drop, get_or, set, refl, sym, ap, ◌∙◌, subst, arith}
 use Rattle.std.specs.List.{prefix_len}
 use Rattle.std.proofs.lemmas.List.{get_or_default}
 use Rattle.std.proofs.lemmas.List.Folds.{length-prefix_len}
@@ -29,8 +29,8 @@ freed_parts at end [] = refl
 freed_parts at end (h ∷ hs) =
     let one_more : 1 + prefix_len (ends_before at) hs ≡ suc (prefix_len (ends_before at) hs) = omega arith in
     split (ends_before at h)
-        (λ (before : ends_before at h ≡ true). rw before (rw one_more (ap (λ xs. h ∷ xs) (freed_parts at end hs))))
-        (λ (behind : ends_before at h ≡ false). rw behind refl)
+    (λ (before : ends_before at h ≡ true). rw before (rw one_more (ap (λ xs. h ∷ xs) (freed_parts at end hs))))
+    (λ (behind : ends_before at h ≡ false). rw behind refl)
 
 pub freed_at : (at end place : ℕ) (hs : List Extent) → place ≡ prefix_len (ends_before at) hs → freed at end hs ≡ take place hs ++ freed_here at end (drop place hs)
 freed_at at end place hs is = rw is (freed_parts at end hs)
@@ -49,7 +49,7 @@ in_front_touching at end h hs e = grind arith
 pub joined_at : (hs : List Extent) (place at end : ℕ) (d : Extent) → place < length hs → (get_or hs place d).at ≡ end → set hs place (record { at = at; len = (get_or hs place d).at + (get_or hs place d).len - at }) ≡ take place hs ++ in_front at end (drop place hs)
 joined_at hs place at end d l touches =
     let here : (record { at = at; len = (get_or hs place d).at + (get_or hs place d).len - at } ∷ drop (place + 1) hs) ≡ in_front at end (drop place hs) =
-        sym (in_front_touching at end (get_or hs place d) (drop (place + 1) hs) touches) ∙ ap (in_front at end) (sym (rest_parts hs place d l)) in
+    sym (in_front_touching at end (get_or hs place d) (drop (place + 1) hs) touches) ∙ ap (in_front at end) (sym (rest_parts hs place d l)) in
     set_parts hs place (record { at = at; len = (get_or hs place d).at + (get_or hs place d).len - at }) l ∙ ap (λ xs. take place hs ++ xs) here
 
 gap_behind : (h : Extent) (size : ℕ) → size < h.len → gap (h.at + size) (h.at + h.len) ≡ record { at = h.at + size; len = h.len - size } ∷ []
@@ -59,7 +59,7 @@ gap_behind h size less = grind arith
 pub shortened_at : (hs : List Extent) (place size : ℕ) (d e : Extent) → place < length hs → size < (get_or hs place d).len → set hs place (record { at = (get_or hs place d).at + size; len = (get_or hs place d).len - size }) ≡ take place hs ++ (gap ((get_or hs place e).at + size) ((get_or hs place e).at + (get_or hs place e).len) ++ drop (place + 1) hs)
 shortened_at hs place size d e l less =
     rw (get_or_default hs place e d l, gap_behind (get_or hs place d) size less)
-        (set_parts hs place (record { at = (get_or hs place d).at + size; len = (get_or hs place d).len - size }) l)
+    (set_parts hs place (record { at = (get_or hs place d).at + size; len = (get_or hs place d).len - size }) l)
 
 -- an extent among those that stand in order ends at the end or before
 pub laid_at : (es : List Extent) (i from end : ℕ) (d : Extent) → AreLaid from (drop i es) end → i < length es → end_of (get_or es i d) ≤ end

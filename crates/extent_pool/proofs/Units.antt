@@ -1,11 +1,10 @@
 -- The maximal runs of free units are the gaps between extents that stand in order.
-use Rattle.std.proofs.Common.{◌≡◌, ℕ, zero, suc, ◌+◌, ◌-◌, ◌*◌, ◌/◌, ◌%◌, ◌<◌, ◌≤◌, ◌==◌, Bool, true, false, not, cond, nat_le, nat_lt, List, [], ◌∷◌, ◌++◌, refl, sym, ap, ◌∙◌, subst, arith}
-use Rattle.std.proofs.lemmas.Grind.{common_steps}
+use Rattle.std.proofs.Common.{◌≡◌, ℕ, zero, suc, ◌+◌, ◌-◌, ◌*◌, ◌/◌, ◌<◌, ◌≤◌, ◌==◌, Bool, true, false, not, List, [], ◌∷◌, ◌++◌, refl, sym, ap, ◌∙◌, subst, arith}
 use Rattle.std.proofs.lemmas.List.{append-nil}
 use Rattle.std.specs.List.{list_any}
 use Rattle.extent_pool.specs.declared.extent.TheConstants.{UNIT}
 use Rattle.extent_pool.specs.declared.extent.Extent.{Extent}
-use Rattle.extent_pool.specs.Extents.{rounded, end_of, keeps}
+use Rattle.extent_pool.specs.Extents.{end_of, keeps}
 use Rattle.extent_pool.specs.Holes.{is_free, with_unit, runs}
 use Rattle.extent_pool.specs.Gaps.{AreLaid, gap, gaps}
 
@@ -71,11 +70,11 @@ same_behind e es unit h = grind (arith, keeps_behind e (unit * UNIT) h)
 past_extent : (e : Extent) (es : List Extent) (unit count start stop rest end : ℕ) → e.at ≡ start * UNIT → end_of e ≡ stop * UNIT → unit ≤ start → start < stop → unit + count ≡ stop + rest → AreLaid (end_of e) es end → runs (is_free es) stop rest ≡ gaps (end_of e) es end → runs (is_free (e ∷ es)) unit count ≡ gap (unit * UNIT) e.at ++ gaps (end_of e) es end
 past_extent e es unit count start stop rest end at_is end_is l s sum laid inner =
     let behind : runs (is_free (e ∷ es)) stop rest ≡ runs (is_free es) stop rest =
-        same_runs (is_free (e ∷ es)) (is_free es) stop rest (λ i l. same_behind e es i (omega arith)) in
+    same_runs (is_free (e ∷ es)) (is_free es) stop rest (λ i l. same_behind e es i (omega arith)) in
     let from_start : runs (is_free (e ∷ es)) start (stop - start + rest) ≡ gaps (end_of e) es end =
-        past_taken (is_free (e ∷ es)) start (stop - start) rest (stop - start + rest) stop refl (omega arith) (λ i l h. taken_inside e es i (omega arith) (omega arith)) ∙ (behind ∙ inner) in
+    past_taken (is_free (e ∷ es)) start (stop - start) rest (stop - start + rest) stop refl (omega arith) (λ i l h. taken_inside e es i (omega arith) (omega arith)) ∙ (behind ∙ inner) in
     let elsewhere : begins_elsewhere (start * UNIT) (runs (is_free (e ∷ es)) start (stop - start + rest)) ≡ true =
-        ap (begins_elsewhere (start * UNIT)) from_start ∙ gaps_behind es (end_of e) end (start * UNIT) laid (omega arith) in
+    ap (begins_elsewhere (start * UNIT)) from_start ∙ gaps_behind es (end_of e) end (start * UNIT) laid (omega arith) in
     past_free (is_free (e ∷ es)) unit (start - unit) (stop - start + rest) count start (omega arith) (omega arith) (λ i l h. free_in_front e es i end laid (omega arith)) elsewhere
     ∙ (ap (λ hs. gap (unit * UNIT) (start * UNIT) ++ hs) from_start ∙ ap (λ n. gap (unit * UNIT) n ++ gaps (end_of e) es end) (sym at_is))
 
@@ -92,6 +91,6 @@ runs_are_gaps (e ∷ es) unit count end is laid =
     let stop : end_of e ≡ end_of e / UNIT * UNIT = omega arith in
     let order : end_of e ≤ end = laid_order es (end_of e) end laid.3 in
     let inner : runs (is_free es) (end_of e / UNIT) (unit + count - end_of e / UNIT) ≡ gaps (end_of e / UNIT * UNIT) es end =
-        runs_are_gaps es (end_of e / UNIT) (unit + count - end_of e / UNIT) end (omega arith) (subst (λ n. AreLaid n es end) stop laid.3) in
+    runs_are_gaps es (end_of e / UNIT) (unit + count - end_of e / UNIT) end (omega arith) (subst (λ n. AreLaid n es end) stop laid.3) in
     past_extent e es unit count (e.at / UNIT) (end_of e / UNIT) (unit + count - end_of e / UNIT) end (omega arith) stop (omega arith) (omega arith) (omega arith) laid.3
-        (inner ∙ ap (λ n. gaps n es end) (sym stop))
+    (inner ∙ ap (λ n. gaps n es end) (sym stop))

@@ -1,5 +1,5 @@
 -- What taking and giving back change in lists of extents and of holes, both in ascending order of place.
-use Rattle.std.specs.Prelude.{ℕ, ◌+◌, ◌-◌, Bool, true, ◌&&◌, cond, ◌==◌, nat_lt, nat_le, List, [], ◌∷◌, ◌++◌}
+use Rattle.std.specs.Prelude.{◌≡◌, ℕ, ◌+◌, ◌-◌, ◌<◌, ◌≤◌, Bool, true, ◌&&◌, cond, ◌==◌, nat_lt, nat_le, List, [], ◌∷◌, ◌++◌, Some, length, take, drop, find, slice_index_or}
 use Rattle.extent_pool.specs.declared.extent.Extent.{Extent}
 use Rattle.extent_pool.specs.Extents.{end_of}
 use Rattle.extent_pool.specs.Gaps.{gap}
@@ -32,13 +32,20 @@ filled size [] = []
 filled size (h ∷ hs) =
     cond (nat_le size h.len) (gap (h.at + size) (h.at + h.len) ++ hs) (h ∷ filled size hs)
 
+-- The place of the first hole that is as long as the size, and what is left there without its front.
+pub record IsFirst (hs : List Extent) (size place : ℕ) : Type 0 where
+  pub inside : place < length hs
+  pub fits : (d : Extent) → size ≤ (slice_index_or hs place d).len
+  pub found : (d : Extent) → find (λ h. nat_le size h.len) hs ≡ Some (slice_index_or hs place d)
+  pub filled_is : (d : Extent) → filled size hs ≡ take place hs ++ (gap ((slice_index_or hs place d).at + size) ((slice_index_or hs place d).at + (slice_index_or hs place d).len) ++ drop (place + 1) hs)
+
 -- The holes and one more in front of them, which takes in the first where that begins at its end.
 abbrev pub in_front : ℕ → ℕ → List Extent → List Extent
 in_front at end [] = record { at = at; len = end - at } ∷ []
 in_front at end (h ∷ hs) =
     cond (h.at == end)
-        (record { at = at; len = h.at + h.len - at } ∷ hs)
-        (record { at = at; len = end - at } ∷ h ∷ hs)
+    (record { at = at; len = h.at + h.len - at } ∷ hs)
+    (record { at = at; len = end - at } ∷ h ∷ hs)
 
 -- The same where the first hole may end at the place, and none ends before it.
 abbrev pub freed_here : ℕ → ℕ → List Extent → List Extent

@@ -32,13 +32,11 @@ abbrev pub keeps : ℕ → Extent → Bool
 keeps byte e = nat_le e.at byte && nat_lt byte (end_of e)
 
 -- No byte belongs to two of the extents.
-abbrev pub AreDisjoint : List Extent → Type 0
-AreDisjoint es = (byte : ℕ) → count_by (keeps byte) es ≤ 1
+pub record AreDisjoint (es : List Extent) : Type 0 where
+  pub one_at_most : (byte : ℕ) → count_by (keeps byte) es ≤ 1
 
--- Each extent begins before the next.
-abbrev pub IsAscending : List Extent → Type 0
-IsAscending es = IsStrictlyIncreasing (map (λ e. e.at) es)
-
--- Each extent begins at a unit, and its units end at the limit or before.
-abbrev pub AreWithin : ℕ → List Extent → Type 0
-AreWithin limit es = All (λ e. (e.at % UNIT ≡ 0) × (end_of e ≤ limit)) es
+-- Each extent begins before the next, and at a unit, and its units end at the limit or before.
+pub record AreInOrder (limit : ℕ) (es : List Extent) : Type 0 where
+  pub ascending : IsStrictlyIncreasing (map (λ e. e.at) es)
+  pub aligned : All (λ e. e.at % UNIT ≡ 0) es
+  pub within : All (λ e. end_of e ≤ limit) es

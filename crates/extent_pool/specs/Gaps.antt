@@ -1,5 +1,5 @@
 -- What a pool keeps of its extents and holes: extents in order, one behind the other, and the gaps between them.
-use Rattle.std.specs.Prelude.{◌≡◌, ℕ, ◌+◌, ◌-◌, ◌*◌, ◌/◌, ◌%◌, ◌^◌, ◌<◌, ◌≤◌, cond, nat_lt, List, [], ◌∷◌, ◌++◌, length}
+use Rattle.std.specs.Prelude.{◌≡◌, ℕ, ◌+◌, ◌-◌, ◌*◌, ◌/◌, ◌%◌, ◌^◌, ◌≤◌, cond, nat_lt, List, [], ◌∷◌, ◌++◌, length}
 use Rattle.extent_pool.specs.declared.extent.TheConstants.{UNIT}
 use Rattle.extent_pool.specs.declared.extent.Extent.{Extent}
 use Rattle.extent_pool.specs.Extents.{Extents, end_of, room_of}

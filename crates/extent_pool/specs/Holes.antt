@@ -15,8 +15,8 @@ abbrev pub with_unit : ℕ → List Extent → List Extent
 with_unit unit [] = record { at = unit * UNIT; len = UNIT } ∷ []
 with_unit unit (h ∷ hs) =
     cond (h.at == (unit + 1) * UNIT)
-        (record { at = unit * UNIT; len = UNIT + h.len } ∷ hs)
-        (record { at = unit * UNIT; len = UNIT } ∷ h ∷ hs)
+    (record { at = unit * UNIT; len = UNIT + h.len } ∷ hs)
+    (record { at = unit * UNIT; len = UNIT } ∷ h ∷ hs)
 
 -- The maximal runs of units that pass the test, among `count` units from `unit` on.
 abbrev pub runs : (ℕ → Bool) → ℕ → ℕ → List Extent

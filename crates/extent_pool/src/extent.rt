@@ -1,4 +1,4 @@
-ghost use Rattle.std.specs.Prelude.{◌≡◌, ◌+◌, ◌≤◌, ◌<◌, ◌^◌, [], ◌∷◌, ◌++◌, ◌↔◌, length, insert, remove, slice_set, OnOk, IsTrue};
+ghost use Rattle.std.specs.Prelude.{◌≡◌, ◌+◌, ◌≤◌, ◌<◌, ◌^◌, [], ◌∷◌, ◌++◌, length, insert, remove, slice_set, OnOk, nat_le};
 ghost use Rattle.extent_pool.specs.Extents.{end_of, room_of};
 
 use std::alloc::AllocError;
@@ -23,12 +23,11 @@ impl Extent {
         self.at + self.len.next_multiple_of(UNIT)
     }
 
-    /// Whether its units end at the limit or before.
+    /// Whether its units end at the limit or before. It counts in units, so that no length is too long to be rounded.
     pub(crate) fn is_within(&self, limit: u64) -> bool
-        requires { self.now.len ≤ 2 ^ 60 }
-        ensures { IsTrue result ↔ (end_of self.now ≤ limit) }
+        ensures { result ≡ nat_le (end_of self.now) limit }
     {
-        self.at <= limit && self.len.next_multiple_of(UNIT) <= limit - self.at
+        self.at <= limit && self.len.div_ceil(UNIT) <= (limit - self.at) / UNIT
     }
 }
 

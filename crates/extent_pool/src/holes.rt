@@ -1,7 +1,7 @@
-ghost use Rattle.std.specs.Prelude.{◌≡◌, ℕ, ◌+◌, ◌-◌, ◌*◌, ◌/◌, ◌%◌, ◌≤◌, ◌<◌, ◌^◌, All, length, [], ◌∷◌, ◌++◌, Option, position, take, drop, slice_index_or};
+ghost use Rattle.std.specs.Prelude.{◌≡◌, ℕ, ◌+◌, ◌-◌, ◌*◌, ◌/◌, ◌%◌, ◌≤◌, ◌<◌, ◌^◌, All, length, [], ◌∷◌, ◌++◌, position, take, drop, slice_index_or};
 ghost use Rattle.std.specs.List.{prefix_len};
 ghost use Rattle.std.specs.List.Sorted.{IsNonDecreasingBy};
-ghost use Rattle.extent_pool.specs.Extents.{end_of, room_of};
+ghost use Rattle.extent_pool.specs.Extents.{room_of};
 ghost use Rattle.extent_pool.specs.Holes.{has_room};
 ghost use Rattle.extent_pool.specs.Gaps.{AreLaid, gaps, gap};
 ghost use Rattle.extent_pool.specs.Changes.{ends_before, freed, freed_here, in_front};
@@ -9,8 +9,8 @@ ghost use Rattle.extent_pool.specs.declared.extent.Extent.{Extent};
 
 use crate::extent::{Extent, ExtentList, UNIT};
 
-/// The place of the first hole that has room for the rounded length. It counts in units, so that no length is too long
-/// to be rounded.
+/// The place of the first hole that has room for the length, rounded up to whole units. It counts in units, so that no
+/// length is too long to be rounded.
 pub(crate) fn first_with_room(holes: &[Extent], len: u64) -> Option<usize>
     ensures { result ≡ position (has_room len) holes.now }
 {
@@ -41,7 +41,10 @@ fn add_gap(from: u64, end: u64, holes: &mut ExtentList)
     ensures room { room_of holes.new ≡ room_of holes.old }
 {
     if from < end {
-        holes.push(Extent { at: from, len: end - from });
+        holes.push(Extent {
+            at: from,
+            len: end - from,
+        });
     }
 }
 
@@ -51,16 +54,20 @@ pub(crate) fn shorten(holes: &mut ExtentList, place: usize, size: u64)
     requires place { place < length holes.old.extents }
     requires size { (d : Extent) → size ≤ (slice_index_or holes.old.extents place d).len }
     requires ends { All (λ h. h.at + h.len < 2 ^ 64) holes.old.extents }
-    ensures extents {
-        (d : Extent) → let hole = slice_index_or holes.old.extents place d in
+    ensures extents { (d : Extent) → let hole = slice_index_or holes.old.extents place d in
         holes.new.extents ≡ take place holes.old.extents
-            ++ (gap (hole.at + size) (hole.at + hole.len) ++ drop (place + 1) holes.old.extents)
-    }
+        ++ (gap (hole.at + size) (hole.at + hole.len) ++ drop (place + 1) holes.old.extents) }
     ensures room { room_of holes.new ≡ room_of holes.old }
 {
     let hole = holes.as_slice()[place];
     if size < hole.len {
-        holes.set(place, Extent { at: hole.at + size, len: hole.len - size });
+        holes.set(
+            place,
+            Extent {
+                at: hole.at + size,
+                len: hole.len - size,
+            },
+        );
     } else {
         holes.remove(place);
     }
@@ -94,10 +101,8 @@ fn join_before(holes: &mut ExtentList, place: usize, byte: u64) -> u64
     requires ends { All (λ h. h.at + h.len < 2 ^ 64) holes.old.extents }
     ensures start { result ≤ byte }
     ensures front { take place holes.new.extents ≡ take place holes.old.extents }
-    ensures joined {
-        (end : ℕ) → in_front result end (drop place holes.new.extents)
-            ≡ freed_here byte end (drop place holes.old.extents)
-    }
+    ensures joined { (end : ℕ) → in_front result end (drop place holes.new.extents)
+        ≡ freed_here byte end (drop place holes.old.extents) }
     ensures place { place ≤ length holes.new.extents }
     ensures ends { All (λ h. h.at + h.len < 2 ^ 64) holes.new.extents }
     ensures room { room_of holes.new ≡ room_of holes.old }
@@ -119,19 +124,21 @@ fn put_joined(holes: &mut ExtentList, place: usize, at: u64, end: u64)
     requires place { place ≤ length holes.old.extents }
     requires order { at < end }
     requires ends { All (λ h. h.at + h.len < 2 ^ 64) holes.old.extents }
-    requires room {
-        place + length (in_front at end (drop place holes.old.extents)) ≤ room_of holes.old
-    }
-    ensures extents {
-        holes.new.extents ≡ take place holes.old.extents
-            ++ in_front at end (drop place holes.old.extents)
-    }
+    requires room { place + length (in_front at end (drop place holes.old.extents)) ≤ room_of holes.old }
+    ensures extents { holes.new.extents ≡ take place holes.old.extents
+        ++ in_front at end (drop place holes.old.extents) }
     ensures room { room_of holes.new ≡ room_of holes.old }
 {
     if place < holes.as_slice().len() {
         let behind = holes.as_slice()[place];
         if behind.at == end {
-            holes.set(place, Extent { at, len: behind.at + behind.len - at });
+            holes.set(
+                place,
+                Extent {
+                    at,
+                    len: behind.at + behind.len - at,
+                },
+            );
             return;
         }
     }

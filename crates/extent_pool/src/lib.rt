@@ -8,7 +8,10 @@
 mod extent;
 mod holes;
 mod pool;
+mod taken;
 
 pub use extent::{Extent, ExtentList, UNIT};
 pub use pool::{ExtentPool, PoolRefusal, TakeRefusal};
 
+#[cfg(test)]
+mod tests;

@@ -14,7 +14,7 @@ use crate::line::{FirstLine, SourceLine};
 use crate::refusal::Refusal;
 use query_ast::{Query, SearchBody};
 use std::alloc::Global;
-use tree_json::{Json, JsonObject, JsonRefusal, JsonText, read};
+use tree_json::{Json, JsonObject, JsonReader, JsonRefusal, JsonText};
 
 /// The most bytes of an `_id`.
 const LONGEST_ID: usize = 512;
@@ -61,6 +61,7 @@ impl From<JsonRefusal> for NoAction {
 #[tactic(auto, unfolding(crate::specs::Action::asked_of))]
 pub(crate) fn action_of(
     alloc: Global,
+    reader: &mut JsonReader,
     first: FirstLine<'_>,
     second: SourceLine<'_>,
 ) -> Result<Action, NoAction>
@@ -70,14 +71,15 @@ pub(crate) fn action_of(
     match first {
         FirstLine::TooLong => Err(NoAction::Refused(Refusal::LineTooLong)),
         FirstLine::Whole(line) => {
-            let command = command_of(read(alloc, line)?);
-            action_by(alloc, command, second)
+            let command = command_of(reader.read(alloc, line)?);
+            action_by(alloc, reader, command, second)
         }
     }
 }
 
 fn action_by(
     alloc: Global,
+    reader: &mut JsonReader,
     command: Option<Command>,
     second: SourceLine<'_>,
 ) -> Result<Action, NoAction>
@@ -86,12 +88,17 @@ fn action_by(
 {
     match command {
         None => Err(NoAction::Refused(Refusal::BadRequest)),
-        Some(Command::Index(id)) => index_action(alloc, id, second),
+        Some(Command::Index(id)) => index_action(alloc, reader, id, second),
         Some(Command::Search(body)) => Ok(Action::Search(body)),
     }
 }
 
-fn index_action(alloc: Global, id: JsonText, second: SourceLine<'_>) -> Result<Action, NoAction>
+fn index_action(
+    alloc: Global,
+    reader: &mut JsonReader,
+    id: JsonText,
+    second: SourceLine<'_>,
+) -> Result<Action, NoAction>
     ensures ok { IfOk result (λ a. index_with id (source_of second.entry) ≡ action (action_view a)) }
     ensures refused { IfErr result (IsRefused (index_with id (source_of second.entry))) }
 {
@@ -100,7 +107,7 @@ fn index_action(alloc: Global, id: JsonText, second: SourceLine<'_>) -> Result<A
         SourceLine::Missing => Err(NoAction::Refused(Refusal::MissingSource)),
         SourceLine::TooLong => Err(NoAction::Refused(Refusal::LineTooLong)),
         SourceLine::Whole(line) => {
-            let source = read(alloc, line)?;
+            let source = reader.read(alloc, line)?;
             if is_object(&source) {
                 Ok(Action::Index(id, source))
             } else {

@@ -22,7 +22,7 @@ use source_steps::Steps;
 use std::alloc::Global;
 use std::marker::Model;
 use std::sync::ledger::Ledger;
-use tree_json::{Json, JsonText, OutText};
+use tree_json::{Json, JsonReader, JsonText, OutText};
 
 /// The answer to a request.
 #[derive(Clone, Copy, Debug, PartialEq, Eq)]
@@ -38,6 +38,7 @@ pub enum Answered {
 pub struct Engine {
     alloc: Global,
     limits: Limits,
+    reader: JsonReader,
     live: LiveTrees,
     next: u64,
     calls: u64,
@@ -70,6 +71,7 @@ impl Engine {
         Ok(Engine {
             alloc,
             limits: *limits,
+            reader: JsonReader::new(alloc),
             live: LiveTrees::empty(alloc),
             next: 0,
             calls: 0,
@@ -126,7 +128,7 @@ impl Engine {
         ensures calls { self.new.calls ≡ self.old.calls }
         ensures room { room_of out.old ≤ room_of out.new }
     {
-        match action_of(self.alloc, first, second) {
+        match action_of(self.alloc, &mut self.reader, first, second) {
             Ok(action) => self.perform(action, out),
             Err(NoAction::Refused(why)) => write_refusal(why, out),
             Err(NoAction::NoMemory) => Err(NoMemory),

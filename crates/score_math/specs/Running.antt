@@ -23,10 +23,10 @@ greatest_of_more (x ∷ xs) greatest s e =
 pub summary_of_more : (scores : List ℕ) (total count least greatest s : ℕ) → Summarizes scores total count least greatest → Summarizes (scores ++ s ∷ []) (total + s) (count + 1) (min least s) (max greatest s)
 summary_of_more scores total count least greatest s h =
     record {
-        total_is = omega (arith, sum_by-append (λ x. x) scores (s ∷ []));
-        count_is = omega (arith, length-append scores (s ∷ []));
-        least_is = least_of_more scores least s h.least_is;
-        greatest_is = greatest_of_more scores greatest s h.greatest_is
+      total_is = omega (arith, sum_by-append (λ x. x) scores (s ∷ []));
+      count_is = omega (arith, length-append scores (s ∷ []));
+      least_is = least_of_more scores least s h.least_is;
+      greatest_is = greatest_of_more scores greatest s h.greatest_is;
     }
 
 -- the greatest is no less than the score that it began with
@@ -47,5 +47,5 @@ total_is_bounded (x ∷ xs) total count least greatest h =
     let most : fold max x xs ≡ greatest = cc in
     let rest : sum xs ≤ length xs * greatest = sum_under x greatest xs (omega arith) in
     let all : sum (x ∷ xs) ≤ length (x ∷ xs) * greatest =
-        rw (suc-mul (length xs) greatest) (omega (arith, sum_by-cons (λ x. x) x xs, max_above x xs)) in
+    rw (suc-mul (length xs) greatest) (omega (arith, sum_by-cons (λ x. x) x xs, max_above x xs)) in
     rw (sym h.total_is, sym h.count_is) all

@@ -5,9 +5,7 @@ ghost use Rattle.score_math.specs.Integers.{floor_div};
 /// The number from -2^63 to 2^63 - 1 that is nearest to the sum.
 pub fn clamp64(sum: i128) -> i64
     ensures value { result ≡ saturate_signed w64 sum }
-    ensures nearest {
-        (n : ℤ) → FitsSigned w64 n → unsigned_abs (sum -ℤ result) ≤ unsigned_abs (sum -ℤ n)
-    }
+    ensures nearest { (n : ℤ) → FitsSigned w64 n → unsigned_abs (sum -ℤ result) ≤ unsigned_abs (sum -ℤ n) }
 {
     sum.clamp(i128::from(i64::MIN), i128::from(i64::MAX)) as i64
 }

@@ -36,10 +36,8 @@ pub fn combine(mode: ScoreMode, total: u128, count: u32, least: u64, greatest: u
     requires greatest_capped { greatest ≤ SCORE_CAP }
     requires total_bounded { total ≤ count * greatest }
 
-    ensures mode {
-        (scores : List ℕ) → Summarizes scores total count least greatest
-        → mode_of mode scores ≡ Some result
-    }
+    ensures mode { (scores : List ℕ) → Summarizes scores total count least greatest
+        → mode_of mode scores ≡ Some result }
     ensures within_cap { result ≤ SCORE_CAP }
 {
     match mode {

@@ -12,7 +12,11 @@ fn modes(rt: HostRuntime) -> Result<(), Fail> {
         (ScoreMode::Zero, 5, 2, 2, 3, 0),
     ];
     for (mode, total, count, least, greatest, wanted) in rows {
-        assert_eq!(rt; combine(mode, total, count, least, greatest), wanted, "{mode:?}");
+        assert_eq!(rt;
+            combine(mode, total, count, least, greatest),
+            wanted,
+            "{mode:?}"
+        );
     }
     Ok(())
 }
@@ -20,8 +24,20 @@ fn modes(rt: HostRuntime) -> Result<(), Fail> {
 #[test]
 fn caps(rt: HostRuntime) -> Result<(), Fail> {
     let n7 = 1_000_000_000_000_000_000;
-    assert_eq!(rt; combine(ScoreMode::Sum, 100 * u128::from(n7 / 100), 100, n7 / 100, n7 / 100), n7);
-    assert_eq!(rt; combine(ScoreMode::Sum, 100 * u128::from(n7), 100, n7, n7), SCORE_CAP);
+    assert_eq!(rt;
+        combine(
+            ScoreMode::Sum,
+            100 * u128::from(n7 / 100),
+            100,
+            n7 / 100,
+            n7 / 100
+        ),
+        n7
+    );
+    assert_eq!(rt;
+        combine(ScoreMode::Sum, 100 * u128::from(n7), 100, n7, n7),
+        SCORE_CAP
+    );
     let rows = [
         (2, 3, 5),
         (SCORE_CAP - 1, 1, SCORE_CAP),

@@ -1,5 +1,5 @@
 -- What stands in a quoted text for a byte, in each of the three cases, and for a run of bytes.
-use Rattle.std.proofs.Common.{get_or, add-one, append_assoc, drop-cons, ◌≡◌, ℕ, ◌+◌, ◌<◌, ◌≤◌, ◌/◌, ◌%◌, List, [], ◌∷◌, ◌++◌, length, take, drop, cond, nat_lt, nat_eq, refl, ap, ◌∙◌, sym, arith, true, false, ◌||◌}
+use Rattle.std.proofs.Common.{get_or, add-one, append_assoc, drop-cons, ◌≡◌, ℕ, ◌+◌, ◌<◌, ◌≤◌, ◌/◌, ◌%◌, List, [], ◌∷◌, ◌++◌, length, take, drop, cond, nat_lt, ap, ◌∙◌, arith}
 use Rattle.std.proofs.lemmas.Bool.Decides.{nat_tests}
 use Rattle.std.proofs.Math.Seq.{take-suc}
 use Rattle.std.specs.Char.{digit_char}

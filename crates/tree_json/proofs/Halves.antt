@@ -1,5 +1,5 @@
 -- Names that ascend, seen from one of them: where another name can stand before, at and after it.
-use Rattle.std.proofs.Common.{◌≡◌, ℕ, zero, suc, ◌+◌, ◌<◌, List as Seq, [], ◌∷◌, map, length, take, drop, get_or, refl, sym, ap, ◌∙◌, subst, arith, add-one, Bool, true, false, Option, Some, None, Ordering, Less, Equal, Greater, nat_cmp, is_eq, bytes_eq}
+use Rattle.std.proofs.Common.{◌≡◌, ℕ, zero, suc, ◌+◌, ◌<◌, List as Seq, [], ◌∷◌, map, length, take, drop, get_or, refl, sym, ap, ◌∙◌, subst, arith, add-one, Some, None, Ordering, Less, Equal, Greater, nat_cmp, is_eq, bytes_eq}
 use Rattle.std.proofs.lemmas.Cmp.{nat_list_cmp_total}
 use Rattle.std.proofs.lemmas.Map.Lookups.{exact_bytes}
 use Rattle.std.proofs.lemmas.Map.Text.{is_eq-slice_cmp}
@@ -27,12 +27,12 @@ AllAfter k ms = AllByRecursion (λ y. compared k y ≡ Less) (map (λ m. m.0) (e
 same_from : (k name : Seq ℕ) (r : Ordering) → compared k name ≡ r → bytes_eq k name ≡ is_eq r
 same_from k name r h = sym (is_eq-slice_cmp k name) ∙ ap is_eq h
 
-reversed : (x y : Seq ℕ) (r : Ordering) → compared x y ≡ r → compared y x ≡ ordering_reverse r
+pub reversed : (x y : Seq ℕ) (r : Ordering) → compared x y ≡ r → compared y x ≡ ordering_reverse r
 reversed x y r h = nat_list_cmp_total.antisymm y x ∙ ap ordering_reverse h
 
 -- ---- one name against a list
 
-after_at : (k : Seq ℕ) (ms : Seq Pair) (i : ℕ) (m : Pair) → AllAfter k ms → i < length ms → m ≡ get_or ms i m → compared k m.0 ≡ Less
+pub after_at : (k : Seq ℕ) (ms : Seq Pair) (i : ℕ) (m : Pair) → AllAfter k ms → i < length ms → m ≡ get_or ms i m → compared k m.0 ≡ Less
 after_at k [] i m all h e = absurd (omega arith)
 after_at k (x ∷ ms) zero m all h e = subst (λ (p : Pair). compared k p.0 ≡ Less) (sym e) all.0
 after_at k (x ∷ ms) (suc i) m all h e = let more : i < length ms = omega arith in after_at k ms i m all.1 more e

@@ -3,3 +3,6 @@ pub mod Sizes
 pub mod Halves
 pub mod Fronts
 pub mod Readings
+pub mod Insertion
+pub mod SoFar
+pub mod Tokens

@@ -1,6 +1,6 @@
 -- An element or a member is smaller than its list or object.
-use Rattle.std.proofs.Common.{◌≡◌, ℕ, zero, suc, ◌+◌, ◌<◌, ◌≤◌, List as Seq, [], ◌∷◌, length, get_or, arith}
-use Rattle.tree_json.specs.Value.{JsonValue, value_size, Elements, no_elements, element, elements_of, elements_size, Members, no_members, member, members_of, members_size}
+use Rattle.std.proofs.Common.{ℕ, zero, suc, ◌<◌, List as Seq, [], ◌∷◌, length, get_or, arith}
+use Rattle.tree_json.specs.Value.{value_size, Elements, no_elements, element, elements_of, elements_size, Members, no_members, member, members_of, members_size}
 use Rattle.tree_json.specs.View.{view, values, entries}
 use Rattle.tree_json.specs.declared.value.Json.{Json}
 

@@ -1,8 +1,8 @@
 -- An element or a member is smaller than its list or object, so that what goes down a value ends.
-use Rattle.std.specs.Prelude.{ℕ, ◌+◌, ◌≤◌, ◌≡◌, List as Seq, [], ◌∷◌, refl, map}
+use Rattle.std.specs.Prelude.{ℕ, ◌≤◌, ◌≡◌, List as Seq, [], ◌∷◌, refl, map}
 use Rattle.std.proofs.Common.{arith}
 use denote.Param.Weighed.{most}
-use Rattle.tree_json.specs.Value.{JsonValue, value_size, elements_of, elements_size, members_of, members_size}
+use Rattle.tree_json.specs.Value.{value_size, elements_of, elements_size, members_of, members_size}
 use Rattle.tree_json.specs.View.{view, entries}
 use Rattle.tree_json.specs.declared.value.Json.{Json}
 use Rattle.tree_json.specs.declared.value.Json.TheVariants.{Null, Bool, Whole, Text, List, Object}

@@ -6,3 +6,4 @@ pub mod Falls
 pub mod Reading
 pub mod Text
 pub mod Output
+pub mod Quick

@@ -1,5 +1,5 @@
 -- The compact text of a value (RFC 8259 without blanks), letter for letter as `serde_json` writes it.
-use Rattle.std.specs.Prelude.{ℕ, ℤ, List, ◌++◌, Bool, true, false, if◌then◌else◌, codes, [], decimal}
+use Rattle.std.specs.Prelude.{ℕ, List, ◌++◌, Bool, true, false, if◌then◌else◌, codes, []}
 use Rattle.std.specs.Fmt.{signed_decimal}
 use Rattle.json.specs.Print.{escape}
 use Rattle.tree_json.specs.Value.{JsonValue, null, bool, whole, text, list, object, Elements, no_elements, element, Members, no_members, member}

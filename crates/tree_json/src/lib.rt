@@ -7,14 +7,17 @@
 
 mod out_text;
 mod printer;
+mod quick;
 mod quote;
 mod reader;
+#[cfg(test)]
+mod tests;
 mod value;
 mod whole;
 
 pub use out_text::{NoMemory, OutText};
 pub use printer::{compact_len, print, put};
 pub use quote::{put_quoted, quoted_len};
-pub use reader::{JsonRefusal, read};
+pub use reader::{JsonReader, JsonRefusal, read};
 pub use value::{Json, JsonList, JsonObject, JsonText};
 pub use whole::{count_len, put_count, put_whole, whole_len};

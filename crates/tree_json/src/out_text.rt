@@ -41,7 +41,7 @@ impl Model for OutText {
 }
 
 impl OutText {
-    /// A text with no bytes and no room.
+    /// A text with no bytes and no room, which takes no memory.
     pub fn empty(alloc: Global) -> OutText
         ensures bytes { result.bytes ≡ [] }
         ensures spare { result.spare ≡ 0 }
@@ -51,7 +51,7 @@ impl OutText {
         }
     }
 
-    /// Makes room for this many more bytes.
+    /// Makes room for this many more bytes. After NoMemory nothing has changed.
     pub fn reserve(&mut self, bytes: u64) -> Result<(), NoMemory>
         ensures same { self.new.bytes ≡ self.old.bytes }
         ensures spare { OnOk result (bytes ≤ self.new.spare) }
@@ -94,6 +94,7 @@ impl OutText {
         self.bytes.clear();
     }
 
+    /// The bytes that were written.
     pub fn as_slice(&self) -> &[u8]
         ensures { result.now ≡ self.now.bytes }
     {

@@ -1,12 +1,16 @@
 //! From bytes to a value.
 ghost use Rattle.std.specs.Prelude.{◌≡◌, Some, None, OnOk, IfOk, IsErrOf, MatchResult};
 ghost use Rattle.serde_json.specs.View.{items_view, members_view, view as data_view};
+ghost use Rattle.serde_json.specs.Read.{read as read_data};
+ghost use Rattle.tree_json.specs.Quick.{SaysText, IsFraction};
 ghost use Rattle.tree_json.specs.Reading.{bad_json, fraction, reading, value, whole_value, whole_elements, whole_members};
 ghost use Rattle.tree_json.specs.Value.{elements_of, members_of};
 ghost use Rattle.tree_json.specs.View.{view};
 
 use crate::out_text::NoMemory;
+use crate::quick::{Stop, read_text};
 use crate::value::{Json, JsonList, JsonObject, JsonText};
+use json::Scratch;
 use serde_json::{Map, Value};
 use std::alloc::{AllocError, AllocFailed, Global};
 
@@ -55,14 +59,56 @@ impl<T: Drop> From<AllocFailed<T>> for JsonRefusal {
     }
 }
 
-/// The value that the bytes say.
-#[tactic(auto, using(crate::proofs::Readings::readings))]
+/// Reads values, one after another, over a buffer that it keeps.
+#[derive(Drop)]
+pub struct JsonReader {
+    scratch: Scratch,
+}
+
+impl JsonReader {
+    /// A reader that has no memory yet.
+    pub fn new(alloc: Global) -> JsonReader {
+        JsonReader {
+            scratch: Scratch::new(alloc),
+        }
+    }
+
+    /// The value that the bytes say (RFC 8259). A repeated name keeps its last value.
+    #[tactic(auto, using(crate::proofs::Readings::readings))]
+    pub fn read(&mut self, alloc: Global, bytes: &[u8]) -> Result<Json, JsonRefusal>
+        ensures ok { IfOk result (λ j. reading bytes.now ≡ value (view j)) }
+        ensures bad { IsErrOf result JsonRefusal.BadJson → reading bytes.now ≡ bad_json }
+        ensures fraction { IsErrOf result JsonRefusal.FractionNumber
+            → reading bytes.now ≡ fraction }
+    {
+        let Ok(text) = simdutf8::compat::from_utf8(bytes) else {
+            return Err(JsonRefusal::BadJson);
+        };
+        match read_text(alloc, text, &mut self.scratch) {
+            Ok(value) => Ok(value),
+            Err(Stop::BadJson) => Err(JsonRefusal::BadJson),
+            Err(Stop::Undecided) => read_slowly(alloc, text),
+            Err(Stop::NoMemory) => Err(JsonRefusal::NoMemory),
+        }
+    }
+}
+
+/// The value that the bytes say, over a buffer of its own: `JsonReader` reads many lines over one.
 pub fn read(alloc: Global, bytes: &[u8]) -> Result<Json, JsonRefusal>
     ensures ok { IfOk result (λ j. reading bytes.now ≡ value (view j)) }
     ensures bad { IsErrOf result JsonRefusal.BadJson → reading bytes.now ≡ bad_json }
     ensures fraction { IsErrOf result JsonRefusal.FractionNumber → reading bytes.now ≡ fraction }
 {
-    match Value::from_slice(alloc, bytes) {
+    JsonReader::new(alloc).read(alloc, bytes)
+}
+
+// By way of `serde_json`'s value, in which a repeated name has its last value and the names are sorted.
+fn read_slowly(alloc: Global, text: &str) -> Result<Json, JsonRefusal>
+    ensures ok { IfOk result (λ j. SaysText (read_data text.now) (view j)) }
+    ensures bad { IsErrOf result JsonRefusal.BadJson → read_data text.now ≡ None }
+    ensures fraction { IsErrOf result JsonRefusal.FractionNumber → IsFraction (read_data text.now) }
+{
+    match Value::from_str(alloc, text) {
         Ok(value) => Ok(json_of(alloc, value)?),
         Err(error) => if error.is_memory() {
             Err(JsonRefusal::NoMemory)

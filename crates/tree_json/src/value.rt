@@ -38,12 +38,14 @@ impl JsonText {
         JsonText { text }
     }
 
+    /// The text.
     pub fn as_str(&self) -> &str
         ensures { result.now ≡ self.now }
     {
         self.text.as_str()
     }
 
+    /// The bytes of the text.
     pub fn as_slice(&self) -> &[u8]
         ensures bytes { result.now ≡ self.now }
         ensures utf8 { IsUtf8 result.now }
@@ -135,18 +137,21 @@ pub enum Json {
 impl JsonList {
     ghost use Rattle.tree_json.specs.View.{values};
 
+    /// The list of these values, in order.
     pub fn of(items: Vec<Json>) -> JsonList
         ensures { result ≡ values items.items }
     {
         JsonList { items }
     }
 
+    /// The values, in order.
     pub fn as_slice(&self) -> &[Json]
         ensures { values result.now ≡ self.now }
     {
         self.items.as_slice()
     }
 
+    /// The values, in order, with no copy.
     pub fn into_vec(self) -> Vec<Json>
         ensures { values result.items ≡ self }
     {
@@ -160,7 +165,7 @@ impl JsonObject {
     ghost use Rattle.tree_json.specs.Value.{members_of, member_of};
     ghost use Rattle.tree_json.specs.View.{view, entries};
 
-    /// The object with these members.
+    /// The object with these members, whose names strictly ascend in byte order.
     pub fn of(members: Vec<(JsonText, Json)>) -> JsonObject
         requires { IsAscending (entries members.items) }
         ensures { result ≡ entries members.items }
@@ -168,6 +173,7 @@ impl JsonObject {
         JsonObject { members }
     }
 
+    /// The members, in ascending byte order of their names.
     pub fn as_slice(&self) -> &[(JsonText, Json)]
         ensures members { entries result.now ≡ self.now }
         ensures ascending { IsAscending self.now }
@@ -175,6 +181,7 @@ impl JsonObject {
         self.members.as_slice()
     }
 
+    /// The members, in ascending byte order of their names, with no copy.
     pub fn into_vec(self) -> Vec<(JsonText, Json)>
         ensures members { entries result.items ≡ self }
         ensures ascending { IsAscending self }

@@ -1,4 +1,4 @@
-use Rattle.std.proofs.Common.{rules, ◌≡◌, ℕ, ◌<◌, take, drop, get_or, length}
+use Rattle.std.proofs.Common.{rules, ◌≡◌, take, drop, length}
 use Rattle.byte_fields.proofs.Spelled.{u64_from, small_part}
 use Rattle.byte_fields.proofs.take.take_u64.Goals as goal
 
@@ -7,5 +7,5 @@ returns-clause-spelled c =
     let here : c.in_ok-bytes.bytes.now ≡ take 8 (drop c.args.at c.args.from.now) = search rules in
     let long : length c.in_ok-bytes.bytes.now ≡ 8 = search rules in
     u64_from c.args.from.now c.in_ok-bytes.bytes.now c.args.at c.from_le_bytes.result long
-        (small_part c.args.from.now c.in_ok-bytes.bytes.now c.args.at 8 c.type_inv.from here)
-        c.from_le_bytes.ensures here
+    (small_part c.args.from.now c.in_ok-bytes.bytes.now c.args.at 8 c.type_inv.from here)
+    c.from_le_bytes.ensures here

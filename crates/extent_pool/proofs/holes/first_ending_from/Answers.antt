@@ -11,5 +11,5 @@ returns c =
     let point = IsPartitionPoint-from_clause (ends_before c.args.byte) _ _ c.partition_point.ensures.partitioned parted (λ a r q k. search rules) in
     let d : Extent = record { at = 0; len = 0 } in
     sym (prefix_len_is (ends_before c.args.byte) c.args.holes.now c.partition_point.result d c.partition_point.ensures.bound
-        (λ k h. point.0 k d (omega arith) h)
-        (λ h. point.1 c.partition_point.result d (omega arith) h))
+    (λ k h. point.0 k d (omega arith) h)
+    (λ h. point.1 c.partition_point.result d (omega arith) h))

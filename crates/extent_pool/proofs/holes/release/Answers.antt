@@ -1,7 +1,6 @@
-use Rattle.std.proofs.Common.{◌≡◌, ℕ, ◌++◌, List, length, take, drop, sym, ap, ◌∙◌, arith}
+use Rattle.std.proofs.Common.{◌++◌, length, take, drop, sym, ap, ◌∙◌, arith}
 use Rattle.std.specs.List.{prefix_len}
 use Rattle.std.proofs.lemmas.List.Sums.{prefix_len-le-length}
-use Rattle.extent_pool.specs.declared.extent.Extent.{Extent}
 use Rattle.extent_pool.specs.Changes.{ends_before, in_front}
 use Rattle.extent_pool.proofs.Places.{freed_at, length-freed}
 use Rattle.extent_pool.proofs.holes.release.Goals as goal

@@ -1,0 +1,139 @@
+-- The values of a document among rows.
+use Rattle.std.proofs.Common.{◌≡◌, ℕ, ◌<◌, ◌^◌, ◌↔◌, ◌⊎◌, inl, inr, zero, suc, List, [], ◌∷◌, length, get_or, refl, sym, ◌∙◌, ap, subst, arith, Contains, Err, ◌≤◌, le_of_eq}
+use Rattle.std.specs.List.Sorted.{IsStrictlyIncreasing, IsSorted, IsBinarySearchResult}
+use Rattle.std.specs.Ordering.{nat_cmp}
+use Rattle.std.specs.declared.cmp.Ordering.{Ordering}
+use Rattle.std.proofs.lemmas.List.Sorted.{searched}
+use Rattle.std.proofs.lemmas.Bool.{cases_lt}
+use Rattle.std.proofs.lemmas.Bool.Decides.{nat_tests}
+use Rattle.std.proofs.lemmas.List.{length-map, get_or-map, get_or_default}
+use Rattle.std.proofs.lemmas.Map.Keys.{sorted_from_strictly_increasing, below_from_sorted}
+use Rattle.doc_values.specs.Values.{documents, values_of, AreRows}
+use Rattle.doc_values.specs.Kept.{row, row_at, rows_of}
+use Rattle.doc_values.proofs.Columns.{length-rows_of, get_or-rows_of}
+
+-- the first row of the document has its values
+values_of-first : {X : Type 0} (rows : List (ℕ × List X)) (at doc : ℕ) (d : ℕ × List X) → at < length rows → (get_or rows at d).0 ≡ doc → ((k : ℕ) → k < at → (get_or rows k d).0 ≡ doc → ⊥) → values_of doc rows ≡ (get_or rows at d).1
+values_of-first [] at doc d below is before = absurd (omega arith)
+values_of-first (r ∷ rows) zero doc d below is before = grind (arith, nat_tests)
+values_of-first (r ∷ rows) (suc at) doc d below is before =
+    let other : r.0 ≡ doc → ⊥ = λ same. before 0 (omega arith) same in
+    let rest : values_of doc rows ≡ (get_or rows at d).1 = values_of-first rows at doc d (omega arith) is (λ k early same. before (suc k) (omega arith) same) in
+    grind (arith, nat_tests, rest, other)
+
+-- no row is the document's
+values_of-absent : {X : Type 0} (rows : List (ℕ × List X)) (doc : ℕ) (d : ℕ × List X) → ((k : ℕ) → k < length rows → (get_or rows k d).0 ≡ doc → ⊥) → values_of doc rows ≡ []
+values_of-absent [] doc d never = refl
+values_of-absent (r ∷ rows) doc d never =
+    let other : r.0 ≡ doc → ⊥ = λ same. never 0 (omega arith) same in
+    let rest : values_of doc rows ≡ [] = values_of-absent rows doc d (λ k early same. never (suc k) (omega arith) same) in
+    grind (arith, nat_tests, rest, other)
+
+-- in a column: the row at the document's place, and nothing where it has none
+pub values_of-found : {X : Type 0} (docs starts : List ℕ) (values : List X) (at doc : ℕ) → IsStrictlyIncreasing docs → at < length docs → get_or docs at 0 ≡ doc → values_of doc (rows_of docs starts values) ≡ row starts values at
+values_of-found {X} docs starts values at doc ascend below is =
+    let rows = rows_of docs starts values in
+    let first : ℕ × List X = row_at docs starts values 0 in
+    let same : (k : ℕ) → k < length docs → get_or rows k first ≡ row_at docs starts values k = λ k inside. get_or-rows_of docs starts values k first inside in
+    values_of-first rows at doc first (omega (arith, length-rows_of docs starts values, below))
+    (ap (λ (r : ℕ × List X). r.0) (same at below) ∙ is)
+    (λ k earlier own.
+    let less : get_or docs k 0 < get_or docs at 0 = below_from_sorted docs k at 0 (sorted_from_strictly_increasing docs ascend) earlier below in
+    let there : get_or docs k 0 ≡ doc = sym (ap (λ (r : ℕ × List X). r.0) (same k (omega (arith, earlier, below)))) ∙ own in
+    absurd (omega (arith, less, there, is)))
+    ∙ ap (λ (r : ℕ × List X). r.1) (same at below)
+
+pub values_of-missing : {X : Type 0} (docs starts : List ℕ) (values : List X) (doc : ℕ) → (Contains docs doc → ⊥) → values_of doc (rows_of docs starts values) ≡ []
+values_of-missing {X} docs starts values doc never =
+    let first : ℕ × List X = row_at docs starts values 0 in
+    values_of-absent (rows_of docs starts values) doc first (λ k below own.
+    let inside : k < length docs = omega (arith, length-rows_of docs starts values, below) in
+    let there : get_or docs k 0 ≡ doc = sym (ap (λ (r : ℕ × List X). r.0) (get_or-rows_of docs starts values k first inside)) ∙ own in
+    never (k, inside, get_or_default docs k doc 0 inside ∙ there))
+
+-- a number that isn't the first is one of the rest
+contains_rest : (x : ℕ) (xs : List ℕ) (y k : ℕ) → k < length (x ∷ xs) → get_or (x ∷ xs) k y ≡ y → (x ≡ y → ⊥) → Contains xs y
+contains_rest x xs y zero below is other = absurd (other is)
+contains_rest x xs y (suc k) below is other = (k, omega arith, is)
+
+same_or_other : (m n : ℕ) → (m ≡ n) ⊎ (m ≡ n → ⊥)
+same_or_other m n = elim (cases_lt m n) [
+  | inl less ↦ inr (λ same. absurd (omega (arith, same, less)))
+  | inr from ↦ elim (cases_lt n m) [ inl more ↦ inr (λ same. absurd (omega (arith, same, more))) | inr to ↦ inl (omega (arith, from, to)) ]
+]
+
+-- either the document has no row and no values, or one of the rows is its own
+pub record HasRow {X : Type 0} (rows : List (ℕ × List X)) (doc : ℕ) : Type 0 where
+  pub at : ℕ
+  pub below : at < length rows
+  pub document : (d : ℕ × List X) → (get_or rows at d).0 ≡ doc
+  pub values : (d : ℕ × List X) → (get_or rows at d).1 ≡ values_of doc rows
+
+pub values_of-cases : {X : Type 0} (rows : List (ℕ × List X)) (doc : ℕ) → ((values_of doc rows ≡ []) × (Contains (documents rows) doc → ⊥)) ⊎ HasRow rows doc
+values_of-cases [] doc = inl (refl, λ there. absurd (omega (arith, there.1)))
+values_of-cases {X} (r ∷ rows) doc =
+    elim (same_or_other r.0 doc) [
+      | inl same ↦ inr (record {
+        at = 0;
+        below = omega arith;
+        document = λ d. same;
+        values = λ d. grind (arith, nat_tests, same);
+      })
+      | inr other ↦
+          let skipped : values_of doc (r ∷ rows) ≡ values_of doc rows = grind (arith, nat_tests, other) in
+          elim (values_of-cases rows doc) [
+            | inl none ↦ inl (skipped ∙ none.0, λ there. none.1 (contains_rest r.0 (documents rows) doc there.0 there.1 there.2 other))
+            | inr own ↦ inr (record {
+              at = suc own.at;
+              below = omega (arith, own.below);
+              document = own.document;
+              values = λ d. own.values d ∙ sym skipped;
+            })
+          ]
+    ]
+
+-- what is known of the values of a document of rows
+pub values_of-fewer : {X : Type 0} (cmp : X → X → Ordering) (rows : List (ℕ × List X)) (doc : ℕ) → AreRows cmp rows → length (values_of doc rows) < 2 ^ 32
+values_of-fewer {X} cmp rows doc are = elim (values_of-cases rows doc) [
+  | inl none ↦ let short : length (values_of doc rows) ≡ 0 = ap length none.0 in omega (arith, short)
+  | inr own ↦
+      let d : ℕ × List X = (0, []) in
+      let short : length (get_or rows own.at d).1 < 2 ^ 32 = (are.valued own.at d own.below).fewer in
+      omega (arith, short, ap length (own.values d))
+]
+
+pub values_of-ascending : {X : Type 0} (cmp : X → X → Ordering) (rows : List (ℕ × List X)) (doc : ℕ) → AreRows cmp rows → IsSorted cmp (values_of doc rows)
+values_of-ascending {X} cmp rows doc are = elim (values_of-cases rows doc) [
+  | inl none ↦ subst (IsSorted cmp) (sym none.0) (λ k d low high. absurd (omega (arith, high)))
+  | inr own ↦
+      let d : ℕ × List X = (0, []) in
+      subst (IsSorted cmp) (own.values d) (are.valued own.at d own.below).ascending
+]
+
+pub values_of-none : {X : Type 0} (cmp : X → X → Ordering) (rows : List (ℕ × List X)) (doc : ℕ) → AreRows cmp rows → (length (values_of doc rows) ≡ 0) ↔ ¬ Contains (documents rows) doc
+values_of-none {X} cmp rows doc are = elim (values_of-cases rows doc) [
+  | inl none ↦ (λ _. none.1, λ _. ap length none.0)
+  | inr own ↦
+      let d : ℕ × List X = (0, []) in
+      let some : 0 < length (get_or rows own.at d).1 = (are.valued own.at d own.below).some in
+      let first : ℕ × List X → ℕ = λ row. row.0 in
+      let there : Contains (documents rows) doc =
+      (own.at, omega (arith, length-map rows first, own.below), get_or-map first rows own.at d doc own.below ∙ own.document d) in
+      (λ empty. absurd (omega (arith, empty, some, ap length (own.values d))), λ never. absurd (never there))
+]
+
+-- a binary search that finds no place for a document shows that it isn't there
+pub searched_missing : (docs : List ℕ) (doc at : ℕ) → IsStrictlyIncreasing docs → IsBinarySearchResult (λ y. nat_cmp y doc) docs (Err at) → Contains docs doc → ⊥
+searched_missing docs doc at ascend result there =
+    let sorted = sorted_from_strictly_increasing docs ascend in
+    let rising : (i j : ℕ) → i ≤ j → j < length docs → get_or docs i 0 ≤ get_or docs j 0 = λ i j upto below.
+    elim (cases_lt i j) [
+      | inl less ↦ let smaller : get_or docs i 0 < get_or docs j 0 = below_from_sorted docs i j 0 sorted less below in omega (arith, smaller)
+      | inr from ↦ let same : i ≡ j = omega arith in le_of_eq (ap (λ k. get_or docs k 0) same)
+    ] in
+    let apart = searched docs doc (Err at) result rising in
+    let here : get_or docs there.0 0 ≡ doc = get_or_default docs there.0 0 doc there.1 ∙ there.2 in
+    elim (cases_lt there.0 at) [
+      | inl before ↦ let less : get_or docs there.0 0 < doc = apart.1 there.0 before in absurd (omega (arith, less, here))
+      | inr from ↦ let more : doc < get_or docs there.0 0 = apart.2 there.0 from there.1 in absurd (omega (arith, more, here))
+    ]

@@ -1,0 +1,3 @@
+pub mod Postings
+pub mod Kept
+pub mod Search
