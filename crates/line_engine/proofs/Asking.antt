@@ -1,13 +1,12 @@
 -- Requests, found in bytes whose lines are known.
-use Rattle.std.proofs.Common.{◌≡◌, ℕ, ◌+◌, ◌<◌, ◌≤◌, nat_lt, Bool, true, false, cond, List, [], ◌∷◌, ◌++◌, length, take, filter, Option, refl, sym, ap, subst, inl, inr, ◌∙◌, append_assoc, arith, length-append}
-use Rattle.std.proofs.lemmas.Grind.{common_steps}
+use Rattle.std.proofs.Common.{◌≡◌, ℕ, ◌<◌, nat_lt, Bool, true, false, cond, List, [], ◌∷◌, ◌++◌, length, take, filter, Option, refl, sym, ap, inl, inr, ◌∙◌, append_assoc, arith, length-append}
 use Rattle.std.proofs.lemmas.Bool.Decides.{nat_tests}
 use Rattle.std.proofs.lemmas.List.{take_all}
-use Rattle.line_engine.specs.Line.{Line, longest_line, kept, is_long}
-use Rattle.line_engine.specs.Request.{ReadLine, in_full, too_long, SourceLine, not_taken, missing, given, Request, takes_source, read_of, alone, with_source, without_source, grouped, grouped_with, requests, whole_requests}
+use Rattle.line_engine.specs.Line.{Line, longest_line, kept}
+use Rattle.line_engine.specs.Request.{ReadLine, in_full, too_long, SourceLine, not_taken, missing, given, Request, takes_source, read_of, alone, with_source, grouped, grouped_with, requests, whole_requests}
 use Rattle.line_engine.specs.Seen.{InputState, LineState}
 use Rattle.line_engine.specs.LineIn.{line_in}
-use Rattle.line_engine.specs.Fetch.{Uses, UsesAll, HasEnded, Holds, spoken, IsSpoken, IsUnfinished, IsRequest, SpeaksLine, SpeaksLast, SpeaksNone, SpeaksPast, SpeaksPart, AsksWhole, AsksLast, AsksNone, AsksPast, AsksPart, SourceRead, NextRead}
+use Rattle.line_engine.specs.Fetch.{Holds, spoken, IsSpoken, IsUnfinished, SpeaksLine, SpeaksLast, SpeaksNone, SpeaksPast, SpeaksPart, AsksWhole, AsksLast, AsksNone, AsksPast, AsksPart, SourceRead, NextRead}
 use Rattle.line_engine.specs.declared.fetch.Asked.TheVariants.{Alone, WithSource, WithoutSource}
 use Rattle.line_engine.specs.declared.fetch.Next.{Next}
 use Rattle.line_engine.specs.declared.fetch.Next.TheVariants.{Request as NextRequest, End, Limit, Fault}
@@ -55,40 +54,40 @@ requests_at used after line lines is = requests_spoken (used ++ after) ∙ ap gr
 pub asks_alone : (old new : InputState) (left left' : Option (List ℕ)) (line : LineState) → SpeaksLine old new left left' line → takes_source line.kept ≡ false →
     AsksWhole old new left left' (line_in line) not_taken
 asks_alone old new left left' line speaks none = record {
-    used = speaks.used;
-    uses = speaks.uses;
-    some = speaks.some;
-    asks = λ after.
+  used = speaks.used;
+  uses = speaks.uses;
+  some = speaks.some;
+  asks = λ after.
       requests_at speaks.used after (ended_line speaks.bytes) (spoken after) (speaks.speaks after)
       ∙ (grouped_alone (ended_line speaks.bytes) (spoken after) (taking speaks.bytes true false line speaks.holds none)
       ∙ (ap (λ (first : ReadLine). asking first not_taken true ∷ grouped (spoken after)) (read_in speaks.bytes true line speaks.holds)
       ∙ ap (λ (rest : List Request). asking (line_in line) not_taken true ∷ rest) (sym (requests_spoken after))));
-    going = speaks.going
-  }
+  going = speaks.going;
+}
 
 pub asks_last_alone : (old new : InputState) (left left' : Option (List ℕ)) (line : LineState) → SpeaksLast old new left left' line → takes_source line.kept ≡ false →
     AsksLast old new left left' (line_in line) not_taken
 asks_last_alone old new left left' line speaks none = record {
-    used = speaks.used;
-    uses = speaks.uses;
-    some = speaks.some;
-    asks = requests_spoken speaks.used ∙ (ap grouped speaks.speaks
+  used = speaks.used;
+  uses = speaks.uses;
+  some = speaks.some;
+  asks = requests_spoken speaks.used ∙ (ap grouped speaks.speaks
       ∙ (grouped_alone (last_line speaks.bytes) [] (taking speaks.bytes false false line speaks.holds none)
       ∙ ap (λ (first : ReadLine). asking first not_taken false ∷ []) (read_in speaks.bytes false line speaks.holds)));
-    ended = speaks.ended
-  }
+  ended = speaks.ended;
+}
 
 pub asks_last_missing : (old new : InputState) (left left' : Option (List ℕ)) (line : LineState) → SpeaksLast old new left left' line → takes_source line.kept ≡ true →
     AsksLast old new left left' (line_in line) missing
 asks_last_missing old new left left' line speaks some = record {
-    used = speaks.used;
-    uses = speaks.uses;
-    some = speaks.some;
-    asks = requests_spoken speaks.used ∙ (ap grouped speaks.speaks
+  used = speaks.used;
+  uses = speaks.uses;
+  some = speaks.some;
+  asks = requests_spoken speaks.used ∙ (ap grouped speaks.speaks
       ∙ (grouped_taking (last_line speaks.bytes) [] (taking speaks.bytes false true line speaks.holds some)
       ∙ ap (λ (first : ReadLine). asking first missing false ∷ []) (read_in speaks.bytes false line speaks.holds)));
-    ended = speaks.ended
-  }
+  ended = speaks.ended;
+}
 
 -- a first line that takes a source, and then other bytes
 spoken_both : (first second : List ℕ) (line : Line) → IsSpoken first line → spoken (first ++ second) ≡ line ∷ spoken second
@@ -100,51 +99,51 @@ some_used first second some = omega (arith, length-append first second)
 pub asks_both : (old mid new : InputState) (left left' left'' : Option (List ℕ)) (line next : LineState) → SpeaksLine old mid left left' line → takes_source line.kept ≡ true →
     SpeaksLine mid new left' left'' next → AsksWhole old new left left'' (line_in line) (given (line_in next))
 asks_both old mid new left left' left'' line next speaks some then = record {
-    used = speaks.used ++ then.used;
-    uses = uses_both old mid new left left' left'' speaks.used then.used speaks.uses then.uses;
-    some = some_used speaks.used then.used speaks.some;
-    asks = λ after.
+  used = speaks.used ++ then.used;
+  uses = uses_both old mid new left left' left'' speaks.used then.used speaks.uses then.uses;
+  some = some_used speaks.used then.used speaks.some;
+  asks = λ after.
       requests_at (speaks.used ++ then.used) after (ended_line speaks.bytes) (ended_line then.bytes ∷ spoken after)
-        (ap spoken (append_assoc speaks.used then.used after) ∙ (speaks.speaks (then.used ++ after) ∙ ap (λ (lines : List Line). ended_line speaks.bytes ∷ lines) (then.speaks after)))
+      (ap spoken (append_assoc speaks.used then.used after) ∙ (speaks.speaks (then.used ++ after) ∙ ap (λ (lines : List Line). ended_line speaks.bytes ∷ lines) (then.speaks after)))
       ∙ (grouped_taking (ended_line speaks.bytes) (ended_line then.bytes ∷ spoken after) (taking speaks.bytes true true line speaks.holds some)
       ∙ (ap (λ (first : ReadLine). asking first (given (read_of (ended_line then.bytes))) true ∷ grouped (spoken after)) (read_in speaks.bytes true line speaks.holds)
       ∙ (ap (λ (second : ReadLine). asking (line_in line) (given second) true ∷ grouped (spoken after)) (read_in then.bytes true next then.holds)
       ∙ ap (λ (rest : List Request). asking (line_in line) (given (line_in next)) true ∷ rest) (sym (requests_spoken after)))));
-    going = then.going ∙ speaks.going
-  }
+  going = then.going ∙ speaks.going;
+}
 
 pub asks_both_last : (old mid new : InputState) (left left' left'' : Option (List ℕ)) (line next : LineState) → SpeaksLine old mid left left' line → takes_source line.kept ≡ true →
     SpeaksLast mid new left' left'' next → AsksLast old new left left'' (line_in line) (given (line_in next))
 asks_both_last old mid new left left' left'' line next speaks some then = record {
-    used = speaks.used ++ then.used;
-    uses = uses_both old mid new left left' left'' speaks.used then.used speaks.uses then.uses;
-    some = some_used speaks.used then.used speaks.some;
-    asks = requests_spoken (speaks.used ++ then.used) ∙ (ap grouped (spoken_both speaks.used then.used (ended_line speaks.bytes) speaks.speaks ∙ ap (λ (lines : List Line). ended_line speaks.bytes ∷ lines) then.speaks)
+  used = speaks.used ++ then.used;
+  uses = uses_both old mid new left left' left'' speaks.used then.used speaks.uses then.uses;
+  some = some_used speaks.used then.used speaks.some;
+  asks = requests_spoken (speaks.used ++ then.used) ∙ (ap grouped (spoken_both speaks.used then.used (ended_line speaks.bytes) speaks.speaks ∙ ap (λ (lines : List Line). ended_line speaks.bytes ∷ lines) then.speaks)
       ∙ (grouped_taking (ended_line speaks.bytes) (last_line then.bytes ∷ []) (taking speaks.bytes true true line speaks.holds some)
       ∙ (ap (λ (first : ReadLine). asking first (given (read_of (last_line then.bytes))) false ∷ []) (read_in speaks.bytes true line speaks.holds)
       ∙ ap (λ (second : ReadLine). asking (line_in line) (given second) false ∷ []) (read_in then.bytes false next then.holds))));
-    ended = then.ended
-  }
+  ended = then.ended;
+}
 
 pub asks_missing : (old mid new : InputState) (left left' left'' : Option (List ℕ)) (line : LineState) → SpeaksLine old mid left left' line → takes_source line.kept ≡ true →
     SpeaksNone mid new left' left'' → AsksLast old new left left'' (line_in line) missing
 asks_missing old mid new left left' left'' line speaks some then = record {
-    used = speaks.used ++ then.used;
-    uses = uses_both old mid new left left' left'' speaks.used then.used speaks.uses then.uses;
-    some = some_used speaks.used then.used speaks.some;
-    asks = requests_spoken (speaks.used ++ then.used) ∙ (ap grouped (spoken_both speaks.used then.used (ended_line speaks.bytes) speaks.speaks ∙ ap (λ (lines : List Line). ended_line speaks.bytes ∷ lines) then.speaks)
+  used = speaks.used ++ then.used;
+  uses = uses_both old mid new left left' left'' speaks.used then.used speaks.uses then.uses;
+  some = some_used speaks.used then.used speaks.some;
+  asks = requests_spoken (speaks.used ++ then.used) ∙ (ap grouped (spoken_both speaks.used then.used (ended_line speaks.bytes) speaks.speaks ∙ ap (λ (lines : List Line). ended_line speaks.bytes ∷ lines) then.speaks)
       ∙ (grouped_taking (ended_line speaks.bytes) [] (taking speaks.bytes true true line speaks.holds some)
       ∙ ap (λ (first : ReadLine). asking first missing false ∷ []) (read_in speaks.bytes true line speaks.holds)));
-    ended = then.ended
-  }
+  ended = then.ended;
+}
 
 pub asks_none : (old new : InputState) (left left' : Option (List ℕ)) → SpeaksNone old new left left' → AsksNone old new left left'
 asks_none old new left left' speaks = record {
-    used = speaks.used;
-    uses = speaks.uses;
-    asks = requests_spoken speaks.used ∙ ap grouped speaks.speaks;
-    ended = speaks.ended
-  }
+  used = speaks.used;
+  uses = speaks.uses;
+  asks = requests_spoken speaks.used ∙ ap grouped speaks.speaks;
+  ended = speaks.ended;
+}
 
 -- ## what is no whole request yet
 
@@ -174,9 +173,9 @@ mutual
   unfinished_grouped [] none = refl
   unfinished_grouped (line ∷ lines) none =
       split (takes_source (kept line))
-        (λ is. ap (λ (all : List Request). filter (λ (it : Request). it.ended) all) (grouped_taking line lines is) ∙ unfinished_with line lines (none_ended line lines none).1)
-        (λ is. ap (λ (all : List Request). filter (λ (it : Request). it.ended) all) (grouped_alone line lines is)
-          ∙ (left_request (alone line) (grouped lines) (none_ended line lines none).0 ∙ unfinished_grouped lines (none_ended line lines none).1))
+      (λ is. ap (λ (all : List Request). filter (λ (it : Request). it.ended) all) (grouped_taking line lines is) ∙ unfinished_with line lines (none_ended line lines none).1)
+      (λ is. ap (λ (all : List Request). filter (λ (it : Request). it.ended) all) (grouped_alone line lines is)
+      ∙ (left_request (alone line) (grouped lines) (none_ended line lines none).0 ∙ unfinished_grouped lines (none_ended line lines none).1))
 
   pub unfinished_with : (line : Line) (lines : List Line) → filter (λ (it : Line). it.ended) lines ≡ [] → filter (λ (it : Request). it.ended) (grouped_with line lines) ≡ []
   unfinished_with line [] none = refl
@@ -189,7 +188,7 @@ pub unfinished_source : (first second : List ℕ) (bytes : List ℕ) (line : Lin
     whole_requests (first ++ second) ≡ []
 unfinished_source first second bytes line speaks holds some none =
     whole_spoken (first ++ second) ∙ (ap (λ (all : List Request). filter (λ (it : Request). it.ended) all)
-      (requests_spoken (first ++ second) ∙ (ap grouped (speaks second) ∙ grouped_taking (ended_line bytes) (spoken second) (taking bytes true true line holds some)))
+    (requests_spoken (first ++ second) ∙ (ap grouped (speaks second) ∙ grouped_taking (ended_line bytes) (spoken second) (taking bytes true true line holds some)))
     ∙ unfinished_with (ended_line bytes) (spoken second) none)
 
 pub asks_past : (old : InputState) (left left' : Option (List ℕ)) → SpeaksPast old left left' → AsksPast old left left'
@@ -201,19 +200,19 @@ asks_part old new left left' speaks = record { used = speaks.used; uses = speaks
 pub asks_past_source : (old mid : InputState) (left left' left'' : Option (List ℕ)) (line : LineState) → SpeaksLine old mid left left' line → takes_source line.kept ≡ true →
     SpeaksPast mid left' left'' → AsksPast old left left''
 asks_past_source old mid left left' left'' line speaks some then = record {
-    used = speaks.used ++ then.used;
-    uses = uses_both_all old mid left left' left'' speaks.used then.used speaks.uses then.uses;
-    asks = unfinished_source speaks.used then.used speaks.bytes line speaks.speaks speaks.holds some then.speaks
-  }
+  used = speaks.used ++ then.used;
+  uses = uses_both_all old mid left left' left'' speaks.used then.used speaks.uses then.uses;
+  asks = unfinished_source speaks.used then.used speaks.bytes line speaks.speaks speaks.holds some then.speaks;
+}
 
 pub asks_part_source : (old mid new : InputState) (left left' left'' : Option (List ℕ)) (line : LineState) → SpeaksLine old mid left left' line → takes_source line.kept ≡ true →
     SpeaksPart mid new left' left'' → AsksPart old new left left''
 asks_part_source old mid new left left' left'' line speaks some then = record {
-    used = speaks.used ++ then.used;
-    uses = uses_both old mid new left left' left'' speaks.used then.used speaks.uses then.uses;
-    unread = then.unread;
-    asks = unfinished_source speaks.used then.used speaks.bytes line speaks.speaks speaks.holds some then.speaks
-  }
+  used = speaks.used ++ then.used;
+  uses = uses_both old mid new left left' left'' speaks.used then.used speaks.uses then.uses;
+  unread = then.unread;
+  asks = unfinished_source speaks.used then.used speaks.bytes line speaks.speaks speaks.holds some then.speaks;
+}
 
 -- a request whose first line takes a source, by what came of reading that
 pub asks_source : (next_is : Next) (old mid new : InputState) (left left' left'' : Option (List ℕ)) (line next : LineState) → SpeaksLine old mid left left' line → takes_source line.kept ≡ true →

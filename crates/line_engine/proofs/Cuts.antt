@@ -1,11 +1,11 @@
 -- Where bytes are cut at a newline, and the lines that this makes.
-use Rattle.std.proofs.Common.{◌≡◌, ℕ, zero, suc, ◌+◌, ◌-◌, ◌<◌, ◌≤◌, Bool, true, false, not, cond, List, [], ◌∷◌, ◌++◌, length, take, drop, get_or, filter, Option, Some, None, IfSome, IfNone, refl, sym, ap, ◌∙◌, append_assoc, arith, add-one}
+use Rattle.std.proofs.Common.{◌≡◌, ℕ, zero, suc, ◌+◌, ◌<◌, ◌≤◌, true, false, List, [], ◌∷◌, ◌++◌, length, take, drop, get_or, Option, Some, None, IfSome, IfNone, refl, sym, ap, arith}
 use Rattle.std.proofs.lemmas.Grind.{common_steps}
 use Rattle.std.proofs.lemmas.List.{take_all}
 use Rattle.std.proofs.lemmas.Bool.{false_from_ne_true}
-use Rattle.memchr.specs.Find.{IsFirstByte, is_byte, Nowhere, NoneBefore, Passes}
-use Rattle.line_engine.specs.Line.{Line, newline, lines_of, is_blank, with_first}
-use Rattle.line_engine.specs.Fetch.{has_newline, IsCutAt, spoken, IsSpoken, IsUnfinished}
+use Rattle.memchr.specs.Find.{IsFirstByte, is_byte}
+use Rattle.line_engine.specs.Line.{newline, lines_of}
+use Rattle.line_engine.specs.Fetch.{has_newline, IsCutAt}
 
 -- bytes without a newline, and then one
 pub lines_at : (bytes after : List ℕ) → has_newline bytes ≡ false → lines_of (bytes ++ newline ∷ after) ≡ record { bytes = bytes; ended = true } ∷ lines_of after
@@ -37,10 +37,10 @@ cut_at (b ∷ bs) (suc at) within here =
 pub found_cut : (bytes : List ℕ) (r : Option ℕ) → IsFirstByte (is_byte newline) bytes r → IfSome r (λ at. IsCutAt at bytes)
 found_cut bytes None first = tt
 found_cut bytes (Some at) first = record {
-    within = first.0.high;
-    parts = cut_at bytes at first.0.high first.1;
-    plain = plain_front bytes at (let h : at < length bytes = first.0.high in omega arith) first.0.before
-  }
+  within = first.0.high;
+  parts = cut_at bytes at first.0.high first.1;
+  plain = plain_front bytes at (let h : at < length bytes = first.0.high in omega arith) first.0.before;
+}
 
 pub none_cut : (bytes : List ℕ) (r : Option ℕ) → IsFirstByte (is_byte newline) bytes r → IfNone r (has_newline bytes ≡ false)
 none_cut bytes None first = rw (sym (take_all (length bytes) bytes (omega arith))) (plain_front bytes (length bytes) (omega arith) first)

@@ -1,12 +1,11 @@
 -- Lines that aren't blank, found in bytes that are read line by line.
-use Rattle.std.proofs.Common.{◌≡◌, ℕ, ◌+◌, ◌<◌, ◌≤◌, nat_lt, Bool, true, false, not, ◌&&◌, List, [], ◌∷◌, ◌++◌, length, take, filter, Option, refl, sym, ap, subst, ◌∙◌, append_assoc, arith, length-append}
+use Rattle.std.proofs.Common.{◌≡◌, ℕ, ◌<◌, nat_lt, Bool, true, false, not, ◌&&◌, List, [], ◌∷◌, ◌++◌, length, take, filter, Option, refl, ap, ◌∙◌, append_assoc, arith, length-append}
 use Rattle.std.proofs.lemmas.Grind.{common_steps}
 use Rattle.std.proofs.lemmas.Bool.Decides.{nat_tests}
-use Rattle.std.proofs.lemmas.List.{append-nil, take_all}
 use Rattle.std.specs.List.{list_all}
 use Rattle.line_engine.specs.Line.{Line, newline, longest_line, lines_of, is_blank, is_blank_byte}
 use Rattle.line_engine.specs.Seen.{InputState, LineState}
-use Rattle.line_engine.specs.Fetch.{Uses, UsesAll, HasEnded, Holds, has_newline, spoken, IsSpoken, IsUnfinished, ReadsLine, ReadsLast, ReadsNone, ReadsPast, ReadsPart, SpeaksLine, SpeaksLast, SpeaksNone, SpeaksPast, SpeaksPart}
+use Rattle.line_engine.specs.Fetch.{Uses, Holds, has_newline, spoken, IsSpoken, IsUnfinished, ReadsLine, ReadsLast, ReadsNone, ReadsPast, ReadsPart, SpeaksLine, SpeaksLast, SpeaksNone, SpeaksPast, SpeaksPart}
 use Rattle.line_engine.proofs.Cuts.{lines_at, lines_last}
 use Rattle.line_engine.proofs.Uses.{uses_none, uses_both, uses_both_all}
 
@@ -80,23 +79,23 @@ after_quiet quiet used after is = ap spoken (append_assoc quiet used after) ∙ 
 pub skips_more : (old mid new : InputState) (left left' left'' : Option (List ℕ)) (line : LineState) → Skips old mid left left' → (read : ReadsLine mid new left' left'' line) →
     is_blank (ended_line read.bytes) ≡ true → Skips old new left left''
 skips_more old mid new left left' left'' line skips read blank = record {
-    used = skips.used ++ (read.bytes ++ newline ∷ []);
-    uses = uses_both old mid new left left' left'' skips.used (read.bytes ++ newline ∷ []) skips.uses read.uses;
-    quiet = λ after. after_quiet skips.used (read.bytes ++ newline ∷ []) after skips.quiet ∙ line_quiet read.bytes read.plain blank after;
-    going = read.going ∙ skips.going
-  }
+  used = skips.used ++ (read.bytes ++ newline ∷ []);
+  uses = uses_both old mid new left left' left'' skips.used (read.bytes ++ newline ∷ []) skips.uses read.uses;
+  quiet = λ after. after_quiet skips.used (read.bytes ++ newline ∷ []) after skips.quiet ∙ line_quiet read.bytes read.plain blank after;
+  going = read.going ∙ skips.going;
+}
 
 pub skips_line : (old mid new : InputState) (left left' left'' : Option (List ℕ)) (line : LineState) → Skips old mid left left' → (read : ReadsLine mid new left' left'' line) →
     is_blank (ended_line read.bytes) ≡ false → SpeaksLine old new left left'' line
 skips_line old mid new left left' left'' line skips read loud = record {
-    used = skips.used ++ (read.bytes ++ newline ∷ []);
-    bytes = read.bytes;
-    uses = uses_both old mid new left left' left'' skips.used (read.bytes ++ newline ∷ []) skips.uses read.uses;
-    speaks = λ after. after_quiet skips.used (read.bytes ++ newline ∷ []) after skips.quiet ∙ line_speaks read.bytes read.plain loud after;
-    some = omega (arith, length-append skips.used (read.bytes ++ newline ∷ []), length-append read.bytes (newline ∷ []));
-    holds = read.holds;
-    going = read.going ∙ skips.going
-  }
+  used = skips.used ++ (read.bytes ++ newline ∷ []);
+  bytes = read.bytes;
+  uses = uses_both old mid new left left' left'' skips.used (read.bytes ++ newline ∷ []) skips.uses read.uses;
+  speaks = λ after. after_quiet skips.used (read.bytes ++ newline ∷ []) after skips.quiet ∙ line_speaks read.bytes read.plain loud after;
+  some = omega (arith, length-append skips.used (read.bytes ++ newline ∷ []), length-append read.bytes (newline ∷ []));
+  holds = read.holds;
+  going = read.going ∙ skips.going;
+}
 
 spoken_last : (quiet used : List ℕ) → IsQuiet quiet → spoken (quiet ++ used) ≡ spoken used
 spoken_last quiet used is = is used
@@ -104,46 +103,46 @@ spoken_last quiet used is = is used
 pub skips_last : (old mid new : InputState) (left left' left'' : Option (List ℕ)) (line : LineState) → Skips old mid left left' → (read : ReadsLast mid new left' left'' line) →
     is_blank (last_line read.bytes) ≡ false → SpeaksLast old new left left'' line
 skips_last old mid new left left' left'' line skips read loud = record {
-    used = skips.used ++ read.bytes;
-    bytes = read.bytes;
-    uses = uses_both old mid new left left' left'' skips.used read.bytes skips.uses read.uses;
-    speaks = spoken_last skips.used read.bytes skips.quiet ∙ last_speaks read.bytes read.plain read.some loud;
-    some = omega (arith, length-append skips.used read.bytes, read.some);
-    holds = read.holds;
-    ended = read.ended
-  }
+  used = skips.used ++ read.bytes;
+  bytes = read.bytes;
+  uses = uses_both old mid new left left' left'' skips.used read.bytes skips.uses read.uses;
+  speaks = spoken_last skips.used read.bytes skips.quiet ∙ last_speaks read.bytes read.plain read.some loud;
+  some = omega (arith, length-append skips.used read.bytes, read.some);
+  holds = read.holds;
+  ended = read.ended;
+}
 
 pub skips_last_blank : (old mid new : InputState) (left left' left'' : Option (List ℕ)) (line : LineState) → Skips old mid left left' → (read : ReadsLast mid new left' left'' line) →
     is_blank (last_line read.bytes) ≡ true → SpeaksNone old new left left''
 skips_last_blank old mid new left left' left'' line skips read blank = record {
-    used = skips.used ++ read.bytes;
-    uses = uses_both old mid new left left' left'' skips.used read.bytes skips.uses read.uses;
-    speaks = spoken_last skips.used read.bytes skips.quiet ∙ last_quiet read.bytes read.plain read.some blank;
-    ended = read.ended
-  }
+  used = skips.used ++ read.bytes;
+  uses = uses_both old mid new left left' left'' skips.used read.bytes skips.uses read.uses;
+  speaks = spoken_last skips.used read.bytes skips.quiet ∙ last_quiet read.bytes read.plain read.some blank;
+  ended = read.ended;
+}
 
 pub skips_end : (old mid new : InputState) (left left' left'' : Option (List ℕ)) → Skips old mid left left' → ReadsNone mid new left' left'' → SpeaksNone old new left left''
 skips_end old mid new left left' left'' skips read = record {
-    used = skips.used ++ [];
-    uses = uses_both old mid new left left' left'' skips.used [] skips.uses read.uses;
-    speaks = spoken_last skips.used [] skips.quiet;
-    ended = read.ended
-  }
+  used = skips.used ++ [];
+  uses = uses_both old mid new left left' left'' skips.used [] skips.uses read.uses;
+  speaks = spoken_last skips.used [] skips.quiet;
+  ended = read.ended;
+}
 
 unfinished_after : (quiet bytes : List ℕ) → IsQuiet quiet → has_newline bytes ≡ false → IsUnfinished (quiet ++ bytes)
 unfinished_after quiet bytes is plain = ap (λ (lines : List Line). filter (λ (line : Line). line.ended) lines) (is bytes) ∙ part_unfinished bytes plain
 
 pub skips_past : (old mid : InputState) (left left' left'' : Option (List ℕ)) → Skips old mid left left' → ReadsPast mid left' left'' → SpeaksPast old left left''
 skips_past old mid left left' left'' skips read = record {
-    used = skips.used ++ read.bytes;
-    uses = uses_both_all old mid left left' left'' skips.used read.bytes skips.uses read.uses;
-    speaks = unfinished_after skips.used read.bytes skips.quiet read.plain
-  }
+  used = skips.used ++ read.bytes;
+  uses = uses_both_all old mid left left' left'' skips.used read.bytes skips.uses read.uses;
+  speaks = unfinished_after skips.used read.bytes skips.quiet read.plain;
+}
 
 pub skips_part : (old mid new : InputState) (left left' left'' : Option (List ℕ)) → Skips old mid left left' → ReadsPart mid new left' left'' → SpeaksPart old new left left''
 skips_part old mid new left left' left'' skips read = record {
-    used = skips.used ++ read.bytes;
-    uses = uses_both old mid new left left' left'' skips.used read.bytes skips.uses read.uses;
-    unread = read.unread;
-    speaks = unfinished_after skips.used read.bytes skips.quiet read.plain
-  }
+  used = skips.used ++ read.bytes;
+  uses = uses_both old mid new left left' left'' skips.used read.bytes skips.uses read.uses;
+  unread = read.unread;
+  speaks = unfinished_after skips.used read.bytes skips.quiet read.plain;
+}

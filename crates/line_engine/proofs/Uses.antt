@@ -1,11 +1,10 @@
 -- What was used of the input, step after step.
-use Rattle.std.proofs.Common.{◌≡◌, ℕ, ◌+◌, ◌-◌, ◌<◌, ◌≤◌, Bool, true, false, List, [], ◌∷◌, ◌++◌, length, take, drop, Option, Some, None, refl, sym, ap, ◌∙◌, append_assoc, arith, length-append}
-use Rattle.std.proofs.lemmas.Grind.{common_steps}
+use Rattle.std.proofs.Common.{◌≡◌, ℕ, ◌+◌, List, [], ◌∷◌, ◌++◌, length, Option, Some, None, refl, sym, ap, ◌∙◌, append_assoc, arith, length-append}
 use Rattle.std.proofs.lemmas.List.{append-nil}
-use Rattle.std.specs.Io.KnownBytes.{Consumes, IsAtEnd}
+use Rattle.std.specs.Io.KnownBytes.{Consumes}
 use Rattle.line_engine.specs.Seen.{InputState}
 use Rattle.line_engine.specs.Input.{ReadsMore, MeetsEnd, MeetsLimit, MeetsFault}
-use Rattle.line_engine.specs.Fetch.{Uses, UsesAll, HasEnded, ahead}
+use Rattle.line_engine.specs.Fetch.{Uses, UsesAll, ahead}
 
 pub consumes_none : (left : Option (List ℕ)) → Consumes left left []
 consumes_none None = tt
@@ -24,31 +23,31 @@ uses_none input left = record { read = []; consumed = consumes_none left; parts 
 pub uses_piece : (old mid new : InputState) (left left' : Option (List ℕ)) (used piece : List ℕ) → Uses old mid left left' used →
     mid.unread ≡ piece ++ new.unread → new.allowance ≡ mid.allowance → Uses old new left left' (used ++ piece)
 uses_piece old mid new left left' used piece uses parts same = record {
-    read = uses.read;
-    consumed = uses.consumed;
-    parts = uses.parts ∙ (ap (λ xs. used ++ xs) parts ∙ sym (append_assoc used piece new.unread));
-    allowance = ap (λ n. n + length uses.read) same ∙ uses.allowance
-  }
+  read = uses.read;
+  consumed = uses.consumed;
+  parts = uses.parts ∙ (ap (λ xs. used ++ xs) parts ∙ sym (append_assoc used piece new.unread));
+  allowance = ap (λ n. n + length uses.read) same ∙ uses.allowance;
+}
 
 -- more is read, once nothing is unread
 pub uses_more : (old mid new : InputState) (left left' left'' : Option (List ℕ)) (used : List ℕ) → Uses old mid left left' used →
     mid.unread ≡ [] → ReadsMore mid new left' left'' → Uses old new left left'' used
 uses_more old mid new left left' left'' used uses none more = record {
-    read = uses.read ++ new.unread;
-    consumed = consumes_more left left' left'' uses.read new.unread uses.consumed more.read;
-    parts = sym (append_assoc old.unread uses.read new.unread) ∙ (ap (λ xs. xs ++ new.unread) (uses.parts ∙ (ap (λ xs. used ++ xs) none ∙ append-nil used)));
-    allowance = omega (arith, length-append uses.read new.unread, uses.allowance, more.allowance)
-  }
+  read = uses.read ++ new.unread;
+  consumed = consumes_more left left' left'' uses.read new.unread uses.consumed more.read;
+  parts = sym (append_assoc old.unread uses.read new.unread) ∙ (ap (λ xs. xs ++ new.unread) (uses.parts ∙ (ap (λ xs. used ++ xs) none ∙ append-nil used)));
+  allowance = omega (arith, length-append uses.read new.unread, uses.allowance, more.allowance);
+}
 
 -- nothing more was taken
 uses_still : (old mid new : InputState) (left left' left'' : Option (List ℕ)) (used : List ℕ) → Uses old mid left left' used →
     Consumes left' left'' [] → new.unread ≡ mid.unread → new.allowance ≡ mid.allowance → Uses old new left left'' used
 uses_still old mid new left left' left'' used uses none same allowed = record {
-    read = uses.read ++ [];
-    consumed = consumes_more left left' left'' uses.read [] uses.consumed none;
-    parts = ap (λ xs. old.unread ++ xs) (append-nil uses.read) ∙ (uses.parts ∙ ap (λ xs. used ++ xs) (sym same));
-    allowance = ap (λ n. new.allowance + length n) (append-nil uses.read) ∙ (ap (λ n. n + length uses.read) allowed ∙ uses.allowance)
-  }
+  read = uses.read ++ [];
+  consumed = consumes_more left left' left'' uses.read [] uses.consumed none;
+  parts = ap (λ xs. old.unread ++ xs) (append-nil uses.read) ∙ (uses.parts ∙ ap (λ xs. used ++ xs) (sym same));
+  allowance = ap (λ n. new.allowance + length n) (append-nil uses.read) ∙ (ap (λ n. n + length uses.read) allowed ∙ uses.allowance);
+}
 
 pub uses_end : (old mid new : InputState) (left left' left'' : Option (List ℕ)) (used : List ℕ) → Uses old mid left left' used →
     mid.unread ≡ [] → MeetsEnd mid new left' left'' → Uses old new left left'' used
@@ -63,32 +62,32 @@ uses_fault old mid new left left' left'' used uses none fault =
 pub uses_limit : (old mid new : InputState) (left left' left'' : Option (List ℕ)) (used : List ℕ) → Uses old mid left left' used →
     mid.unread ≡ [] → MeetsLimit mid new left' left'' → UsesAll old left left'' used
 uses_limit old mid new left left' left'' used uses none limit = record {
-    read = uses.read;
-    more = limit.more;
-    consumed = consumes_more left left' left'' uses.read (limit.more ∷ []) uses.consumed limit.read;
-    parts = uses.parts ∙ (ap (λ xs. used ++ xs) none ∙ append-nil used);
-    allowance = omega (arith, uses.allowance, limit.all)
-  }
+  read = uses.read;
+  more = limit.more;
+  consumed = consumes_more left left' left'' uses.read (limit.more ∷ []) uses.consumed limit.read;
+  parts = uses.parts ∙ (ap (λ xs. used ++ xs) none ∙ append-nil used);
+  allowance = omega (arith, uses.allowance, limit.all);
+}
 
 -- one use after another
 pub uses_both : (old mid new : InputState) (left left' left'' : Option (List ℕ)) (first second : List ℕ) → Uses old mid left left' first →
     Uses mid new left' left'' second → Uses old new left left'' (first ++ second)
 uses_both old mid new left left' left'' first second one two = record {
-    read = one.read ++ two.read;
-    consumed = consumes_more left left' left'' one.read two.read one.consumed two.consumed;
-    parts = sym (append_assoc old.unread one.read two.read) ∙ (ap (λ xs. xs ++ two.read) one.parts ∙ (append_assoc first mid.unread two.read ∙ (ap (λ xs. first ++ xs) two.parts ∙ sym (append_assoc first second new.unread))));
-    allowance = omega (arith, length-append one.read two.read, one.allowance, two.allowance)
-  }
+  read = one.read ++ two.read;
+  consumed = consumes_more left left' left'' one.read two.read one.consumed two.consumed;
+  parts = sym (append_assoc old.unread one.read two.read) ∙ (ap (λ xs. xs ++ two.read) one.parts ∙ (append_assoc first mid.unread two.read ∙ (ap (λ xs. first ++ xs) two.parts ∙ sym (append_assoc first second new.unread))));
+  allowance = omega (arith, length-append one.read two.read, one.allowance, two.allowance);
+}
 
 pub uses_both_all : (old mid : InputState) (left left' left'' : Option (List ℕ)) (first second : List ℕ) → Uses old mid left left' first →
     UsesAll mid left' left'' second → UsesAll old left left'' (first ++ second)
 uses_both_all old mid left left' left'' first second one two = record {
-    read = one.read ++ two.read;
-    more = two.more;
-    consumed = rw (append_assoc one.read two.read (two.more ∷ [])) (consumes_more left left' left'' one.read (two.read ++ two.more ∷ []) one.consumed two.consumed);
-    parts = sym (append_assoc old.unread one.read two.read) ∙ (ap (λ xs. xs ++ two.read) one.parts ∙ (append_assoc first mid.unread two.read ∙ ap (λ xs. first ++ xs) two.parts));
-    allowance = omega (arith, length-append one.read two.read, one.allowance, two.allowance)
-  }
+  read = one.read ++ two.read;
+  more = two.more;
+  consumed = rw (append_assoc one.read two.read (two.more ∷ [])) (consumes_more left left' left'' one.read (two.read ++ two.more ∷ []) one.consumed two.consumed);
+  parts = sym (append_assoc old.unread one.read two.read) ∙ (ap (λ xs. xs ++ two.read) one.parts ∙ (append_assoc first mid.unread two.read ∙ ap (λ xs. first ++ xs) two.parts));
+  allowance = omega (arith, length-append one.read two.read, one.allowance, two.allowance);
+}
 
 -- what is used is no longer ahead
 pub uses_ahead : (old new : InputState) (left left' : Option (List ℕ)) (used : List ℕ) → Uses old new left left' used → ahead new + length used ≡ ahead old

@@ -1,8 +1,7 @@
 -- What the sink took, write after write.
-use Rattle.std.proofs.Common.{◌≡◌, ℕ, ◌≤◌, List, [], ◌++◌, length, take, drop, Option, Some, None, refl, sym, ap, subst, ◌∙◌, append_assoc, arith}
+use Rattle.std.proofs.Common.{◌≡◌, ℕ, List, [], ◌++◌, length, take, drop, Option, Some, None, refl, sym, ap, subst, ◌∙◌, append_assoc}
 use Rattle.std.proofs.lemmas.List.{append-nil, take-append-drop, nil_from_length}
 use Rattle.std.specs.Io.KnownBytes.{Appends, Keeps}
-use Rattle.line_engine.specs.Run.{IsFront}
 use Rattle.line_engine.specs.Served.{TakesFront}
 
 pub appends_none : (taken : Option (List ℕ)) → Appends taken taken []
@@ -32,10 +31,10 @@ written_none old piece = record { done = []; parts = refl; bytes = appends_none 
 
 pub written_more : (old mid new : Option (List ℕ)) (piece rest : List ℕ) (count : ℕ) → Written old mid piece rest → Appends mid new (take count rest) → Written old new piece (drop count rest)
 written_more old mid new piece rest count written more = record {
-    done = written.done ++ take count rest;
-    parts = written.parts ∙ (ap (λ (bytes : List ℕ). written.done ++ bytes) (sym (take-append-drop count rest)) ∙ sym (append_assoc written.done (take count rest) (drop count rest)));
-    bytes = appends_more old mid new written.done (take count rest) written.bytes more
-  }
+  done = written.done ++ take count rest;
+  parts = written.parts ∙ (ap (λ (bytes : List ℕ). written.done ++ bytes) (sym (take-append-drop count rest)) ∙ sym (append_assoc written.done (take count rest) (drop count rest)));
+  bytes = appends_more old mid new written.done (take count rest) written.bytes more;
+}
 
 pub written_all : (old new : Option (List ℕ)) (piece rest : List ℕ) → Written old new piece rest → length rest ≡ 0 → Appends old new piece
 written_all old new piece rest written none =
@@ -44,9 +43,9 @@ written_all old new piece rest written none =
 
 pub written_part : (old mid new : Option (List ℕ)) (piece rest : List ℕ) → Written old mid piece rest → Keeps mid new → TakesFront old new piece
 written_part old mid new piece rest written kept = record {
-    part = written.done;
-    written = appends_kept old mid new written.done written.bytes kept;
-    front = (rest, written.parts)
-  }
+  part = written.done;
+  written = appends_kept old mid new written.done written.bytes kept;
+  front = (rest, written.parts);
+}
 
 pub ruleset writes = (written_none, written_more, written_all, written_part)

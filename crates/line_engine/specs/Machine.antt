@@ -1,5 +1,5 @@
 -- The plain machine over trees: its state, and the step that it takes for a request.
-use Rattle.std.specs.Prelude.{ℕ, ◌+◌, List, [], ◌∷◌, ◌++◌, Option, is_some, if◌then◌else◌}
+use Rattle.std.specs.Prelude.{ℕ, ◌+◌, List, [], ◌∷◌, ◌++◌, is_some, if◌then◌else◌}
 use Rattle.tree_json.specs.Value.{JsonValue}
 use Rattle.query_ast.specs.Tree.{Tree, number_of, without}
 use Rattle.query_ast.specs.Page.{page_of}
@@ -37,9 +37,9 @@ new_tree id source n = record { id = id; number = n; source = source; generation
 -- an accepted change takes the next number
 abbrev pub put_step : List ℕ → JsonValue → State → Outcome
 put_step id source state = record {
-    reply = changed id state.next (result_of id state.live);
-    state = record { live = with_put (new_tree id source state.next) state.live; next = state.next + 1 }
-  }
+  reply = changed id state.next (result_of id state.live);
+  state = record { live = with_put (new_tree id source state.next) state.live; next = state.next + 1 };
+}
 
 abbrev pub action_step : Action → State → Outcome
 action_step (index_source id source) state = put_step id source state

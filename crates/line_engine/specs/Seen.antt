@@ -37,9 +37,9 @@ pub record EngineState : Type 0 where
 abbrev pub tree_code : Coded Tree
 tree_code =
     code_by (List ℕ × (ℕ × (JsonValue × ℕ))) (coded× (coded_list coded_ℕ) (coded× coded_ℕ (coded× value_code coded_ℕ)))
-        (λ tree. (tree.id, (tree.number, (tree.source, tree.generation))))
-        (λ it. record { id = it.0; number = it.1.0; source = it.1.1.0; generation = it.1.1.1 })
-        (λ _. refl)
+    (λ tree. (tree.id, (tree.number, (tree.source, tree.generation))))
+    (λ it. record { id = it.0; number = it.1.0; source = it.1.1.0; generation = it.1.1.1 })
+    (λ _. refl)
 
 abbrev pub state_code : Coded State
 state_code = code_by (List Tree × ℕ) (coded× (coded_list tree_code) coded_ℕ) (λ state. (state.live, state.next)) (λ it. record { live = it.0; next = it.1 }) (λ _. refl)
@@ -47,11 +47,11 @@ state_code = code_by (List Tree × ℕ) (coded× (coded_list tree_code) coded_�
 abbrev pub limits_code : Coded Limits
 limits_code =
     code_by (ℕ × (ℕ × (ℕ × ℕ))) (coded× coded_ℕ (coded× coded_ℕ (coded× coded_ℕ coded_ℕ)))
-        (λ limits. (limits.objects, (limits.reply_bytes, (limits.store_bytes, limits.session_bytes))))
-        (λ it. record { objects = it.0; reply_bytes = it.1.0; store_bytes = it.1.1.0; session_bytes = it.1.1.1 })
-        (λ _. refl)
+    (λ limits. (limits.objects, (limits.reply_bytes, (limits.store_bytes, limits.session_bytes))))
+    (λ it. record { objects = it.0; reply_bytes = it.1.0; store_bytes = it.1.1.0; session_bytes = it.1.1.1 })
+    (λ _. refl)
 
 abbrev pub engine_code : Coded EngineState
 engine_code =
     code_by (Limits × (State × ℕ)) (coded× limits_code (coded× state_code coded_ℕ)) (λ engine. (engine.limits, (engine.state, engine.calls)))
-        (λ it. record { limits = it.0; state = it.1.0; calls = it.1.1 }) (λ _. refl)
+    (λ it. record { limits = it.0; state = it.1.0; calls = it.1.1 }) (λ _. refl)

@@ -146,7 +146,11 @@ fn object_of(value: Json) -> Option<JsonObject>
 fn only(members: &[(JsonText, Json)]) -> Option<&(JsonText, Json)>
     ensures { option_map (λ it. (it.now.0, view it.now.1)) result ≡ single_of (members_of (entries members.now)) }
 {
-    if members.len() == 1 { Some(&members[0]) } else { None }
+    if members.len() == 1 {
+        Some(&members[0])
+    } else {
+        None
+    }
 }
 
 // The one member of an object.
@@ -213,7 +217,11 @@ fn id(value: Json) -> Option<JsonText>
     match value {
         Json::Text(id) => {
             let len = id.as_slice().len();
-            if 1 <= len && len <= LONGEST_ID { Some(id) } else { None }
+            if 1 <= len && len <= LONGEST_ID {
+                Some(id)
+            } else {
+                None
+            }
         }
         Json::Null => None,
         Json::Bool(_) => None,

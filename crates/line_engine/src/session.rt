@@ -116,11 +116,9 @@ fn serve_all<S: Source, K: Sink, D: Disk, L: Ledger>(
 ) -> Status
     requires going { session.old.input.ended ≡ false }
     requires calls { session.old.engine.calls + ahead session.old.input ≤ 2 ^ 50 }
-    ensures serves {
-        (limits : Limits) (start : State) (left taken : Option (List ℕ)) →
-            Served limits start left (S.left source.old) taken (K.taken sink.old) session.old.input session.old.engine →
-            Serves result limits start left (S.left source.new) taken (K.taken sink.new)
-    }
+    ensures serves { (limits : Limits) (start : State) (left taken : Option (List ℕ)) →
+        Served limits start left (S.left source.old) taken (K.taken sink.old) session.old.input session.old.engine →
+        Serves result limits start left (S.left source.new) taken (K.taken sink.new) }
     ensures cause { IsCaused result (S.faults source.old) (S.faults source.new) (K.faults sink.old) (K.faults sink.new) }
     ensures source_later { S.faults source.old ≤ S.faults source.new }
     ensures sink_later { K.faults sink.old ≤ K.faults sink.new }
@@ -143,16 +141,12 @@ fn serve_next<S: Source, K: Sink, D: Disk, L: Ledger>(
 ) -> Option<Status>
     requires going { session.old.input.ended ≡ false }
     requires calls { session.old.engine.calls + ahead session.old.input ≤ 2 ^ 50 }
-    ensures served {
-        IfNone result ((limits : Limits) (start : State) (left taken : Option (List ℕ)) →
-            Served limits start left (S.left source.old) taken (K.taken sink.old) session.old.input session.old.engine →
-            Served limits start left (S.left source.new) taken (K.taken sink.new) session.new.input session.new.engine)
-    }
-    ensures serves {
-        IfSome result (λ status. (limits : Limits) (start : State) (left taken : Option (List ℕ)) →
-            Served limits start left (S.left source.old) taken (K.taken sink.old) session.old.input session.old.engine →
-            Serves status limits start left (S.left source.new) taken (K.taken sink.new))
-    }
+    ensures served { IfNone result ((limits : Limits) (start : State) (left taken : Option (List ℕ)) →
+        Served limits start left (S.left source.old) taken (K.taken sink.old) session.old.input session.old.engine →
+        Served limits start left (S.left source.new) taken (K.taken sink.new) session.new.input session.new.engine) }
+    ensures serves { IfSome result (λ status. (limits : Limits) (start : State) (left taken : Option (List ℕ)) →
+        Served limits start left (S.left source.old) taken (K.taken sink.old) session.old.input session.old.engine →
+        Serves status limits start left (S.left source.new) taken (K.taken sink.new)) }
     ensures cause { IfSome result (λ status. IsCaused status (S.faults source.old) (S.faults source.new) (K.faults sink.old) (K.faults sink.new)) }
     ensures going { IfNone result (session.new.input.ended ≡ false) }
     ensures ahead { IfNone result (ahead session.new.input < ahead session.old.input) }

@@ -7,7 +7,7 @@ pub returns-then-takes_source-clause-read : goal.returns-then-takes_source-claus
 returns-then-takes_source-clause-read g c =
     let takes : takes_source c.next_line.new.line.kept ≡ true = ap takes_source (sym c.kept.ensures) ∙ (sym c.takes_source.ensures ∙ c.if-takes_source.true) in
     asks_source c.fetch_source.result c.args.input.now c.next_line.new.input c.fetch_source.new.input (g.S.Source.left c.args.source.now) (g.S.Source.left c.next_line.new.source) (g.S.Source.left c.fetch_source.new.source) c.next_line.new.line c.fetch_source.new.second
-        c.in-Line.ensures.read takes c.fetch_source.ensures.read
+    c.in-Line.ensures.read takes c.fetch_source.ensures.read
 
 pub returns-else-takes_source-clause-read : goal.returns-else-takes_source-clause-read
 returns-else-takes_source-clause-read g c =

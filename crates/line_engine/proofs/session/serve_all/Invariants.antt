@@ -8,8 +8,8 @@ use Rattle.line_engine.proofs.session.serve_all.Given as goal
 abbrev pub invariant-requests : goal.invariant-requests
 invariant-requests g l =
     ((limits : Limits) (start : State) (left taken : Option (List ℕ)) →
-      Served limits start left (g.S.Source.left l.fn.source) taken (g.K.Sink.taken l.fn.sink) l.fn.session.input l.fn.session.engine →
-      Served limits start left (g.S.Source.left l.source) taken (g.K.Sink.taken l.sink) l.session.input l.session.engine)
+    Served limits start left (g.S.Source.left l.fn.source) taken (g.K.Sink.taken l.fn.sink) l.fn.session.input l.fn.session.engine →
+    Served limits start left (g.S.Source.left l.source) taken (g.K.Sink.taken l.sink) l.session.input l.session.engine)
     × (l.session.input.ended ≡ false)
     × (l.session.engine.calls + ahead l.session.input ≤ 2 ^ 50)
     × (g.S.Source.faults l.fn.source ≤ g.S.Source.faults l.source)
