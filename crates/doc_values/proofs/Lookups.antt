@@ -1,5 +1,5 @@
 -- The values of a document among rows.
-use Rattle.std.proofs.Common.{◌≡◌, ℕ, ◌<◌, ◌^◌, ◌↔◌, ◌⊎◌, inl, inr, zero, suc, List, [], ◌∷◌, length, get_or, refl, sym, ◌∙◌, ap, subst, arith, Contains, Err, ◌≤◌, le_of_eq}
+use Rattle.std.proofs.Common.{◌≡◌, ℕ, ◌+◌, ◌-◌, ◌<◌, ◌^◌, ◌↔◌, ◌⊎◌, inl, inr, zero, suc, List, [], ◌∷◌, length, get_or, refl, sym, ◌∙◌, ap, subst, arith, Contains, Err, ◌≤◌, le_of_eq}
 use Rattle.std.specs.List.Sorted.{IsStrictlyIncreasing, IsSorted, IsBinarySearchResult}
 use Rattle.std.specs.Ordering.{nat_cmp}
 use Rattle.std.specs.declared.cmp.Ordering.{Ordering}
@@ -136,4 +136,19 @@ searched_missing docs doc at ascend result there =
     elim (cases_lt there.0 at) [
       | inl before ↦ let less : get_or docs there.0 0 < doc = apart.1 there.0 before in absurd (omega (arith, less, here))
       | inr from ↦ let more : doc < get_or docs there.0 0 = apart.2 there.0 from there.1 in absurd (omega (arith, more, here))
+    ]
+
+-- the document of a row
+pub documents_at : {X : Type 0} (rows : List (ℕ × List X)) (at : ℕ) (d : ℕ × List X) → at < length rows → get_or (documents rows) at 0 ≡ (get_or rows at d).0
+documents_at {X} rows at d inside = let first : ℕ × List X → ℕ = λ r. r.0 in get_or-map first rows at d 0 inside
+
+-- one more number above the one before it
+pub rising_more : (numbers : List ℕ) (at : ℕ) → 0 < at → ((k : ℕ) → k + 1 < at → get_or numbers k 0 < get_or numbers (k + 1) 0) → get_or numbers (at - 1) 0 < get_or numbers at 0 → (k : ℕ) → k + 1 < at + 1 → get_or numbers k 0 < get_or numbers (k + 1) 0
+rising_more numbers at some before more k below =
+    elim (cases_lt (k + 1) at) [
+      | inl earlier ↦ before k earlier
+      | inr from ↦
+          let here : get_or numbers (at - 1) 0 ≡ get_or numbers k 0 = ap (λ i. get_or numbers i 0) (omega (arith, from, below, some)) in
+          let next : get_or numbers at 0 ≡ get_or numbers (k + 1) 0 = ap (λ i. get_or numbers i 0) (omega (arith, from, below)) in
+          omega (arith, here, next, more)
     ]

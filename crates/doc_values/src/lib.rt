@@ -8,6 +8,8 @@
 
 mod column;
 mod rows;
+#[cfg(test)]
+mod tests;
 
 pub use column::Column;
 pub use rows::{RowList, ValueList};

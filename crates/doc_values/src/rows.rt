@@ -1,6 +1,6 @@
 //! Rows of values, as a column is built from them.
 
-ghost use Rattle.std.specs.Prelude.{◌≡◌, ◌<◌, ◌^◌, length};
+ghost use Rattle.std.specs.Prelude.{◌≡◌, ◌<◌, ◌^◌, ◌↔◌, length, IsTrue};
 ghost use Rattle.std.specs.List.Sorted.{IsStrictlyIncreasing};
 ghost use Rattle.doc_values.specs.Values.{documents, AreValues};
 
@@ -30,6 +30,21 @@ impl<T: Ord + Copy> ValueList<T> {
         ensures { result ≡ values.items }
     {
         ValueList { values }
+    }
+
+    /// Whether values are one or more, fewer than 2^32 and ascending, as a list wants them.
+    pub fn are_values(values: &[T]) -> bool
+        ensures { IsTrue result ↔ AreValues T.cmp values.now }
+    {
+        if values.is_empty() || values.len() > u32::MAX as usize {
+            return false;
+        }
+        'values: for at in 1..values.len() {
+            if values[at].cmp(&values[at - 1]).is_lt() {
+                return false;
+            }
+        }
+        true
     }
 
     /// The values, ascending.
@@ -67,6 +82,18 @@ impl<T: Ord + Copy> RowList<T> {
         ensures { result ≡ rows.items }
     {
         RowList { rows }
+    }
+
+    /// Whether the documents of rows are strictly ascending, as a list wants them.
+    pub fn are_ascending(rows: &[(u32, ValueList<T>)]) -> bool
+        ensures { IsTrue result ↔ IsStrictlyIncreasing (documents rows.now) }
+    {
+        'rows: for at in 1..rows.len() {
+            if rows[at].0 <= rows[at - 1].0 {
+                return false;
+            }
+        }
+        true
     }
 
     /// The rows, in order.

@@ -24,6 +24,7 @@ impl Model for CallList {
 }
 
 impl CallList {
+    /// The list of these numbers, which strictly ascend.
     pub fn of(calls: Vec<u64>) -> CallList
         requires { IsStrictlyIncreasing calls.items }
         ensures { result ≡ calls.items }

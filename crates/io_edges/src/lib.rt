@@ -11,6 +11,8 @@ mod edges;
 mod mem_disk;
 mod mem_sink;
 mod mem_source;
+#[cfg(test)]
+mod tests;
 mod word;
 
 pub use calls::CallList;

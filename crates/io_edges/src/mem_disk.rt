@@ -1,9 +1,9 @@
 //! A disk in memory.
 
-ghost use Rattle.std.specs.Prelude.{◌≡◌, ◌≤◌, ◌<◌, ◌+◌, ◌-◌, ◌⊎◌, [], ◌++◌, true, length, min, take, drop, IfOk, OnOk, OnErr, IsErr};
+ghost use Rattle.std.specs.Prelude.{◌≡◌, ◌≤◌, ◌+◌, ◌-◌, ◌⊎◌, ◌↔◌, ◌++◌, true, false, length, min, take, drop, replicate, IfOk, OnOk, OnErr, IsErr, MatchResult};
 ghost use Rattle.io_edges.specs.Faults.{HasCause, Rose};
-ghost use Rattle.io_edges.specs.Calls.{is_listed, one_more};
-ghost use Rattle.io_edges.specs.Memory.{written};
+ghost use Rattle.io_edges.specs.Calls.{is_listed};
+ghost use Rattle.io_edges.specs.Memory.{written, disk_after_call, disk_after_fault};
 
 use crate::calls::{CallList, counted};
 use crate::edges::{Disk, Failed, NoMemory};
@@ -30,7 +30,7 @@ impl Model for MemDisk {
 }
 
 impl MemDisk {
-    /// A disk whose file has these bytes. It takes no memory today, and may want some later.
+    /// A disk whose file has these bytes, and whose first call has the number 0. NoMemory: there was none for the disk.
     pub fn over(_alloc: Global, bytes: Vec<u8>, fails: CallList) -> Result<MemDisk, NoMemory>
         ensures { IfOk result (λ d. d ≡ record { bytes = bytes.items; fails = fails; call = 0; faults = 0; no_room = 0 }) }
     {
@@ -43,7 +43,7 @@ impl MemDisk {
         })
     }
 
-    /// How many calls failed for want of memory.
+    /// How many calls failed for want of memory, a count that stays at 2^64 - 1.
     pub fn no_room(&self) -> u64
         ensures { result ≡ self.now.no_room }
     {
@@ -53,10 +53,10 @@ impl MemDisk {
     // Counts a call, and its fault where it is listed.
     fn begin(&mut self) -> Result<(), Failed>
         ensures cause { HasCause self.old.faults self.new.faults result }
-        ensures ok { OnOk result (self.new ≡ record { bytes = self.old.bytes; fails = self.old.fails; call = one_more self.old.call; faults = self.old.faults; no_room = self.old.no_room }) }
-        ensures err { OnErr result (self.new ≡ record { bytes = self.old.bytes; fails = self.old.fails; call = one_more self.old.call; faults = one_more self.old.faults; no_room = self.old.no_room }) }
         ensures listed { OnErr result (is_listed self.old.fails self.old.call ≡ true) }
-        ensures unlisted { is_listed self.old.fails self.old.call ≡ true → IsErr result }
+        ensures unlisted { OnOk result (is_listed self.old.fails self.old.call ≡ false) }
+        ensures ok { OnOk result (self.new ≡ disk_after_call self.old) }
+        ensures err { OnErr result (self.new ≡ disk_after_fault self.old) }
     {
         let call = self.call;
         self.call = counted(call);
@@ -74,9 +74,9 @@ impl Disk for MemDisk {
     fn len(&mut self) -> Result<u64, Failed>
         ensures cause { HasCause self.old.faults self.new.faults result }
         ensures length { IfOk result (λ n. n ≡ length self.old.bytes) }
-        ensures listed { OnErr result (is_listed self.old.fails self.old.call ≡ true) }
-        ensures unlisted { is_listed self.old.fails self.old.call ≡ true → IsErr result }
-        ensures file { self.new.bytes ≡ self.old.bytes }
+        ensures listed { IsErr result ↔ (is_listed self.old.fails self.old.call ≡ true) }
+        ensures ok { OnOk result (self.new ≡ disk_after_call self.old) }
+        ensures err { OnErr result (self.new ≡ disk_after_fault self.old) }
     {
         self.begin()?;
         Ok(self.bytes.len() as u64)
@@ -87,9 +87,10 @@ impl Disk for MemDisk {
         ensures cause { HasCause self.old.faults self.new.faults result }
         ensures most { IfOk result (λ count. count ≡ min (length into.old) (length self.old.bytes - at)) }
         ensures bytes { IfOk result (λ count. take count into.new ≡ take count (drop at self.old.bytes)) }
-        ensures listed { OnErr result (is_listed self.old.fails self.old.call ≡ true) }
-        ensures unlisted { is_listed self.old.fails self.old.call ≡ true → IsErr result }
-        ensures file { self.new.bytes ≡ self.old.bytes }
+        ensures rest { MatchResult result (λ count. drop count into.new ≡ drop count into.old) (λ _. into.new ≡ into.old) }
+        ensures listed { IsErr result ↔ (is_listed self.old.fails self.old.call ≡ true) }
+        ensures ok { OnOk result (self.new ≡ disk_after_call self.old) }
+        ensures err { OnErr result (self.new ≡ disk_after_fault self.old) }
     {
         self.begin()?;
         let from = self.bytes.len().min(at as usize);
@@ -103,10 +104,10 @@ impl Disk for MemDisk {
 
     fn write_at(&mut self, at: u64, bytes: &[u8]) -> Result<(), Failed>
         ensures cause { HasCause self.old.faults self.new.faults result }
-        ensures ok { OnOk result (self.new.bytes ≡ written at bytes.now self.old.bytes) }
-        ensures err { OnErr result (self.new.bytes ≡ self.old.bytes) }
-        ensures unlisted { is_listed self.old.fails self.old.call ≡ true → IsErr result }
+        ensures listed { is_listed self.old.fails self.old.call ≡ true → IsErr result }
         ensures room { OnErr result ((is_listed self.old.fails self.old.call ≡ true) ⊎ Rose self.old.no_room self.new.no_room) }
+        ensures ok { OnOk result (self.new ≡ record (disk_after_call self.old) { bytes = written at bytes.now self.old.bytes }) }
+        ensures err { OnErr result (self.new ≡ disk_after_fault self.old) }
     {
         self.begin()?;
         if put(&mut self.bytes, at as usize, bytes).is_err() {
@@ -119,9 +120,9 @@ impl Disk for MemDisk {
 
     fn sync(&mut self) -> Result<(), Failed>
         ensures cause { HasCause self.old.faults self.new.faults result }
-        ensures listed { OnErr result (is_listed self.old.fails self.old.call ≡ true) }
-        ensures unlisted { is_listed self.old.fails self.old.call ≡ true → IsErr result }
-        ensures file { self.new.bytes ≡ self.old.bytes }
+        ensures listed { IsErr result ↔ (is_listed self.old.fails self.old.call ≡ true) }
+        ensures ok { OnOk result (self.new ≡ disk_after_call self.old) }
+        ensures err { OnErr result (self.new ≡ disk_after_fault self.old) }
     {
         self.begin()?;
         Ok(())
@@ -129,6 +130,7 @@ impl Disk for MemDisk {
 }
 
 // Puts the bytes at a place of the file, in place.
+#[tactic(auto, using(crate::proofs::Written::written_in_place))]
 fn put(file: &mut Vec<u8>, at: usize, bytes: &[u8]) -> Result<(), NoMemory>
     ensures ok { OnOk result (file.new.items ≡ written at bytes.now file.old.items) }
     ensures err { OnErr result (file.new.items ≡ file.old.items) }
@@ -139,18 +141,27 @@ fn put(file: &mut Vec<u8>, at: usize, bytes: &[u8]) -> Result<(), NoMemory>
     let Some(end) = at.checked_add(bytes.len()) else {
         return Err(NoMemory);
     };
-    let len = file.len().max(end);
-    file.resize(len, 0)?;
-    overwrite(file.as_mut_slice(), at, bytes);
+    lengthen(file, end)?;
+    overwrite(file, at, bytes);
+    Ok(())
+}
+
+// Appends zeros to a file that is shorter than this.
+fn lengthen(file: &mut Vec<u8>, len: usize) -> Result<(), NoMemory>
+    ensures ok { OnOk result (file.new.items ≡ file.old.items ++ replicate (len - length file.old.items) 0) }
+    ensures err { OnErr result (file.new.items ≡ file.old.items) }
+{
+    let longer = file.len().max(len);
+    file.resize(longer, 0)?;
     Ok(())
 }
 
 // Writes the bytes over those that stand at a place.
-fn overwrite(file: &mut [u8], at: usize, bytes: &[u8])
-    requires { at + length bytes.now ≤ length file.old }
-    ensures { file.new ≡ take at file.old ++ (bytes.now ++ drop (length bytes.now) (drop at file.old)) }
+fn overwrite(file: &mut Vec<u8>, at: usize, bytes: &[u8])
+    requires { at + length bytes.now ≤ length file.old.items }
+    ensures { file.new.items ≡ take at file.old.items ++ (bytes.now ++ drop (at + length bytes.now) file.old.items) }
 {
-    overwrite_front(file.split_at_mut(at).1, bytes);
+    overwrite_front(file.as_mut_slice().split_at_mut(at).1, bytes);
 }
 
 fn overwrite_front(file: &mut [u8], bytes: &[u8])

@@ -1,9 +1,10 @@
 //! A sink in memory.
 
-ghost use Rattle.std.specs.Prelude.{◌≡◌, ◌≤◌, ◌<◌, ◌⊎◌, [], true, length, Some, Ok, IfOk, OnErr, IsErr};
+ghost use Rattle.std.specs.Prelude.{◌≡◌, ◌≤◌, ◌⊎◌, [], ◌++◌, true, length, Some, Ok, IfOk, OnOk, OnErr, IsErr};
 ghost use Rattle.std.specs.Io.KnownBytes.{WriteAppends};
 ghost use Rattle.io_edges.specs.Faults.{HasCause, Rose};
 ghost use Rattle.io_edges.specs.Calls.{is_listed, one_more};
+ghost use Rattle.io_edges.specs.Memory.{sink_after_fault};
 
 use crate::calls::{CallList, counted};
 use crate::edges::{Failed, NoMemory, Sink};
@@ -30,7 +31,7 @@ impl Model for MemSink {
 }
 
 impl MemSink {
-    /// A sink that has taken nothing. It takes no memory today, and may want some later.
+    /// A sink that has taken nothing, whose first write has the number 0. NoMemory: there was none for the sink.
     pub fn over(alloc: Global, fails: CallList) -> Result<MemSink, NoMemory>
         ensures { IfOk result (λ s. s ≡ record { taken = []; fails = fails; call = 0; faults = 0; no_room = 0 }) }
     {
@@ -43,14 +44,14 @@ impl MemSink {
         })
     }
 
-    /// The bytes taken so far.
+    /// The bytes taken so far, in order.
     pub fn taken(&self) -> &[u8]
         ensures { result.now ≡ self.now.taken }
     {
         self.taken.as_slice()
     }
 
-    /// How many calls failed for want of memory.
+    /// How many writes failed for want of memory, a count that stays at 2^64 - 1.
     pub fn no_room(&self) -> u64
         ensures { result ≡ self.now.no_room }
     {
@@ -73,8 +74,8 @@ impl Sink for MemSink {
         ensures all { IfOk result (λ count. count ≡ length piece.now) }
         ensures listed { is_listed self.old.fails self.old.call ≡ true → IsErr result }
         ensures room { OnErr result ((is_listed self.old.fails self.old.call ≡ true) ⊎ Rose self.old.no_room self.new.no_room) }
-        ensures counts { self.new.call ≡ one_more self.old.call }
-        ensures fails { self.new.fails ≡ self.old.fails }
+        ensures ok { OnOk result (self.new ≡ record self.old { taken = self.old.taken ++ piece.now; call = one_more self.old.call }) }
+        ensures err { OnErr result (self.new ≡ sink_after_fault self.old) }
     {
         let call = self.call;
         self.call = counted(call);

@@ -1,9 +1,10 @@
 //! A source in memory.
 
-ghost use Rattle.std.specs.Prelude.{◌≡◌, ◌≤◌, ◌↔◌, ◌-◌, [], true, length, min, Some, IfOk, IsErr};
+ghost use Rattle.std.specs.Prelude.{◌≡◌, ◌≤◌, ◌↔◌, true, length, min, drop, Some, IfOk, OnErr, IsErr, MatchResult};
 ghost use Rattle.std.specs.Io.KnownBytes.{ReadConsumes};
 ghost use Rattle.io_edges.specs.Faults.{HasCause};
 ghost use Rattle.io_edges.specs.Calls.{is_listed, one_more};
+ghost use Rattle.io_edges.specs.Memory.{source_after_fault};
 
 use crate::calls::{CallList, counted};
 use crate::edges::{Failed, NoMemory, Source};
@@ -33,7 +34,7 @@ impl Model for MemSource {
 }
 
 impl MemSource {
-    /// A source of these bytes. It takes no memory today, and may want some later.
+    /// A source of these bytes, whose first read has the number 0. NoMemory: there was none for the source.
     pub fn over(_alloc: Global, bytes: Vec<u8>, fails: CallList) -> Result<MemSource, NoMemory>
         ensures { IfOk result (λ s. s ≡ record { left = bytes.items; fails = fails; call = 0; faults = 0 }) }
     {
@@ -60,8 +61,9 @@ impl Source for MemSource {
         ensures cause { HasCause self.old.faults self.new.faults result }
         ensures listed { IsErr result ↔ (is_listed self.old.fails self.old.call ≡ true) }
         ensures most { IfOk result (λ count. count ≡ min (length into.old) (length self.old.left)) }
-        ensures counts { self.new.call ≡ one_more self.old.call }
-        ensures fails { self.new.fails ≡ self.old.fails }
+        ensures rest { MatchResult result (λ count. drop count into.new ≡ drop count into.old) (λ _. into.new ≡ into.old) }
+        ensures ok { IfOk result (λ count. self.new ≡ record self.old { left = drop count self.old.left; call = one_more self.old.call }) }
+        ensures err { OnErr result (self.new ≡ source_after_fault self.old) }
     {
         let call = self.call;
         self.call = counted(call);

@@ -19,6 +19,7 @@ impl Model for Word {
 }
 
 impl Word {
+    /// The word with this text.
     pub fn of(text: String) -> Word
         ensures { result ≡ string_bytes text }
     {

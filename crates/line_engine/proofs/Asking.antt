@@ -1,13 +1,12 @@
 -- Requests, found in bytes whose lines are known.
-use Rattle.std.proofs.Common.{◌≡◌, ℕ, ◌+◌, ◌<◌, ◌≤◌, nat_lt, Bool, true, false, cond, List, [], ◌∷◌, ◌++◌, length, take, filter, Option, refl, sym, ap, subst, inl, inr, ◌∙◌, append_assoc, arith, length-append}
-use Rattle.std.proofs.lemmas.Grind.{common_steps}
+use Rattle.std.proofs.Common.{◌≡◌, ℕ, ◌<◌, nat_lt, Bool, true, false, cond, List, [], ◌∷◌, ◌++◌, length, take, filter, Option, refl, sym, ap, inl, inr, ◌∙◌, append_assoc, arith, length-append}
 use Rattle.std.proofs.lemmas.Bool.Decides.{nat_tests}
 use Rattle.std.proofs.lemmas.List.{take_all}
-use Rattle.line_engine.specs.Line.{Line, longest_line, kept, is_long}
-use Rattle.line_engine.specs.Request.{ReadLine, in_full, too_long, SourceLine, not_taken, missing, given, Request, takes_source, read_of, alone, with_source, without_source, grouped, grouped_with, requests, whole_requests}
+use Rattle.line_engine.specs.Line.{Line, longest_line, kept}
+use Rattle.line_engine.specs.Request.{ReadLine, in_full, too_long, SourceLine, not_taken, missing, given, Request, takes_source, read_of, alone, with_source, grouped, grouped_with, requests, whole_requests}
 use Rattle.line_engine.specs.Seen.{InputState, LineState}
 use Rattle.line_engine.specs.LineIn.{line_in}
-use Rattle.line_engine.specs.Fetch.{Uses, UsesAll, HasEnded, Holds, spoken, IsSpoken, IsUnfinished, IsRequest, SpeaksLine, SpeaksLast, SpeaksNone, SpeaksPast, SpeaksPart, AsksWhole, AsksLast, AsksNone, AsksPast, AsksPart, SourceRead, NextRead}
+use Rattle.line_engine.specs.Fetch.{Holds, spoken, IsSpoken, IsUnfinished, SpeaksLine, SpeaksLast, SpeaksNone, SpeaksPast, SpeaksPart, AsksWhole, AsksLast, AsksNone, AsksPast, AsksPart, SourceRead, NextRead}
 use Rattle.line_engine.specs.declared.fetch.Asked.TheVariants.{Alone, WithSource, WithoutSource}
 use Rattle.line_engine.specs.declared.fetch.Next.{Next}
 use Rattle.line_engine.specs.declared.fetch.Next.TheVariants.{Request as NextRequest, End, Limit, Fault}

@@ -1,11 +1,11 @@
 -- Where bytes are cut at a newline, and the lines that this makes.
-use Rattle.std.proofs.Common.{◌≡◌, ℕ, zero, suc, ◌+◌, ◌-◌, ◌<◌, ◌≤◌, Bool, true, false, not, cond, List, [], ◌∷◌, ◌++◌, length, take, drop, get_or, filter, Option, Some, None, IfSome, IfNone, refl, sym, ap, ◌∙◌, append_assoc, arith, add-one}
+use Rattle.std.proofs.Common.{◌≡◌, ℕ, zero, suc, ◌+◌, ◌<◌, ◌≤◌, true, false, List, [], ◌∷◌, ◌++◌, length, take, drop, get_or, Option, Some, None, IfSome, IfNone, refl, sym, ap, arith}
 use Rattle.std.proofs.lemmas.Grind.{common_steps}
 use Rattle.std.proofs.lemmas.List.{take_all}
 use Rattle.std.proofs.lemmas.Bool.{false_from_ne_true}
-use Rattle.memchr.specs.Find.{IsFirstByte, is_byte, Nowhere, NoneBefore, Passes}
-use Rattle.line_engine.specs.Line.{Line, newline, lines_of, is_blank, with_first}
-use Rattle.line_engine.specs.Fetch.{has_newline, IsCutAt, spoken, IsSpoken, IsUnfinished}
+use Rattle.memchr.specs.Find.{IsFirstByte, is_byte}
+use Rattle.line_engine.specs.Line.{newline, lines_of}
+use Rattle.line_engine.specs.Fetch.{has_newline, IsCutAt}
 
 -- bytes without a newline, and then one
 pub lines_at : (bytes after : List ℕ) → has_newline bytes ≡ false → lines_of (bytes ++ newline ∷ after) ≡ record { bytes = bytes; ended = true } ∷ lines_of after

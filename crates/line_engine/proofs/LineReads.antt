@@ -1,12 +1,11 @@
 -- How a line is read, piece by piece.
-use Rattle.std.proofs.Common.{◌≡◌, ℕ, ◌+◌, ◌-◌, ◌<◌, ◌≤◌, nat_lt, Bool, true, false, ◌||◌, IsTrue, zero, suc, List, [], ◌∷◌, ◌++◌, length, take, drop, Option, Some, None, refl, sym, ap, subst, lit<, ◌∙◌, append_assoc, arith, length-append, length-take}
+use Rattle.std.proofs.Common.{◌≡◌, ℕ, ◌+◌, ◌<◌, nat_lt, false, ◌||◌, zero, suc, List, [], ◌∷◌, ◌++◌, length, take, drop, Option, refl, sym, ap, subst, lit<, ◌∙◌, append_assoc, arith, length-take}
 use Rattle.std.proofs.lemmas.Grind.{common_steps}
-use Rattle.std.proofs.lemmas.List.{append-nil, take_all, take-append-le}
-use Rattle.std.specs.Io.KnownBytes.{IsAtEnd}
+use Rattle.std.proofs.lemmas.List.{append-nil}
 use Rattle.line_engine.specs.Line.{newline, longest_line}
 use Rattle.line_engine.specs.Seen.{InputState, LineState}
-use Rattle.line_engine.specs.Input.{ReadsMore, MeetsEnd, MeetsLimit, MeetsFault, IsFilled}
-use Rattle.line_engine.specs.Fetch.{Uses, UsesAll, HasEnded, Holds, IsCutAt, has_newline, ReadsLine, ReadsLast, ReadsNone, ReadsPast, ReadsPart}
+use Rattle.line_engine.specs.Input.{ReadsMore, MeetsEnd, MeetsLimit, MeetsFault}
+use Rattle.line_engine.specs.Fetch.{Uses, HasEnded, Holds, IsCutAt, has_newline, ReadsLine, ReadsLast, ReadsNone, ReadsPast, ReadsPart}
 use Rattle.line_engine.proofs.Uses.{uses_none, uses_piece, uses_more, uses_end, uses_fault, uses_limit}
 use Rattle.line_engine.proofs.Fronts.{kept_again, long_again}
 

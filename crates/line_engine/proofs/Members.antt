@@ -1,5 +1,5 @@
 -- Objects with no member, with one and with more.
-use Rattle.std.proofs.Common.{◌≡◌, ◌≢◌, ℕ, ◌<◌, List as Seq, [], ◌∷◌, ◌++◌, length, get_or, Option, Some, None, refl, arith, eqb}
+use Rattle.std.proofs.Common.{◌≡◌, ◌≢◌, ℕ, ◌<◌, List as Seq, [], ◌∷◌, ◌++◌, length, get_or, Some, None, refl, arith, eqb}
 use Rattle.std.proofs.lemmas.Grind.{common_steps}
 use Rattle.tree_json.specs.Value.{object, members_of}
 use Rattle.tree_json.specs.View.{view, entries}

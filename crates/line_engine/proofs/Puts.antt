@@ -1,12 +1,9 @@
 -- A tree is put under a number above all others, and the one with its id is taken out.
-use Rattle.std.proofs.Common.{◌≡◌, ◌≢◌, ℕ, ◌+◌, ◌<◌, List, [], ◌∷◌, ◌++◌, Bool, true, false, cond, map, refl, ap, sym, ◌∙◌, Option, None, Some, nat_cmp, Greater, arith, subst}
+use Rattle.std.proofs.Common.{◌≡◌, ◌≢◌, ℕ, ◌+◌, ◌<◌, List, [], ◌∷◌, ◌++◌, Bool, true, false, cond, refl, ap, sym, ◌∙◌, Option, None, Some, nat_cmp, Greater, arith, subst}
 use Rattle.std.proofs.lemmas.Bool.{false_from_ne_true}
 use Rattle.std.proofs.lemmas.Bool.Decides.{nat_tests}
 use Rattle.std.proofs.lemmas.List.{map-append}
 use Rattle.std.proofs.lemmas.Slice.Eq.{bytes_eq-Decides}
-use Rattle.std.proofs.lemmas.Map.Text.{btree_map_updates_text}
-use Rattle.std.specs.List.{AllByRecursion}
-use Rattle.std.specs.Ordering.{is_eq}
 use Rattle.std.specs.Map.{remove_entry}
 use Rattle.std.specs.Str.{bytes_eq}
 use Rattle.std.specs.BTreeMap.{BTreeMap, is_at, insert_entry, get_by_text}
@@ -153,11 +150,6 @@ below_put tree (first ∷ trees) below = step (has_id tree.id first) (below_put 
 pub indexed_same : (trees trees' : BTreeMap ℕ Stored) (numbers numbers' : BTreeMap (String Global) ℕ) → trees'.entries ≡ trees.entries → numbers'.entries ≡ numbers.entries → IsIndexed trees numbers → IsIndexed trees' numbers'
 indexed_same trees trees' numbers numbers' e f is = record { live = rw e is.live; found = λ id. rw (e, f) (is.found id) }
 
--- the number that was kept under a key is that of the tree with this id
-number_kept : (trees : BTreeMap ℕ Stored) (numbers : BTreeMap (String Global) ℕ) (key id : List ℕ) (old : Option ℕ) → IsIndexed trees numbers → key ≡ id → get_by_text numbers key ≡ old
-    → number_of id (trees_of trees.entries) ≡ old
-number_kept trees numbers key id old is same kept = sym (is.found id) ∙ (ap (λ (bytes : List ℕ). get_by_text numbers bytes) (sym same) ∙ kept)
-
 -- after a tree is put, and its number under its id
 pub indexed_put : (trees trees' : BTreeMap ℕ Stored) (numbers numbers' : BTreeMap (String Global) ℕ) (tree : Tree) (key : List ℕ) → IsIndexed trees numbers → AreBelow tree.number (trees_of trees.entries)
     → trees_of trees'.entries ≡ with_put tree (trees_of trees.entries) → key ≡ tree.id
@@ -180,20 +172,18 @@ as_before n stored old mid now below put took =
     took ∙ ap (λ (entries : List (ℕ × Stored)). remove_entry (is_at (nat_cmp n)) entries) (grown n stored old mid below put) ∙ taken_back n stored old below
 
 -- a tree whose id is new
-pub put_new : {trees : BTreeMap ℕ Stored} {numbers : BTreeMap (String Global) ℕ} (n : ℕ) (stored : Stored) (key : List ℕ) (now : List (ℕ × Stored))
-    → IsIndexed trees numbers → AreBelow n (trees_of trees.entries) → key ≡ stored.id → None ≡ get_by_text numbers key → now ≡ insert_entry nat_cmp trees.entries n stored
+pub put_new : {trees : BTreeMap ℕ Stored} {numbers : BTreeMap (String Global) ℕ} (n : ℕ) (stored : Stored) (now : List (ℕ × Stored))
+    → IsIndexed trees numbers → AreBelow n (trees_of trees.entries) → get_by_text numbers stored.id ≡ None → now ≡ insert_entry nat_cmp trees.entries n stored
     → trees_of now ≡ with_put (tree_at (n, stored)) (trees_of trees.entries)
-put_new {trees} {numbers} n stored key now is below same kept put =
-    let none : number_of stored.id (trees_of trees.entries) ≡ None = number_kept trees numbers key stored.id None is same (sym kept) in
+put_new {trees} {numbers} n stored now is below kept put =
     ap trees_of (grown n stored trees.entries now below put)
     ∙ trees_more trees.entries (n, stored)
-    ∙ ap (λ (rest : List Tree). rest ++ tree_at (n, stored) ∷ []) (sym (without_none stored.id (trees_of trees.entries) none))
+    ∙ ap (λ (rest : List Tree). rest ++ tree_at (n, stored) ∷ []) (sym (without_none stored.id (trees_of trees.entries) (sym (is.found stored.id) ∙ kept)))
 
 -- a tree whose id another one has, under the number m
-pub put_over : {trees : BTreeMap ℕ Stored} {numbers : BTreeMap (String Global) ℕ} (n m : ℕ) (stored : Stored) (key : List ℕ) (mid now : List (ℕ × Stored))
-    → IsIndexed trees numbers → AreBelow n (trees_of trees.entries) → key ≡ stored.id → Some m ≡ get_by_text numbers key → mid ≡ insert_entry nat_cmp trees.entries n stored
+pub put_over : {trees : BTreeMap ℕ Stored} {numbers : BTreeMap (String Global) ℕ} (n m : ℕ) (stored : Stored) (mid now : List (ℕ × Stored))
+    → IsIndexed trees numbers → AreBelow n (trees_of trees.entries) → get_by_text numbers stored.id ≡ Some m → mid ≡ insert_entry nat_cmp trees.entries n stored
     → now ≡ remove_entry (is_at (nat_cmp m)) mid → trees_of now ≡ with_put (tree_at (n, stored)) (trees_of trees.entries)
-put_over {trees} {numbers} n m stored key mid now is below same kept put took =
-    let found : number_of stored.id (trees_of trees.entries) ≡ Some m = number_kept trees numbers key stored.id (Some m) is same (sym kept) in
+put_over {trees} {numbers} n m stored mid now is below kept put took =
     ap trees_of (took ∙ ap (λ (entries : List (ℕ × Stored)). remove_entry (is_at (nat_cmp m)) entries) (grown n stored trees.entries mid below put))
-    ∙ taken_out stored.id m trees.entries (n, stored) is.live found
+    ∙ taken_out stored.id m trees.entries (n, stored) is.live (sym (is.found stored.id) ∙ kept)

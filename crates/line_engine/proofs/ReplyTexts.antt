@@ -3,7 +3,7 @@ use Rattle.std.proofs.Common.{◌≡◌, ℕ, List, [], ◌∷◌, ◌++◌, cod
 use Rattle.json.specs.Print.{escape_byte}
 use Rattle.tree_json.specs.Text.{quoted}
 use Rattle.line_engine.specs.Line.{newline}
-use Rattle.line_engine.specs.Reply.{reply_text, changed, refusal, number_of_refusal, reason_of, word_of}
+use Rattle.line_engine.specs.Reply.{reply_text, changed, change_end, refusal, number_of_refusal, reason_of, word_of}
 use Rattle.line_engine.specs.declared.refusal.Refusal.{Refusal}
 use Rattle.line_engine.specs.declared.refusal.Refusal.TheVariants.{BadJson, FractionNumber, LineTooLong, BadRequest, MissingSource}
 use Rattle.line_engine.specs.declared.reply.WriteResult.{WriteResult}
@@ -70,18 +70,18 @@ change_read id n w = refl
 
 change_regrouped : (old front colon comma mark back end name id name2 number name3 word : List ℕ)
     → old ++ ((front ++ (((name ++ (colon ++ id)) ++ (comma ++ ((name2 ++ (colon ++ number)) ++ (comma ++ ((name3 ++ (colon ++ (mark ++ (word ++ mark)))) ++ []))))) ++ back)) ++ end)
-    ≡ ((((((old ++ (front ++ (name ++ colon))) ++ id) ++ (comma ++ (name2 ++ colon))) ++ number) ++ (comma ++ (name3 ++ (colon ++ mark)))) ++ word) ++ (mark ++ (back ++ end))
+    ≡ (((((old ++ (front ++ (name ++ colon))) ++ id) ++ (comma ++ (name2 ++ colon))) ++ number) ++ (comma ++ (name3 ++ (colon ++ mark)))) ++ (word ++ (mark ++ (back ++ end)))
 change_regrouped old front colon comma mark back end name id name2 number name3 word = simp (append_assoc, append-nil)
 
 change_written : (old id number word : List ℕ)
     → old ++ change_parts (codes "\"_id\"") id (codes "\"_seq_no\"") number (codes "\"result\"") (codes "\"" ++ (word ++ codes "\""))
-    ≡ ((((((old ++ codes "{\"_id\":") ++ id) ++ codes ",\"_seq_no\":") ++ number) ++ codes ",\"result\":\"") ++ word) ++ codes "\"}\n"
+    ≡ (((((old ++ codes "{\"_id\":") ++ id) ++ codes ",\"_seq_no\":") ++ number) ++ codes ",\"result\":\"") ++ (word ++ codes "\"}\n")
 unfolding change_parts
 change_written old id number word =
     change_regrouped old (codes "{") (codes ":") (codes ",") (codes "\"") (codes "}") (newline ∷ []) (codes "\"_id\"") id (codes "\"_seq_no\"") number (codes "\"result\"") word
 
 pub change_text : (old id : List ℕ) (n : ℕ) (w : WriteResult)
-    → old ++ reply_text (changed id n w) ≡ ((((((old ++ codes "{\"_id\":") ++ quoted id) ++ codes ",\"_seq_no\":") ++ decimal n) ++ codes ",\"result\":\"") ++ word_of w) ++ codes "\"}\n"
+    → old ++ reply_text (changed id n w) ≡ (((((old ++ codes "{\"_id\":") ++ quoted id) ++ codes ",\"_seq_no\":") ++ decimal n) ++ codes ",\"result\":\"") ++ change_end w
 change_text old id n w = cc (change_read id n w, id_name, number_name, result_name, quoted_word w, change_written old (quoted id) (decimal n) (word_of w))
 
 -- ---- a refusal

@@ -1,24 +1,22 @@
 -- A session, request after request.
-use Rattle.std.proofs.Common.{◌≡◌, ℕ, ◌+◌, ◌≤◌, ◌<◌, ◌⊎◌, Bool, true, false, IsTrue, List, [], ◌∷◌, ◌++◌, length, filter, codes, Option, Some, None, IfNone, IfSome, refl, sym, ap, subst, inl, inr, ◌∙◌, append_assoc, arith, length-append}
-use Rattle.std.proofs.lemmas.Grind.{common_steps}
+use Rattle.std.proofs.Common.{◌≡◌, ℕ, ◌+◌, ◌<◌, Bool, true, false, IsTrue, List, [], ◌∷◌, ◌++◌, filter, codes, Option, Some, None, IfNone, IfSome, refl, sym, ap, subst, inl, inr, ◌∙◌, append_assoc, arith, length-append}
 use Rattle.std.proofs.lemmas.List.{append-nil}
 use Rattle.std.specs.List.{AllByRecursion}
-use Rattle.std.specs.Io.KnownBytes.{Consumes, Appends, IsAtEnd, Keeps}
-use Rattle.json.specs.Print.{escape, escape_byte}
+use Rattle.std.specs.Io.KnownBytes.{Consumes}
+use Rattle.json.specs.Print.{escape_byte}
 use Rattle.tree_json.specs.Text.{quoted}
-use Rattle.line_engine.specs.Line.{newline}
 use Rattle.line_engine.specs.Request.{ReadLine, SourceLine, Request, requests, whole_requests}
 use Rattle.line_engine.specs.Reply.{Reply, reply_text, out_of_memory}
 use Rattle.line_engine.specs.Machine.{State, empty_state, step}
 use Rattle.line_engine.specs.Run.{MayStep, MayRun, IsFront, AnswersAll, AnswersRead, AnswersWithin, AnswersFront, Serves}
 use Rattle.line_engine.specs.Seen.{InputState, LineState, EngineState}
-use Rattle.line_engine.specs.Fetch.{Uses, UsesAll, HasEnded, AsksWhole, AsksLast, AsksNone, AsksPast, AsksPart, Asks, RequestRead, source_asked, ahead}
+use Rattle.line_engine.specs.Fetch.{Uses, UsesAll, AsksWhole, AsksLast, AsksNone, AsksPast, AsksPart, Asks, RequestRead, source_asked, ahead}
 use Rattle.line_engine.specs.LineIn.{line_in}
 use Rattle.line_engine.specs.declared.fetch.Asked.{Asked}
 use Rattle.line_engine.specs.declared.fetch.Asked.TheVariants.{Alone, WithSource, WithoutSource}
 use Rattle.line_engine.specs.declared.status.Status.{Status}
 use Rattle.line_engine.specs.declared.status.Status.TheVariants.{Done, BadWords, ReadFault, WriteFault, DiskFault, NotAStore, Damaged, SessionLimit, NoMemory}
-use Rattle.line_engine.specs.Served.{Served, Replies, RepliesPart, IsNext, IsLast, TakesFront, request_in}
+use Rattle.line_engine.specs.Served.{Served, Replies, RepliesPart, IsNext, IsLast, request_in}
 use Rattle.line_engine.specs.declared.limits.Limits.{Limits}
 use Rattle.line_engine.proofs.Uses.{consumes_none, consumes_more, uses_ahead}
 use Rattle.line_engine.proofs.Writing.{appends_none, appends_more}

@@ -1,12 +1,11 @@
 -- Lines that aren't blank, found in bytes that are read line by line.
-use Rattle.std.proofs.Common.{◌≡◌, ℕ, ◌+◌, ◌<◌, ◌≤◌, nat_lt, Bool, true, false, not, ◌&&◌, List, [], ◌∷◌, ◌++◌, length, take, filter, Option, refl, sym, ap, subst, ◌∙◌, append_assoc, arith, length-append}
+use Rattle.std.proofs.Common.{◌≡◌, ℕ, ◌<◌, nat_lt, Bool, true, false, not, ◌&&◌, List, [], ◌∷◌, ◌++◌, length, take, filter, Option, refl, ap, ◌∙◌, append_assoc, arith, length-append}
 use Rattle.std.proofs.lemmas.Grind.{common_steps}
 use Rattle.std.proofs.lemmas.Bool.Decides.{nat_tests}
-use Rattle.std.proofs.lemmas.List.{append-nil, take_all}
 use Rattle.std.specs.List.{list_all}
 use Rattle.line_engine.specs.Line.{Line, newline, longest_line, lines_of, is_blank, is_blank_byte}
 use Rattle.line_engine.specs.Seen.{InputState, LineState}
-use Rattle.line_engine.specs.Fetch.{Uses, UsesAll, HasEnded, Holds, has_newline, spoken, IsSpoken, IsUnfinished, ReadsLine, ReadsLast, ReadsNone, ReadsPast, ReadsPart, SpeaksLine, SpeaksLast, SpeaksNone, SpeaksPast, SpeaksPart}
+use Rattle.line_engine.specs.Fetch.{Uses, Holds, has_newline, spoken, IsSpoken, IsUnfinished, ReadsLine, ReadsLast, ReadsNone, ReadsPast, ReadsPart, SpeaksLine, SpeaksLast, SpeaksNone, SpeaksPast, SpeaksPart}
 use Rattle.line_engine.proofs.Cuts.{lines_at, lines_last}
 use Rattle.line_engine.proofs.Uses.{uses_none, uses_both, uses_both_all}
 

@@ -1,7 +1,7 @@
 -- What a request asks for: an action, or the refusal of what isn't one.
-use Rattle.std.specs.Prelude.{ℕ, ◌+◌, ◌≤◌, Bool, true, false, List, [], ◌∷◌, length, codes, nat_le, if◌then◌else◌, ◌&&◌, Option, Some, None, option_map}
+use Rattle.std.specs.Prelude.{ℕ, Bool, true, false, List, length, codes, nat_le, if◌then◌else◌, ◌&&◌, Option, Some, None, option_map}
 use Rattle.std.specs.Str.{bytes_eq}
-use Rattle.tree_json.specs.Value.{JsonValue, null, bool, whole, text, list, object, Members, no_members, member}
+use Rattle.tree_json.specs.Value.{JsonValue, text, object, Members, no_members, member}
 use Rattle.tree_json.specs.Reading.{Reading, reading, bad_json, fraction, value}
 use Rattle.query_ast.specs.Clause.{Clause, match_all}
 use Rattle.query_ast.specs.Page.{Search}

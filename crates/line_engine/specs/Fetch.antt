@@ -1,9 +1,9 @@
 -- What reading a line and a request uses up of the input, and what they are.
-use Rattle.std.specs.Prelude.{◌≡◌, ◌<◌, ◌==◌, nat_lt, ℕ, ◌+◌, Bool, true, false, not, IsTrue, List, [], ◌∷◌, ◌++◌, length, take, drop, filter, Option, if◌then◌else◌, ◌⊎◌}
-use Rattle.std.specs.List.{list_any, list_all}
+use Rattle.std.specs.Prelude.{◌≡◌, ◌<◌, ◌==◌, nat_lt, ℕ, ◌+◌, Bool, true, false, not, IsTrue, List, [], ◌∷◌, ◌++◌, length, take, drop, filter, Option, ◌⊎◌}
+use Rattle.std.specs.List.{list_any}
 use Rattle.std.specs.Io.KnownBytes.{Consumes, IsAtEnd}
-use Rattle.line_engine.specs.Line.{Line, newline, longest_line, lines_of, is_blank, is_blank_byte}
-use Rattle.line_engine.specs.Request.{ReadLine, in_full, too_long, SourceLine, not_taken, missing, given, Request, requests, whole_requests, grouped}
+use Rattle.line_engine.specs.Line.{Line, newline, longest_line, lines_of, is_blank}
+use Rattle.line_engine.specs.Request.{ReadLine, SourceLine, not_taken, missing, given, Request, requests, whole_requests}
 use Rattle.line_engine.specs.Seen.{InputState, LineState}
 use Rattle.line_engine.specs.LineIn.{line_in}
 use Rattle.line_engine.specs.declared.fetch.Fetched.{Fetched}
@@ -11,7 +11,6 @@ use Rattle.line_engine.specs.declared.fetch.Fetched.TheVariants as Line
 use Rattle.line_engine.specs.declared.fetch.Asked.{Asked}
 use Rattle.line_engine.specs.declared.fetch.Asked.TheVariants.{Alone, WithSource, WithoutSource}
 use Rattle.line_engine.specs.declared.fetch.Next.{Next}
-use Rattle.line_engine.specs.declared.fetch.Next.TheVariants as Next
 
 -- These bytes were used up: they and what is unread now are what was unread before and what the source gave.
 pub record Uses (old new : InputState) (left left' : Option (List ℕ)) (used : List ℕ) : Type 0 where

@@ -1,5 +1,5 @@
 -- The input as it is read.
-use Rattle.std.specs.Prelude.{◌≡◌, ◌<◌, ℕ, ◌+◌, Bool, true, IsTrue, List, [], ◌∷◌, length, Option}
+use Rattle.std.specs.Prelude.{◌≡◌, ◌<◌, ℕ, ◌+◌, true, IsTrue, List, [], ◌∷◌, length, Option}
 use Rattle.std.specs.Io.KnownBytes.{Consumes, IsAtEnd}
 use Rattle.line_engine.specs.Seen.{InputState}
 use Rattle.line_engine.specs.declared.input.Filled.{Filled}

@@ -1,5 +1,5 @@
 -- Which limits a session may be held to.
-use Rattle.std.specs.Prelude.{ℕ, ◌≤◌, ◌^◌}
+use Rattle.std.specs.Prelude.{◌≤◌, ◌^◌}
 use Rattle.line_engine.specs.declared.limits.Limits.{Limits}
 
 abbrev pub standard_limits : Limits

@@ -1,5 +1,5 @@
 -- The plain machine over trees: its state, and the step that it takes for a request.
-use Rattle.std.specs.Prelude.{ℕ, ◌+◌, List, [], ◌∷◌, ◌++◌, Option, is_some, if◌then◌else◌}
+use Rattle.std.specs.Prelude.{ℕ, ◌+◌, List, [], ◌∷◌, ◌++◌, is_some, if◌then◌else◌}
 use Rattle.tree_json.specs.Value.{JsonValue}
 use Rattle.query_ast.specs.Tree.{Tree, number_of, without}
 use Rattle.query_ast.specs.Page.{page_of}

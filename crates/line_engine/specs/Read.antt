@@ -1,6 +1,6 @@
 -- How the reading of a request is seen.
-use Rattle.std.specs.Prelude.{◌≡◌, ℕ, ⊤, List, Option, Some, None}
-use Rattle.tree_json.specs.Value.{JsonValue, null, bool, whole, text, list, object, Members}
+use Rattle.std.specs.Prelude.{◌≡◌, ⊤}
+use Rattle.tree_json.specs.Value.{JsonValue, object}
 use Rattle.tree_json.specs.declared.reader.JsonRefusal.{JsonRefusal}
 use Rattle.tree_json.specs.declared.reader.JsonRefusal.TheVariants as Json
 use Rattle.query_ast.specs.View.{search_of}

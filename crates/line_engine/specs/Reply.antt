@@ -1,5 +1,5 @@
 -- Replies, and their texts.
-use Rattle.std.specs.Prelude.{ℕ, ℤ, pos, List, [], ◌∷◌, ◌++◌, codes}
+use Rattle.std.specs.Prelude.{ℕ, pos, List, [], ◌∷◌, ◌++◌, codes}
 use Rattle.tree_json.specs.Value.{JsonValue, whole, text, list, object, Elements, no_elements, element, Members, no_members, member}
 use Rattle.tree_json.specs.Text.{compact}
 use Rattle.query_ast.specs.Page.{Key, number, Hit, Page}
@@ -77,3 +77,7 @@ reply_value out_of_memory = error_value (member (codes "reason") (text (codes "o
 -- the text of a reply: compact JSON and one newline
 unfoldable pub reply_text : Reply → List ℕ
 reply_text reply = compact (reply_value reply) ++ newline ∷ []
+
+-- the end of the text of a reply to a change: the word for its result, and what stands behind it
+abbrev pub change_end : WriteResult → List ℕ
+change_end result = word_of result ++ codes "\"}\n"

@@ -1,5 +1,5 @@
 -- Requests: a line, or an action line together with the line that has its source (Elasticsearch reference, bulk API).
-use Rattle.std.specs.Prelude.{ℕ, ◌==◌, nat_eq, Bool, true, false, ◌||◌, ◌&&◌, List, [], ◌∷◌, length, drop, codes, filter, not, if◌then◌else◌}
+use Rattle.std.specs.Prelude.{ℕ, nat_eq, Bool, false, ◌||◌, ◌&&◌, List, [], ◌∷◌, length, drop, codes, filter, not, if◌then◌else◌}
 use Rattle.std.specs.List.{starts_with}
 use Rattle.line_engine.specs.Line.{Line, lines_of, kept, is_long, is_blank, past_blanks}
 

@@ -1,5 +1,5 @@
 -- What the program may do: runs of the machine, and what a call of `serve` leaves read and written.
-use Rattle.std.specs.Prelude.{◌≡◌, ℕ, ◌+◌, ◌≤◌, ◌⊎◌, List, [], ◌∷◌, ◌++◌, length, Option, ⊤}
+use Rattle.std.specs.Prelude.{◌≡◌, ℕ, ◌≤◌, ◌⊎◌, List, [], ◌∷◌, ◌++◌, length, Option, ⊤}
 use Rattle.std.specs.Io.KnownBytes.{Consumes, Appends, IsAtEnd, Keeps}
 use Rattle.io_edges.specs.Faults.{Rose}
 use Rattle.line_engine.specs.Request.{Request, requests, whole_requests}

@@ -15,7 +15,7 @@ use crate::line::{FirstLine, SourceLine};
 use crate::live::LiveTrees;
 use crate::page::write_page;
 use crate::refusal::NoMemory;
-use crate::reply::{WriteResult, write_change, write_refusal};
+use crate::reply::{begin_change, end_change, write_refusal};
 use io_edges::Disk;
 use query_ast::SearchBody;
 use source_steps::Steps;
@@ -151,7 +151,7 @@ impl Engine {
         }
     }
 
-    // The reply is written first, so that want of memory leaves the trees as they were.
+    // The room for the whole reply comes first, so that want of memory leaves the trees as they were.
     fn index(&mut self, id: JsonText, source: Json, out: &mut OutText) -> Result<(), NoMemory>
         requires room { self.old.state.next < 2 ^ 50 }
         requires calls { self.old.state.next < self.old.calls }
@@ -162,12 +162,9 @@ impl Engine {
         ensures calls { self.new.calls ≡ self.old.calls }
         ensures room { room_of out.old ≤ room_of out.new }
     {
-        let word = match self.live.number(&id) {
-            Some(_) => WriteResult::Updated,
-            None => WriteResult::Created,
-        };
-        write_change(id.as_slice(), self.next, word, out)?;
-        self.live.put(self.next, id, source)?;
+        begin_change(id.as_slice(), self.next, out)?;
+        let what = self.live.put(self.next, id, source)?;
+        end_change(what, out);
         self.next += 1;
         Ok(())
     }

@@ -1,18 +1,18 @@
 //! The live trees of an index.
 
-ghost use Rattle.std.specs.Prelude.{◌≡◌, ◌<◌, ◌≤◌, ◌++◌, [], false, length, map, take, OnOk, OnErr};
-ghost use Rattle.std.specs.BTreeMap.{is_at};
+ghost use Rattle.std.specs.Prelude.{◌≡◌, ◌<◌, ◌≤◌, ◌++◌, [], false, length, map, take, OnOk, OnErr, IfOk, None};
+ghost use Rattle.std.specs.BTreeMap.{is_at, get_by_text};
 ghost use Rattle.std.specs.Map.{remove_entry};
 ghost use Rattle.std.specs.Ordering.{nat_cmp};
-ghost use Rattle.std.specs.String.{string_bytes};
 ghost use Rattle.tree_json.specs.View.{view};
-ghost use Rattle.query_ast.specs.Tree.{IsLiveList, number_of};
-ghost use Rattle.line_engine.specs.Machine.{with_put, new_tree};
+ghost use Rattle.query_ast.specs.Tree.{IsLiveList};
+ghost use Rattle.line_engine.specs.Machine.{with_put, new_tree, result_of};
 ghost use Rattle.line_engine.specs.Live.{IsIndexed, AreBelow, trees_of, tree_at, scored, hits_text};
 ghost use Rattle.tree_json.specs.Output.{room_of};
 
 use crate::page::write_hits;
 use crate::refusal::NoMemory;
+use crate::reply::WriteResult;
 use std::alloc::Global;
 use std::collections::BTreeMap;
 use std::marker::Model;
@@ -70,24 +70,22 @@ impl LiveTrees {
         self.trees.len() as u64
     }
 
-    /// The number of the tree with this id.
-    pub(crate) fn number(&self, id: &JsonText) -> Option<u64>
-        ensures { result ≡ number_of id.now self.now }
-    {
-        self.numbers.get(id.as_str()).copied()
-    }
-
-    /// Puts a tree with the next number in place of the one with its id, or as a new one.
-    pub(crate) fn put(&mut self, number: u64, id: JsonText, source: Json) -> Result<(), NoMemory>
+    /// Puts a tree with the next number in place of the one with its id, or as a new one, and says which.
+    pub(crate) fn put(
+        &mut self,
+        number: u64,
+        id: JsonText,
+        source: Json,
+    ) -> Result<WriteResult, NoMemory>
         requires { AreBelow number self.old }
+        ensures what { IfOk result (λ what. what ≡ result_of id self.old) }
         ensures ok { OnOk result (self.new ≡ with_put (new_tree id (view source) number) self.old) }
         ensures err { OnErr result (self.new ≡ self.old) }
     {
-        let key = String::from_str(self.alloc, id.as_str())?;
         put_stored(
+            self.alloc,
             &mut self.trees,
             &mut self.numbers,
-            key,
             number,
             Stored { id, source },
         )
@@ -104,26 +102,52 @@ impl LiveTrees {
 
 // Puts a tree under a number above all others, and takes the one with its id out.
 fn put_stored(
+    alloc: Global,
     trees: &mut BTreeMap<u64, Stored>,
     numbers: &mut BTreeMap<String, u64>,
-    key: String,
+    number: u64,
+    stored: Stored,
+) -> Result<WriteResult, NoMemory>
+    requires indexed { IsIndexed trees.old numbers.old }
+    requires above { AreBelow number (trees_of trees.old.entries) }
+    ensures what { IfOk result (λ what. what ≡ result_of stored.id (trees_of trees.old.entries)) }
+    ensures ok { OnOk result (trees_of trees.new.entries ≡ with_put (tree_at (number, stored)) (trees_of trees.old.entries)) }
+    ensures err { OnErr result (trees_of trees.new.entries ≡ trees_of trees.old.entries) }
+    ensures indexed { IsIndexed trees.new numbers.new }
+{
+    match numbers.get_mut(stored.id.as_str()) {
+        Some(kept) => {
+            trees.insert(number, stored)?;
+            take_out(trees, *kept);
+            *kept = number;
+            Ok(WriteResult::Updated)
+        }
+        None => {
+            put_new(alloc, trees, numbers, number, stored)?;
+            Ok(WriteResult::Created)
+        }
+    }
+}
+
+// Puts a tree whose id is new under a number above all others.
+fn put_new(
+    alloc: Global,
+    trees: &mut BTreeMap<u64, Stored>,
+    numbers: &mut BTreeMap<String, u64>,
     number: u64,
     stored: Stored,
 ) -> Result<(), NoMemory>
     requires indexed { IsIndexed trees.old numbers.old }
     requires above { AreBelow number (trees_of trees.old.entries) }
-    requires key { string_bytes key ≡ stored.id }
+    requires new { get_by_text numbers.old stored.id ≡ None }
     ensures ok { OnOk result (trees_of trees.new.entries ≡ with_put (tree_at (number, stored)) (trees_of trees.old.entries)) }
     ensures err { OnErr result (trees_of trees.new.entries ≡ trees_of trees.old.entries) }
     ensures indexed { IsIndexed trees.new numbers.new }
 {
+    let key = String::from_str(alloc, stored.id.as_str())?;
     trees.insert(number, stored)?;
     match numbers.insert(key, number) {
-        Ok(Some(old)) => {
-            take_out(trees, old);
-            Ok(())
-        }
-        Ok(None) => Ok(()),
+        Ok(_none) => Ok(()),
         Err(_failed) => {
             take_out(trees, number);
             Err(NoMemory)

@@ -86,3 +86,18 @@ present_fewer docs starts positions at are inside =
     (are.postings_are.positions_are at d (omega (arith, length-postings_of docs starts positions, inside))).fewer in
     let same : (get_or (postings_of docs starts positions) at d).1 ≡ row starts positions at = ap (λ (posting : ℕ × List ℕ). posting.1) (get_or-postings_of docs starts positions at d inside) in
     omega (arith, fewer, ap length same)
+
+-- the document of a posting
+pub documents_at : (postings : List (ℕ × List ℕ)) (at : ℕ) (d : ℕ × List ℕ) → at < length postings → get_or (documents postings) at 0 ≡ (get_or postings at d).0
+documents_at postings at d inside = let first : ℕ × List ℕ → ℕ = λ posting. posting.0 in get_or-map first postings at d 0 inside
+
+-- one more number above the one before it
+pub rising_more : (numbers : List ℕ) (at : ℕ) → 0 < at → ((k : ℕ) → k + 1 < at → get_or numbers k 0 < get_or numbers (k + 1) 0) → get_or numbers (at - 1) 0 < get_or numbers at 0 → (k : ℕ) → k + 1 < at + 1 → get_or numbers k 0 < get_or numbers (k + 1) 0
+rising_more numbers at some before more k below =
+    elim (cases_lt (k + 1) at) [
+      | inl earlier ↦ before k earlier
+      | inr from ↦
+          let here : get_or numbers (at - 1) 0 ≡ get_or numbers k 0 = ap (λ i. get_or numbers i 0) (omega (arith, from, below, some)) in
+          let next : get_or numbers at 0 ≡ get_or numbers (k + 1) 0 = ap (λ i. get_or numbers i 0) (omega (arith, from, below)) in
+          omega (arith, here, next, more)
+    ]

@@ -11,6 +11,8 @@ mod flat;
 mod lists;
 mod search;
 mod table;
+#[cfg(test)]
+mod tests;
 
 pub use cursor::Cursor;
 pub use lists::{PositionList, PostingList, PostingLists};

@@ -1,7 +1,6 @@
 //! Postings lists, as a table is built from them.
 
-ghost use Rattle.std.specs.Prelude.{◌≡◌};
-ghost use Rattle.std.specs.List.{All};
+ghost use Rattle.std.specs.Prelude.{◌≡◌, ◌↔◌, IsTrue};
 ghost use Rattle.postings.specs.Postings.{documents, AreAscending, ArePostings};
 
 use std::marker::Model;
@@ -30,6 +29,21 @@ impl PositionList {
         ensures { result ≡ positions.items }
     {
         PositionList { positions }
+    }
+
+    /// Whether positions are fewer than 2^32 and strictly ascending, as a list wants them.
+    pub fn are_ascending(positions: &[u32]) -> bool
+        ensures { IsTrue result ↔ AreAscending positions.now }
+    {
+        if positions.len() > u32::MAX as usize {
+            return false;
+        }
+        'positions: for at in 1..positions.len() {
+            if positions[at] <= positions[at - 1] {
+                return false;
+            }
+        }
+        true
     }
 
     /// The positions, ascending.
@@ -65,6 +79,21 @@ impl PostingList {
         ensures { result ≡ postings.items }
     {
         PostingList { postings }
+    }
+
+    /// Whether the documents of postings are fewer than 2^32 and strictly ascending, as a list wants them.
+    pub fn are_ascending(postings: &[(u32, PositionList)]) -> bool
+        ensures { IsTrue result ↔ AreAscending (documents postings.now) }
+    {
+        if postings.len() > u32::MAX as usize {
+            return false;
+        }
+        'postings: for at in 1..postings.len() {
+            if postings[at].0 <= postings[at - 1].0 {
+                return false;
+            }
+        }
+        true
     }
 
     /// The postings, in order.

@@ -7,6 +7,8 @@
 
 mod list;
 mod sources;
+#[cfg(test)]
+mod tests;
 
 pub use list::{Bytes, BytesList};
 pub use sources::StoredSources;

@@ -1,5 +1,5 @@
 -- Which terms a range takes in, and where it begins.
-use Rattle.std.specs.Prelude.{ℕ, Bool, true, List, length, take, ◌==◌, ◌&&◌, ◌||◌, not, nat_lt, nat_eq}
+use Rattle.std.specs.Prelude.{◌≡◌, ◌<◌, ◌≤◌, ◌↔◌, IsTrue, Some, slice_get, ℕ, Bool, true, List, length, take, ◌==◌, ◌&&◌, ◌||◌, not, nat_lt, nat_eq}
 use Rattle.std.specs.List.{starts_with}
 use Rattle.std.specs.Ordering.{nat_cmp, is_lt, is_le}
 use Rattle.std.specs.Cmp.Lexicographic.{slice_cmp}
@@ -41,3 +41,14 @@ comes_before field cut term = nat_lt term.0 field || ((term.0 == field) && is_be
 -- a term before all that lie from the low edge of the field on
 abbrev pub lies_below : ℕ → Edge → ℕ × List ℕ → Bool
 lies_below field low term = nat_lt term.0 field || ((term.0 == field) && not (is_from low term.1))
+
+-- the ordinals before `end` are exactly those of the terms that pass
+abbrev pub IsFront : (ℕ × List ℕ → Bool) → List (ℕ × List ℕ) → ℕ → Type 0
+IsFront passes terms end =
+    (ordinal : ℕ) (term : ℕ × List ℕ) → slice_get terms ordinal ≡ Some term → (ordinal < end) ↔ IsTrue (passes term)
+
+-- the ordinals from `first` up to `end` are exactly those of the terms that pass
+abbrev pub IsRange : (ℕ × List ℕ → Bool) → List (ℕ × List ℕ) → ℕ → ℕ → Type 0
+IsRange passes terms first end =
+    (ordinal : ℕ) (term : ℕ × List ℕ) → slice_get terms ordinal ≡ Some term →
+    ((first ≤ ordinal) × (ordinal < end)) ↔ IsTrue (passes term)

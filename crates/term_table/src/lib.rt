@@ -9,6 +9,8 @@ mod cut;
 mod edge;
 mod table;
 mod terms;
+#[cfg(test)]
+mod tests;
 
 pub use edge::Edge;
 use std::alloc::{AllocError, AllocFailed};

@@ -3,7 +3,7 @@
 ghost use Rattle.std.specs.Prelude.{◌≡◌, ℕ, ◌+◌, ◌<◌, ◌≤◌, ◌↔◌, List, length, Some, slice_get, IsTrue, IsNone, IfSome, IfOk, Contains};
 ghost use Rattle.term_table.specs.Terms.{AreAscending};
 ghost use Rattle.term_table.specs.Kept.{row, AreStarts};
-ghost use Rattle.term_table.specs.Ranges.{is_between, has_prefix, comes_before, lies_below};
+ghost use Rattle.term_table.specs.Ranges.{is_between, has_prefix, comes_before, lies_below, IsFront, IsRange};
 
 use crate::cut::{Cut, is_before};
 use crate::{Edge, NoMemory, TermList};
@@ -99,8 +99,8 @@ impl TermTable {
         ensures ordered { result.0 ≤ result.1 }
         ensures within { result.1 ≤ length self.now }
         // what comes before the range
-        ensures below { (ordinal : ℕ) (term : ℕ × List ℕ) → slice_get self.now ordinal ≡ Some term → (ordinal < result.0) ↔ IsTrue (lies_below field low.entry term) }
-        ensures between { (ordinal : ℕ) (term : ℕ × List ℕ) → slice_get self.now ordinal ≡ Some term → ((result.0 ≤ ordinal) × (ordinal < result.1)) ↔ IsTrue (is_between field low.entry high.entry term) }
+        ensures below { IsFront (lies_below field low.entry) self.now result.0 }
+        ensures between { IsRange (is_between field low.entry high.entry) self.now result.0 result.1 }
     {
         let first = self.cut_at(field, &Cut::Low(low));
         let end = self.cut_at(field, &Cut::High(high));
@@ -114,8 +114,8 @@ impl TermTable {
         ensures ordered { result.0 ≤ result.1 }
         ensures within { result.1 ≤ length self.now }
         // what comes before the range
-        ensures below { (ordinal : ℕ) (term : ℕ × List ℕ) → slice_get self.now ordinal ≡ Some term → (ordinal < result.0) ↔ IsTrue (lies_below field (Edge.Closed bytes.entry) term) }
-        ensures prefixed { (ordinal : ℕ) (term : ℕ × List ℕ) → slice_get self.now ordinal ≡ Some term → ((result.0 ≤ ordinal) × (ordinal < result.1)) ↔ IsTrue (has_prefix field bytes.now term) }
+        ensures below { IsFront (lies_below field (Edge.Closed bytes.entry)) self.now result.0 }
+        ensures prefixed { IsRange (has_prefix field bytes.now) self.now result.0 result.1 }
     {
         let first = self.cut_at(field, &Cut::Low(Edge::Closed(bytes)));
         let end = self.cut_at(field, &Cut::Prefix(bytes));
@@ -126,7 +126,7 @@ impl TermTable {
     #[tactic(auto, using(crate::proofs::Orders::searches))]
     fn cut_at(&self, field: u32, cut: &Cut) -> u64
         ensures within { result ≤ length self.now }
-        ensures split { (ordinal : ℕ) (term : ℕ × List ℕ) → slice_get self.now ordinal ≡ Some term → (ordinal < result) ↔ IsTrue (comes_before field cut.now term) }
+        ensures split { IsFront (comes_before field cut.now) self.now result }
     {
         let mut low = 0;
         let mut high = self.count();

@@ -1,7 +1,8 @@
 //! Terms in order, as a table is built from them.
 
-ghost use Rattle.std.specs.Prelude.{◌≡◌};
-ghost use Rattle.term_table.specs.Terms.{AreAscending};
+ghost use Rattle.std.specs.Prelude.{◌≡◌, ◌↔◌, IsTrue};
+ghost use Rattle.std.specs.Ordering.{is_lt};
+ghost use Rattle.term_table.specs.Terms.{term_cmp, AreAscending};
 
 use std::marker::Model;
 
@@ -69,6 +70,18 @@ impl TermList {
         TermList { terms }
     }
 
+    /// Whether terms are strictly ascending, as a list wants them.
+    pub fn are_ascending(terms: &[(u32, Bytes)]) -> bool
+        ensures { IsTrue result ↔ AreAscending terms.now }
+    {
+        'terms: for at in 1..terms.len() {
+            if !precedes(&terms[at - 1], &terms[at]) {
+                return false;
+            }
+        }
+        true
+    }
+
     /// The terms, in order.
     pub fn as_slice(&self) -> &[(u32, Bytes)]
         ensures terms { result.now ≡ self.now }
@@ -76,4 +89,14 @@ impl TermList {
     {
         self.terms.as_slice()
     }
+}
+
+/// Whether a term comes before another.
+fn precedes(one: &(u32, Bytes), other: &(u32, Bytes)) -> bool
+    ensures { result ≡ is_lt (term_cmp one.now other.now) }
+{
+    let fields = one.0.cmp(&other.0);
+    fields
+        .then(one.1.as_slice().cmp(other.1.as_slice()))
+        .is_lt()
 }

@@ -1,6 +1,5 @@
-use Rattle.std.proofs.Common.{◌≡◌, ◌≤◌, ◌<◌, ◌+◌, ◌++◌, ◌∷◌, [], List, ℕ, Bool, true, false, length, sym, ap, ◌∙◌, arith, length-append}
+use Rattle.std.proofs.Common.{◌≡◌, ◌≤◌, ◌++◌, ◌∷◌, [], true, false, sym, ◌∙◌, arith, length-append}
 use Rattle.line_engine.specs.Line.{newline, is_blank}
-use Rattle.line_engine.specs.Fetch.{ahead}
 use Rattle.line_engine.proofs.Uses.{uses_ahead}
 use Rattle.line_engine.proofs.Speaking.{blank_kept, ended_line, last_line, skips_more, skips_line, skips_last, skips_last_blank, skips_end, skips_past, skips_part}
 use Rattle.line_engine.proofs.fetch.next_line.Goals as goal

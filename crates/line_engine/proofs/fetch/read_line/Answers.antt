@@ -1,8 +1,7 @@
-use Rattle.std.proofs.Common.{◌≡◌, ◌≤◌, ◌<◌, ◌+◌, List, ℕ, [], length, take, drop, false, sym, ap, subst, ◌∙◌, arith}
+use Rattle.std.proofs.Common.{◌≡◌, ◌≤◌, ◌<◌, List, ℕ, [], length, take, ap, subst, ◌∙◌, arith}
 use Rattle.std.proofs.lemmas.Grind.{common_steps}
-use Rattle.line_engine.specs.Line.{newline, longest_line}
-use Rattle.line_engine.specs.Seen.{InputState, LineState}
-use Rattle.line_engine.specs.Fetch.{IsCutAt, has_newline}
+use Rattle.line_engine.specs.Seen.{InputState}
+use Rattle.line_engine.specs.Fetch.{IsCutAt}
 use Rattle.line_engine.proofs.LineReads.{Reading, Adds, reading_line, reading_used, reading_more, reading_end, reading_last, reading_past, reading_part}
 use Rattle.line_engine.proofs.fetch.read_line.Goals as goal
 

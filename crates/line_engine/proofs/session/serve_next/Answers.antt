@@ -1,11 +1,7 @@
-use Rattle.std.proofs.Common.{◌≡◌, ◌≤◌, ◌<◌, ◌+◌, ◌^◌, ℕ, List, Option, sym, subst, arith}
+use Rattle.std.proofs.Common.{◌≡◌, ◌≤◌, ◌<◌, ◌+◌, ◌^◌, sym, subst, arith}
 use Rattle.line_engine.specs.Fetch.{ahead}
-use Rattle.line_engine.specs.Machine.{State}
-use Rattle.line_engine.specs.Run.{Serves}
 use Rattle.line_engine.specs.Seen.{InputState}
-use Rattle.line_engine.specs.Served.{Served, IsNext, IsLast, request_in}
-use Rattle.line_engine.specs.declared.limits.Limits.{Limits}
-use Rattle.line_engine.specs.declared.status.Status.{Status}
+use Rattle.line_engine.specs.Served.{Served}
 use Rattle.line_engine.proofs.Serving.{served_on, served_out, served_end, served_limit, served_fault, asks_ahead, if_none_then, if_some_then}
 use Rattle.line_engine.proofs.session.serve_next.Goals as goal
 
