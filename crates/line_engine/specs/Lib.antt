@@ -5,6 +5,7 @@ pub mod Reply
 pub mod Machine
 pub mod Run
 pub mod Word
+pub mod Exit
 pub mod Limit
 pub mod View
 pub mod Seen
