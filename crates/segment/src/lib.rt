@@ -9,6 +9,7 @@
 mod by_field;
 mod columns;
 mod live_bits;
+mod parts;
 mod root;
 mod segment;
 

@@ -7,7 +7,8 @@ ghost use Rattle.segment.specs.Fields.{column_of};
 ghost use Rattle.segment.specs.Live.{block_start, block_end};
 ghost use Rattle.segment.specs.Roots.{root_documents, lent_join};
 
-use crate::{ByField, Columns, Join, JoinValue, NoMemory, RootList};
+use crate::parts::Parts;
+use crate::{Join, JoinValue};
 use block_bits::{BitList, BitSet};
 use doc_values::{NumberColumn, OrdinalColumn};
 use postings::PostingsTable;
@@ -19,15 +20,7 @@ use term_table::TermTable;
 /// The columns of one segment, and the document of each root. It never changes.
 #[derive(Drop)]
 pub struct Segment {
-    documents: u32,
-    scopes: BitList,
-    roots: RootList,
-    sources: StoredSources,
-    terms: TermTable,
-    postings: PostingsTable,
-    ordinals: ByField<OrdinalColumn>,
-    numbers: ByField<NumberColumn>,
-    present: ByField<BitSet>,
+    parts: Parts,
     root_docs: Vec<u32>,
 }
 
@@ -36,9 +29,9 @@ impl Model for Segment {
 
     ghost Value = { Columns };
 
-    ghost use Rattle.segment.specs.Kept.{columns_of, IsKept};
+    ghost use Rattle.segment.specs.Kept.{IsKept};
 
-    ghost view = { columns_of };
+    ghost view = { λ it. it.parts };
 
     ghost invariant = { IsKept };
 }
@@ -49,21 +42,21 @@ impl Segment {
         ensures documents { result ≡ self.now.documents }
         ensures agree { AreColumns self.now }
     {
-        self.documents
+        self.parts.documents
     }
 
     /// The documents of each scope.
     pub fn scopes(&self) -> &BitList
         ensures { result.now ≡ self.now.scopes }
     {
-        &self.scopes
+        &self.parts.scopes
     }
 
     /// The terms of all fields.
     pub fn terms(&self) -> &TermTable
         ensures { result.now ≡ self.now.terms }
     {
-        &self.terms
+        &self.parts.terms
     }
 
     /// The documents and positions of each term, by its ordinal.
@@ -71,28 +64,28 @@ impl Segment {
         ensures postings { result.now ≡ self.now.postings }
         ensures long { length result.now ≡ length self.now.terms }
     {
-        &self.postings
+        &self.parts.postings
     }
 
     /// The numbers of a field of kind long, boolean or date; None where no document has one.
     pub fn numbers(&self, field: u32) -> Option<&NumberColumn>
         ensures { option_map (λ column. column.now) result ≡ column_of field self.now.numbers }
     {
-        self.numbers.get(field)
+        self.parts.numbers.get(field)
     }
 
     /// The values of a keyword field, as ordinals of its terms; None where no document has one.
     pub fn ordinals(&self, field: u32) -> Option<&OrdinalColumn>
         ensures { option_map (λ column. column.now) result ≡ column_of field self.now.ordinals }
     {
-        self.ordinals.get(field)
+        self.parts.ordinals.get(field)
     }
 
     /// The documents with a value of a text field; None where no document has one.
     pub fn present(&self, field: u32) -> Option<&BitSet>
         ensures { option_map (λ set. set.now) result ≡ column_of field self.now.present }
     {
-        self.present.get(field)
+        self.parts.present.get(field)
     }
 
     /// The sources of the roots.
@@ -100,14 +93,14 @@ impl Segment {
         ensures sources { result.now ≡ self.now.sources }
         ensures long { length result.now ≡ length self.now.roots }
     {
-        &self.sources
+        &self.parts.sources
     }
 
     /// How many roots there are.
     pub fn roots(&self) -> u32
         ensures { result ≡ length self.now.roots }
     {
-        self.sources.count()
+        self.parts.sources.count()
     }
 
     /// The document of a root: the last one of its block.
@@ -117,7 +110,7 @@ impl Segment {
         ensures within { result < self.now.documents }
         ensures numbered { self.now.documents < 2 ^ 32 }
     {
-        let _documents = self.documents;
+        let _documents = self.parts.count();
         self.root_docs[root as usize]
     }
 
@@ -129,7 +122,7 @@ impl Segment {
         ensures ordered { result.0 < result.1 }
         ensures within { result.1 ≤ self.now.documents }
     {
-        let _ = &self.documents;
+        let _ = &self.root_docs;
         let end = self.root_doc(root) + 1;
         if root == 0 {
             (0, end)
@@ -143,7 +136,7 @@ impl Segment {
         requires { root < length self.now.roots }
         ensures { IsSomeAnd (slice_get self.now.roots root) (λ own. result.now ≡ own.id) }
     {
-        self.roots.as_slice()[root as usize].id.as_slice()
+        self.parts.roots.as_slice()[root as usize].id.as_slice()
     }
 
     /// The sequence number of a root.
@@ -151,7 +144,7 @@ impl Segment {
         requires { root < length self.now.roots }
         ensures { IsSomeAnd (slice_get self.now.roots root) (λ own. result ≡ own.number) }
     {
-        self.roots.as_slice()[root as usize].number
+        self.parts.roots.as_slice()[root as usize].number
     }
 
     /// The join value of a root.
@@ -159,7 +152,7 @@ impl Segment {
         requires { root < length self.now.roots }
         ensures { IsSomeAnd (slice_get self.now.roots root) (λ own. lent_join result ≡ own.join) }
     {
-        match &self.roots.as_slice()[root as usize].join {
+        match &self.parts.roots.as_slice()[root as usize].join {
             Join::Unjoined => JoinValue::Unjoined,
             Join::Named(relation) => JoinValue::Named(*relation),
             Join::Child(relation, parent) => JoinValue::Child(*relation, parent.as_slice()),
