@@ -1,0 +1,171 @@
+-- The documents of the roots.
+use Rattle.std.proofs.Common.{subst, Some, slice_get, ◌≡◌, inl, inr, ℕ, zero, suc, ◌+◌, ◌-◌, ◌<◌, ◌≤◌, ◌↔◌, Bool, true, false, cond, List, [], ◌∷◌, length, get_or, take, refl, sym, ap, ◌∙◌, arith}
+use Rattle.std.specs.List.{All, count_by}
+use Rattle.std.proofs.lemmas.List.{get_or_default}
+use Rattle.std.proofs.lemmas.Option.{slice_get_read, get_or_from_slice_get}
+use Rattle.std.proofs.lemmas.List.Sums.{sum_by-cons}
+use Rattle.block_bits.specs.Flags.{is_marked}
+use Rattle.block_bits.specs.Blocks.{documents_of}
+use Rattle.segment.specs.Agree.{HaveOneScope, AreColumns}
+use Rattle.segment.specs.declared.columns.Columns.{Columns}
+use Rattle.segment.specs.Live.{root_of, block_start, block_end}
+use Rattle.std.proofs.lemmas.Bool.{cases_lt}
+use Rattle.std.proofs.lemmas.Bool.Decides.{nat_tests}
+use Rattle.segment.specs.Roots.{marked_places, root_documents, root_flags}
+
+-- one flag more
+pub count-mark : (flag : Bool) (flags : List Bool) → count_by is_marked (flag ∷ flags) ≡ cond flag 1 0 + count_by is_marked flags
+count-mark flag flags = sum_by-cons (λ one. cond one 1 0) flag flags
+
+-- as many places as marks
+pub length-marked_places : (start : ℕ) (flags : List Bool) → length (marked_places start flags) ≡ count_by is_marked flags
+length-marked_places start [] = refl
+length-marked_places start (true ∷ flags) = omega (arith, count-mark true flags, length-marked_places (start + 1) flags)
+length-marked_places start (false ∷ flags) = omega (arith, count-mark false flags, length-marked_places (start + 1) flags)
+
+-- each place lies within the list
+pub marked_places-within : (start : ℕ) (flags : List Bool) (i : ℕ) → i < count_by is_marked flags → (start ≤ get_or (marked_places start flags) i 0) × (get_or (marked_places start flags) i 0 < start + length flags)
+marked_places-within start [] i h = absurd (omega arith)
+marked_places-within start (true ∷ flags) zero h = (omega arith, omega arith)
+marked_places-within start (true ∷ flags) (suc i) h =
+    let rest = marked_places-within (start + 1) flags i (omega (arith, h, count-mark true flags)) in
+    (omega (arith, rest.0), omega (arith, rest.1))
+marked_places-within start (false ∷ flags) i h =
+    let rest = marked_places-within (start + 1) flags i (omega (arith, h, count-mark false flags)) in
+    (omega (arith, rest.0), omega (arith, rest.1))
+
+-- places ascend
+pub marked_places-ascend : (start : ℕ) (flags : List Bool) (i : ℕ) → suc i < count_by is_marked flags → get_or (marked_places start flags) i 0 < get_or (marked_places start flags) (suc i) 0
+marked_places-ascend start [] i h = absurd (omega arith)
+marked_places-ascend start (true ∷ flags) zero h = omega (arith, (marked_places-within (start + 1) flags 0 (omega (arith, h, count-mark true flags))).0)
+marked_places-ascend start (true ∷ flags) (suc i) h = marked_places-ascend (start + 1) flags i (omega (arith, h, count-mark true flags))
+marked_places-ascend start (false ∷ flags) i h = marked_places-ascend (start + 1) flags i (omega (arith, h, count-mark false flags))
+
+-- a place is at or before mark `root` exactly where at most so many marks come before it
+pub marks_before : (start : ℕ) (flags : List Bool) (root place : ℕ) → root < count_by is_marked flags → (place + start ≤ get_or (marked_places start flags) root 0) ↔ (count_by is_marked (take place flags) ≤ root)
+marks_before start [] root place h = absurd (omega arith)
+marks_before start (flag ∷ flags) root zero h = (λ _. omega arith, λ _. omega (arith, (marked_places-within start (flag ∷ flags) root h).0))
+marks_before start (true ∷ flags) zero (suc place) h =
+    (λ early. absurd (omega arith), λ few. absurd (omega (arith, few, count-mark true (take place flags))))
+marks_before start (true ∷ flags) (suc root) (suc place) h =
+    let rest = marks_before (start + 1) flags root place (omega (arith, h, count-mark true flags)) in (
+      λ early. omega (arith, rest.0 (omega (arith, early)), count-mark true (take place flags)),
+      λ few. omega (arith, rest.1 (omega (arith, few, count-mark true (take place flags)))),
+    )
+marks_before start (false ∷ flags) root (suc place) h =
+    let rest = marks_before (start + 1) flags root place (omega (arith, h, count-mark false flags)) in (
+      λ early. omega (arith, rest.0 (omega (arith, early)), count-mark false (take place flags)),
+      λ few. omega (arith, rest.1 (omega (arith, few, count-mark false (take place flags)))),
+    )
+
+-- the same of a segment's roots
+pub length-root_documents : (scopes : List (List Bool)) → length (root_documents scopes) ≡ count_by is_marked (root_flags scopes)
+unfolding root_documents
+length-root_documents scopes = length-marked_places 0 (root_flags scopes)
+
+pub root_documents-within : (scopes : List (List Bool)) (root : ℕ) → root < count_by is_marked (root_flags scopes) → get_or (root_documents scopes) root 0 < length (root_flags scopes)
+unfolding root_documents
+root_documents-within scopes root h = omega (arith, (marked_places-within 0 (root_flags scopes) root h).1)
+
+no_scope : (scopes : List ℕ) → All (λ scope. scope < 0) scopes → length scopes ≡ 0
+no_scope [] never = refl
+no_scope (scope ∷ scopes) never = absurd (let h = never 0 0 (omega arith) in omega (arith, h))
+
+long_flags : (scopes : List ℕ) → length (documents_of scopes 0) ≡ length scopes
+long_flags [] = refl
+long_flags (scope ∷ scopes) = omega (arith, long_flags scopes)
+
+-- there are as many flags as documents
+pub length-root_flags : (count : ℕ) (sets : List (List Bool)) → HaveOneScope count sets → length (root_flags sets) ≡ count
+length-root_flags count [] one = sym (no_scope one.0 one.1.in_range) ∙ one.2
+length-root_flags count (set ∷ sets) one =
+    ap (λ (all : List (List Bool)). length (get_or all 0 [])) one.1.sets
+    ∙ long_flags one.0 ∙ one.2
+
+-- `places` are the documents of the roots, kept beside columns that are seen as `now`
+pub record ArePlaces (own now : Columns) (places : List ℕ) : Type 0 where
+  pub seen : own ≡ now
+  pub agree : AreColumns own
+  pub are : places ≡ root_documents own.scopes
+
+pub place_there : (own now : Columns) (places : List ℕ) (root : ℕ) → ArePlaces own now places → root < length now.roots → root < length places
+place_there own now places root it h =
+    omega (arith, h, ap (λ (ps : List ℕ). length ps) it.are, length-root_documents own.scopes, it.agree.rooted.roots, ap (λ (one : Columns). length one.roots) it.seen)
+
+pub place_is : (own now : Columns) (places : List ℕ) (root doc : ℕ) → ArePlaces own now places → root < length now.roots → doc ≡ get_or places root doc → slice_get (root_documents now.scopes) root ≡ Some doc
+place_is own now places root doc it h read =
+    ap (λ (one : Columns). slice_get (root_documents one.scopes) root) (sym it.seen)
+    ∙ ap (λ ps. slice_get ps root) (sym it.are)
+    ∙ slice_get_read places (length places) root doc refl (place_there own now places root it h) read
+
+pub place_within : (own now : Columns) (places : List ℕ) (root doc : ℕ) → ArePlaces own now places → root < length now.roots → doc ≡ get_or places root doc → doc < now.documents
+place_within own now places root doc it h read =
+    let there = place_there own now places root it h in
+    let known : root < count_by is_marked (root_flags own.scopes) = omega (arith, there, ap (λ (ps : List ℕ). length ps) it.are, length-root_documents own.scopes) in
+    omega (
+      arith,
+      read,
+      get_or_default places root doc 0 there,
+      ap (λ ps. get_or ps root 0) it.are,
+      root_documents-within own.scopes root known,
+      length-root_flags own.documents own.scopes it.agree.rooted.scopes,
+      ap (λ (one : Columns). one.documents) it.seen,
+    )
+
+pub root_documents-ascend : (scopes : List (List Bool)) (i : ℕ) → suc i < count_by is_marked (root_flags scopes) → get_or (root_documents scopes) i 0 < get_or (root_documents scopes) (suc i) 0
+unfolding root_documents
+root_documents-ascend scopes i h = marked_places-ascend 0 (root_flags scopes) i h
+
+-- a document is before the end of a root's block exactly where at most so many roots come before it
+pub end_edge : (scopes : List (List Bool)) (root doc : ℕ) → root < count_by is_marked (root_flags scopes) → (doc < block_end scopes root) ↔ (root_of (root_flags scopes) doc ≤ root)
+unfolding root_documents
+end_edge scopes root doc h =
+    let edge = marks_before 0 (root_flags scopes) root doc h in
+    (λ early. edge.0 (omega (arith, early)), λ few. omega (arith, edge.1 few))
+
+-- a block begins where the one before it ends
+start_after : (scopes : List (List Bool)) (root : ℕ) → block_start scopes (suc root) ≡ block_end scopes root
+start_after scopes root =
+    let e : suc root - 1 ≡ root = omega arith in
+    rw e (grind (arith, nat_tests))
+
+-- and from the block's start on exactly where so many do
+pub start_edge : (scopes : List (List Bool)) (root doc : ℕ) → root < count_by is_marked (root_flags scopes) → (block_start scopes root ≤ doc) ↔ (root ≤ root_of (root_flags scopes) doc)
+start_edge scopes zero doc h = (λ _. omega arith, λ _. omega arith)
+start_edge scopes (suc root) doc h =
+    let edge = end_edge scopes root doc (omega (arith, h)) in
+    let start = start_after scopes root in (
+      λ late. elim (cases_lt (root_of (root_flags scopes) doc) (suc root)) [
+        | inl few ↦ absurd (omega (arith, start, late, edge.1 (omega (arith, few))))
+        | inr many ↦ many
+      ],
+      λ many. elim (cases_lt doc (block_end scopes root)) [
+        | inl early ↦ absurd (omega (arith, edge.0 early, many))
+        | inr late ↦ omega (arith, start, late)
+      ],
+    )
+
+-- a block has a document
+pub block-ordered : (scopes : List (List Bool)) (root : ℕ) → root < count_by is_marked (root_flags scopes) → block_start scopes root < block_end scopes root
+block-ordered scopes zero h = omega arith
+block-ordered scopes (suc root) h =
+    let start = start_after scopes root in
+    omega (arith, start, root_documents-ascend scopes root h)
+
+pub block-within : (columns : Columns) (root : ℕ) → AreColumns columns → root < length columns.roots → block_end columns.scopes root ≤ columns.documents
+block-within columns root agree h =
+    omega (arith, root_documents-within columns.scopes root (omega (arith, h, agree.rooted.roots)), length-root_flags columns.documents columns.scopes agree.rooted.scopes)
+
+pub before_root : (own now : Columns) (root before doc : ℕ) → own ≡ now → AreColumns own → (root ≡ 0 → ⊥) → root < length now.roots
+    → slice_get (root_documents now.scopes) (root - 1) ≡ Some before → slice_get (root_documents now.scopes) root ≡ Some doc → before < doc
+before_root own now zero before doc seen agree some h one other = absurd (some refl)
+before_root own now (suc root) before doc seen agree some h one other =
+    let e : suc root - 1 ≡ root = omega arith in
+    let is = subst (λ (it : Columns). AreColumns it) seen agree in
+    omega (
+      arith,
+      get_or_from_slice_get (root_documents now.scopes) (suc root - 1) before 0 one,
+      ap (λ r. get_or (root_documents now.scopes) r 0) e,
+      get_or_from_slice_get (root_documents now.scopes) (suc root) doc 0 other,
+      root_documents-ascend now.scopes root (omega (arith, h, is.rooted.roots)),
+    )

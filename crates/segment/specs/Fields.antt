@@ -1,0 +1,11 @@
+-- Columns by field.
+use Rattle.std.specs.Prelude.{ℕ, ◌==◌, List, [], ◌∷◌, map, Option, Some, None, if◌then◌else◌}
+
+-- the column of a field
+abbrev pub column_of : {X : Type 0} → ℕ → List (ℕ × X) → Option X
+column_of field [] = None
+column_of field (column ∷ columns) = if column.0 == field then Some column.1 else column_of field columns
+
+-- the fields that have a column
+abbrev pub fields : {X : Type 0} → List (ℕ × X) → List ℕ
+fields {X} columns = map (λ (column : ℕ × X). column.0) columns
