@@ -1,0 +1,5 @@
+pub mod Examples
+pub mod Ranks
+pub mod Puts
+pub mod Pairs
+pub mod Walks

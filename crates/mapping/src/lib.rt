@@ -1,0 +1,16 @@
+//! Mappings: fields, scopes and relations, and what a source is under them.
+#![tactic(auto)]
+
+mod body;
+mod fault;
+mod field_value;
+mod kind;
+mod names;
+mod property;
+mod refusal;
+mod relation;
+
+pub use fault::Fault;
+pub use field_value::{Bytes, FieldValue};
+pub use kind::Kind;
+pub use refusal::{MappingRefusal, NoMemory};
