@@ -3,3 +3,4 @@ pub mod Ranks
 pub mod Puts
 pub mod Pairs
 pub mod Walks
+pub mod Ties

@@ -7,7 +7,8 @@ use Rattle.tree_json.specs.View.{view}
 use Rattle.mapping.specs.declared.property.Outline.{Outline}
 use Rattle.mapping.specs.declared.property.Draft.{Draft as Made}
 use Rattle.mapping.specs.Names.{joined, put_all}
-use Rattle.mapping.specs.Body.{Property}
+use Rattle.mapping.specs.Body.{kind_of, is_join}
+use Rattle.mapping.specs.Relations.{Pair, pairs_of_form}
 use Rattle.mapping.specs.Mapping.{Draft, draft_of}
 
 -- how many names, counted up to 21
@@ -39,6 +40,9 @@ abbrev mutual
   outlines_named depth no_members = []
   outlines_named depth (member k d ms) =
       record { depth = deeper depth; form = d } ∷ (outlines_below (deeper depth) d ++ outlines_named depth ms)
+
+abbrev pub pairs_of_outlined : Outlined → List Pair
+pairs_of_outlined o = if is_join (kind_of o.form) then pairs_of_form o.form else []
 
 abbrev pub outlines_found : ℕ → Option JsonValue → List Outlined
 outlines_found depth None = []

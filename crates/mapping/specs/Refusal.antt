@@ -42,13 +42,26 @@ has_bad_relations body =
 abbrev pub is_large : JsonValue → Bool
 is_large body = nat_lt 16_777_216 (length (compact body))
 
--- the first that holds; a body for which none does is a mapping
-unfoldable pub first_refusal : JsonValue → Option MappingRefusal
-first_refusal body =
+-- the refusals by the forms and the numbers of properties
+abbrev pub refusal_of_forms : JsonValue → Option MappingRefusal
+refusal_of_forms body =
     if not (is_body body) then Some BadRequest
     else (if has_many_fields body then Some TooManyFields
     else (if is_deep body then Some TooDeep
     else (if has_many_nested body then Some TooManyNested
-    else (if has_bad_relations body then Some BadRelations
+    else None)))
+
+-- and those that are looked for after them
+abbrev pub refusal_of_rest : JsonValue → Option MappingRefusal
+refusal_of_rest body =
+    if has_bad_relations body then Some BadRelations
     else (if is_large body then Some TooLarge
-    else None)))))
+    else None)
+
+abbrev pub first_said : Option MappingRefusal → Option MappingRefusal → Option MappingRefusal
+first_said None later = later
+first_said (Some refusal) later = Some refusal
+
+-- the first refusal that holds; a body for which none does is a mapping
+unfoldable pub first_refusal : JsonValue → Option MappingRefusal
+first_refusal body = first_said (refusal_of_forms body) (refusal_of_rest body)

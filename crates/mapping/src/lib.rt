@@ -4,6 +4,7 @@
 mod body;
 mod fault;
 mod field_value;
+mod judge;
 mod kind;
 mod names;
 mod property;

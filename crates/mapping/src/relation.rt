@@ -3,11 +3,15 @@ ghost use Rattle.std.specs.Prelude.{◌≡◌, ℕ, List, ◌++◌, map, length,
 ghost use Rattle.tree_json.specs.Value.{members_of, elements_of};
 ghost use Rattle.tree_json.specs.View.{view, values, entries};
 ghost use Rattle.mapping.specs.Names.{AreAscending, in_byte_order, place_of};
+ghost use Rattle.std.specs.List.{flat_map};
+ghost use Rattle.mapping.specs.Outline.{outline_of, pairs_of_outlined};
 ghost use Rattle.mapping.specs.Relations.{pair_of_element, pairs_in_list, pairs_of_parent, pairs_in, pairs_of_form, names_in_pairs, parent_among, parent_of, is_other, climbed, turns_back, has_two_parents, relations_by, with_parent, first_added};
 ghost use Rattle.mapping.specs.Seen.{pair_of, relation_of};
 
-use crate::body::member_named;
+use crate::body::{kind_of, member_named};
+use crate::kind::Kind;
 use crate::names::{Named, place_of, put};
+use crate::property::Outline;
 use crate::refusal::NoMemory;
 use std::alloc::Global;
 use tree_json::{Json, JsonText};
@@ -236,4 +240,27 @@ fn relation_named(
         name: name.to_vec(alloc)?,
         parent,
     })
+}
+
+/// The pairs of all joins.
+pub(crate) fn pairs_of<'a>(
+    alloc: Global,
+    outlines: &[Outline<'a>],
+) -> Result<Vec<Pair<'a>>, NoMemory>
+    ensures { IfOk result (λ pairs. map pair_of pairs.items ≡ flat_map (λ o. pairs_of_outlined (outline_of o)) outlines.now) }
+{
+    let mut pairs = Vec::new(alloc);
+    'outlines: for outline in outlines {
+        pairs_of_outline(outline, &mut pairs)?;
+    }
+    Ok(pairs)
+}
+
+fn pairs_of_outline<'a>(outline: &Outline<'a>, found: &mut Vec<Pair<'a>>) -> Result<(), NoMemory>
+    ensures { OnOk result (map pair_of found.new.items ≡ map pair_of found.old.items ++ pairs_of_outlined (outline_of outline.now)) }
+{
+    match kind_of(outline.form) {
+        Kind::Join => pairs_of_form(outline.form, found),
+        _ => Ok(()),
+    }
 }

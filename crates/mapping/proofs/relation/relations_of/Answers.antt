@@ -20,6 +20,6 @@ returns-clause-relations c =
 pub returns-clause-ascending : goal.returns-clause-ascending
 returns-clause-ascending c =
     let names : map (λ n. n.text.now) c.in_ok-names.names.items ≡ map (λ r. r.name.items) c.names.relations.items =
-        sym (names_kept (map pair_of c.args.pairs.now) (map (λ n. n.text.now) c.in_ok-names.names.items) (map (λ n. n.text.now) c.in_ok-names.names.items))
-        ∙ sym (ap (map (λ r. r.name)) (made c)) ∙ names_seen c.names.relations.items in
+    sym (names_kept (map pair_of c.args.pairs.now) (map (λ n. n.text.now) c.in_ok-names.names.items) (map (λ n. n.text.now) c.in_ok-names.names.items))
+    ∙ sym (ap (map (λ r. r.name)) (made c)) ∙ names_seen c.names.relations.items in
     subst (λ (ns : List (List ℕ)). AreAscending ns) names c.in_ok-names.ensures.ascending

@@ -1,10 +1,11 @@
 //! What is refused of a body.
-ghost use Rattle.std.specs.Prelude.{◌≡◌, ℕ, List, map, length, min, nat_lt, ◌&&◌, ◌||◌, Option, None, if◌then◌else◌};
+ghost use Rattle.std.specs.Prelude.{◌≡◌, ℕ, List, map, length, min, nat_lt, ◌&&◌, ◌||◌, ◌∷◌, [], codes};
 ghost use Rattle.std.specs.List.{list_any, list_all, count_by};
-ghost use Rattle.tree_json.specs.View.{view};
-ghost use Rattle.mapping.specs.Body.{is_property, is_body, kind_of, is_nested, is_join, properties_of};
+ghost use Rattle.tree_json.specs.Value.{object, members_of};
+ghost use Rattle.tree_json.specs.View.{view, entries};
+ghost use Rattle.mapping.specs.Body.{is_property, is_body, kind_of, is_nested, is_join, member_named};
 ghost use Rattle.mapping.specs.Outline.{outline_of, outlines_below};
-ghost use Rattle.mapping.specs.Refusal.{has_many_fields, is_deep, has_many_nested, has_bad_relations, is_large, lacks_relations, has_many_joins, has_deep_join, has_empty_join, refusal_of_forms, refusal_of_rest};
+ghost use Rattle.mapping.specs.Refusal.{has_bad_relations, lacks_names, lacks_relations, refusal_of_forms, refusal_of_rest};
 ghost use Rattle.mapping.specs.Relations.{pairs_of, relations_of};
 ghost use Rattle.mapping.specs.Seen.{pair_of, relation_of};
 
@@ -13,11 +14,14 @@ use crate::kind::Kind;
 use crate::property::Outline;
 use crate::refusal::MappingRefusal;
 use crate::relation::{Pair, Relation, has_two_parents, turns_back};
-use tree_json::{Json, compact_len};
+use tree_json::{Json, JsonText, compact_len};
 
 const MOST_FIELDS: usize = 1_000;
+
 const MOST_NAMES: u64 = 20;
+
 const MOST_NESTED: usize = 50;
+
 const MOST_BYTES: u64 = 16_777_216;
 
 fn are_properties(outlines: &[Outline<'_>]) -> bool
@@ -35,13 +39,19 @@ fn is_deep(outlines: &[Outline<'_>]) -> bool
 fn nested_count(outlines: &[Outline<'_>]) -> usize
     ensures { result ≡ count_by (λ o. is_nested (kind_of (view o.form.now))) outlines.now }
 {
-    outlines.iter().filter(|outline| is_nested(kind_of(outline.form))).count()
+    outlines
+        .iter()
+        .filter(|outline| is_nested(kind_of(outline.form)))
+        .count()
 }
 
 fn join_count(outlines: &[Outline<'_>]) -> usize
     ensures { result ≡ count_by (λ o. is_join (kind_of (view o.form.now))) outlines.now }
 {
-    outlines.iter().filter(|outline| is_join(kind_of(outline.form))).count()
+    outlines
+        .iter()
+        .filter(|outline| is_join(kind_of(outline.form)))
+        .count()
 }
 
 fn has_deep_join(outlines: &[Outline<'_>]) -> bool
@@ -84,18 +94,34 @@ fn lacks_names(form: &Json) -> bool
     ensures { result ≡ lacks_names (member_named (view form.now) (codes "relations")) }
 {
     match member_named(form, b"relations") {
-        Some(Json::Object(object)) => object.as_slice().is_empty(),
+        Some(Json::Object(object)) => is_empty(object.as_slice()),
         _ => true,
     }
 }
 
+fn is_empty(members: &[(JsonText, Json)]) -> bool
+    ensures { result ≡ lacks_names (Some (object (members_of (entries members.now)))) }
+{
+    match members {
+        [] => true,
+        [_first, _rest @ ..] => false,
+    }
+}
+
+/// Whether the body and each of its properties have their form.
+fn is_body(body: &Json, outlines: &[Outline<'_>]) -> bool
+    requires { map outline_of outlines.now ≡ outlines_below 0 (view body.now) }
+    ensures { result ≡ is_body (view body.now) }
+{
+    is_body_alone(body) && are_properties(outlines)
+}
+
 /// The first refusal by the forms and the numbers of properties.
-#[tactic(auto, using(crate::proofs::Ties::ties))]
 pub(crate) fn refusal_of_forms(body: &Json, outlines: &[Outline<'_>]) -> Option<MappingRefusal>
     requires { map outline_of outlines.now ≡ outlines_below 0 (view body.now) }
     ensures { result ≡ refusal_of_forms (view body.now) }
 {
-    if !is_body_alone(body) || !are_properties(outlines) {
+    if !is_body(body, outlines) {
         Some(MappingRefusal::BadRequest)
     } else if outlines.len() > MOST_FIELDS {
         Some(MappingRefusal::TooManyFields)
@@ -109,7 +135,6 @@ pub(crate) fn refusal_of_forms(body: &Json, outlines: &[Outline<'_>]) -> Option<
 }
 
 /// Whether the join fields or their relations are bad.
-#[tactic(auto, using(crate::proofs::Ties::ties))]
 fn has_bad_relations(
     body: &Json,
     outlines: &[Outline<'_>],
