@@ -77,3 +77,5 @@ drafts_step (x ∷ ms) (suc i) m path before mid after d h e is is_mid is_after 
 pub ruleset outline_walks = (outlines_by_member, member_smaller, member_size_at)
 
 pub ruleset draft_walks = (drafts_by_member, member_smaller, member_size_at, put_all-append)
+
+pub ruleset sizes = (size_at, member_size_at)

@@ -6,6 +6,7 @@ pub mod Mapping
 pub mod Outline
 pub mod Refusal
 pub mod Seen
+pub mod Stored
 pub mod Object
 pub mod Values
 pub mod Fault

@@ -2,6 +2,7 @@
 #![tactic(auto)]
 
 mod body;
+mod copy;
 mod fault;
 mod field_value;
 mod judge;
@@ -10,6 +11,7 @@ mod names;
 mod property;
 mod refusal;
 mod relation;
+mod scope;
 
 pub use fault::Fault;
 pub use field_value::{Bytes, FieldValue};
