@@ -4,3 +4,5 @@ pub mod Puts
 pub mod Pairs
 pub mod Walks
 pub mod Ties
+pub mod Single
+pub mod LookUps

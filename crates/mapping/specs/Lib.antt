@@ -5,6 +5,7 @@ pub mod Relations
 pub mod Mapping
 pub mod Outline
 pub mod Refusal
+pub mod Code
 pub mod Seen
 pub mod Stored
 pub mod Object

@@ -60,8 +60,8 @@ draft_paths ds = map (λ d. d.path) ds
 -- the fields that a body adds stand behind those that are known, in byte order of their paths
 abbrev pub with_body : ℕ → List Draft → JsonValue → List Draft
 with_body g known body =
-    known ++ map (draft_of g)
-    (in_byte_order (λ p. p.path) (filter (λ p. not (is_some (place_of p.path (draft_paths known)))) (properties_of body)))
+    known ++ in_byte_order (λ d. d.path)
+    (filter (λ d. not (is_some (place_of d.path (draft_paths known)))) (map (draft_of g) (properties_of body)))
 
 abbrev pub drafts_from : ℕ → List Draft → List JsonValue → List Draft
 drafts_from g known [] = known

@@ -1,10 +1,10 @@
 -- Which bodies are no mapping, and what is said of them.
-use Rattle.std.specs.Prelude.{ℕ, Bool, true, false, not, ◌||◌, ◌&&◌, if◌then◌else◌, nat_lt, List, [], ◌∷◌, length, codes, Option, Some, None}
+use Rattle.std.specs.Prelude.{◌≡◌, ℕ, Bool, true, false, not, ◌||◌, ◌&&◌, if◌then◌else◌, nat_lt, List, [], ◌∷◌, length, codes, Option, Some, None}
 use Rattle.std.specs.List.{list_any, count_by}
 use Rattle.tree_json.specs.Value.{JsonValue, null, bool, whole, text, list, object, Members, no_members, member}
 use Rattle.tree_json.specs.Text.{compact}
 use Rattle.mapping.specs.declared.refusal.MappingRefusal.{MappingRefusal}
-use Rattle.mapping.specs.declared.refusal.MappingRefusal.TheVariants.{BadRequest, TooManyFields, TooDeep, TooManyNested, BadRelations, TooLarge}
+use Rattle.mapping.specs.declared.refusal.MappingRefusal.TheVariants.{BadRequest, TooManyFields, TooDeep, TooManyNested, BadRelations, TooLarge, NoMemory}
 use Rattle.mapping.specs.Body.{Property, properties_of, is_body, kind_of, is_nested, is_join, member_named}
 use Rattle.mapping.specs.Relations.{pairs_of, relations_of, turns_back, has_two_parents}
 
@@ -65,3 +65,8 @@ first_said (Some refusal) later = Some refusal
 -- the first refusal that holds; a body for which none does is a mapping
 unfoldable pub first_refusal : JsonValue → Option MappingRefusal
 first_refusal body = first_said (refusal_of_forms body) (refusal_of_rest body)
+
+-- a refusal is the first, or want of memory, which may come at any point
+abbrev pub IsFirst : MappingRefusal → Option MappingRefusal → Type 0
+IsFirst NoMemory first = Unit {0}
+IsFirst refusal first = first ≡ Some refusal

@@ -1,5 +1,5 @@
 //! Names in byte order, and the paths that names make.
-ghost use Rattle.std.specs.Prelude.{◌≡◌, ℕ, List, ◌<◌, ◌≤◌, ◌^◌, length, map, codes, IfOk, OnOk, ◌||◌};
+ghost use Rattle.std.specs.Prelude.{◌≡◌, ℕ, List, ◌<◌, ◌≤◌, ◌^◌, length, map, codes, IfOk, OnOk, IfSome, ◌||◌};
 ghost use Rattle.mapping.specs.Names.{AreAscending, rank, joined, lies_above, goes_on, has_dot, is_name, is_property_name, place_of, put};
 
 use crate::refusal::NoMemory;
@@ -38,13 +38,27 @@ pub(crate) fn rank_of<T: Named>(items: &[T], name: &[u8]) -> usize
 /// The place of a name.
 pub(crate) fn place_of<T: Named>(items: &[T], name: &[u8]) -> Option<usize>
     requires { AreAscending (map T.name items.now) }
-    ensures { result ≡ place_of name.now (map T.name items.now) }
+    ensures place { result ≡ place_of name.now (map T.name items.now) }
+    ensures bound { IfSome result (λ place. place < length items.now) }
 {
     let place = rank_of(items, name);
     if place < items.len() && items[place].name() == name {
         Some(place)
     } else {
         None
+    }
+}
+
+/// The place of a name, as a number of 32 bits.
+pub(crate) fn number_of<T: Named>(items: &[T], name: &[u8]) -> Option<u32>
+    requires ascending { AreAscending (map T.name items.now) }
+    requires short { length items.now < 2 ^ 32 }
+    ensures place { result ≡ place_of name.now (map T.name items.now) }
+    ensures bound { IfSome result (λ number. number < length items.now) }
+{
+    match place_of(items, name) {
+        Some(place) => Some(place as u32),
+        None => None,
     }
 }
 
