@@ -1,18 +1,11 @@
 -- The definitions at work on one mapping and one source: what they compute is what the rules say.
-use Rattle.std.proofs.Common.{◌≡◌, ℕ, List as Seq, [], ◌∷◌, ◌++◌, map, codes, refl, pos, Bool, true, false, Option, Some, None}
-use Rattle.tree_json.specs.Value.{JsonValue, null, bool, whole, text, list, object, elements_of, members_of}
-use Rattle.mapping.specs.declared.kind.Kind.{Kind}
-use Rattle.mapping.specs.declared.kind.Kind.TheVariants.{Text, Keyword, Long, Boolean, Date, Object as Plain, Nested, Join}
-use Rattle.mapping.specs.declared.field_value.FieldValue.{FieldValue}
-use Rattle.mapping.specs.declared.field_value.FieldValue.TheVariants.{Number, Written}
-use Rattle.mapping.specs.declared.fault.Fault.TheVariants.{WrongType, TermTooLong, BadJoin}
-use Rattle.mapping.specs.declared.refusal.MappingRefusal.{MappingRefusal}
-use Rattle.mapping.specs.declared.refusal.MappingRefusal.TheVariants.{BadRequest}
-use Rattle.mapping.specs.Body.{properties_of, is_body}
-use Rattle.mapping.specs.Names.{joined, names_of}
-use Rattle.mapping.specs.Mapping.{Mapping, mapping_of, mapping_by, Field, Scope, field_named, scope_named, relation_named, is_above, included, home_of}
-use Rattle.mapping.specs.Object.{Object, root, inside, scope, content, place, block_objects, children, below, given, way}
-use Rattle.mapping.specs.Values.{values, join_of, convert, Joined}
+use Rattle.std.proofs.Common.{◌≡◌, ℕ, List as Seq, [], ◌∷◌, map, codes, refl, true, false, Some, None}
+use Rattle.tree_json.specs.Value.{JsonValue, text, list, object, elements_of, members_of}
+use Rattle.mapping.specs.declared.field_value.FieldValue.TheVariants.{Written}
+use Rattle.mapping.specs.Body.{is_body}
+use Rattle.mapping.specs.Mapping.{Mapping, mapping_of, included}
+use Rattle.mapping.specs.Object.{root, scope, place, block_objects, below, given, way}
+use Rattle.mapping.specs.Values.{values, convert}
 use Rattle.mapping.specs.Fault.{first_fault}
 use Rattle.mapping.specs.Refusal.{has_bad_relations}
 use Rattle.mapping.specs.Tree.{Tree}

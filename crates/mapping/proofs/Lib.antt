@@ -5,4 +5,5 @@ pub mod Pairs
 pub mod Walks
 pub mod Ties
 pub mod Single
+pub mod Numerals
 pub mod LookUps

@@ -1,8 +1,7 @@
 -- What is kept of a mapping, looked up.
-use Rattle.std.proofs.Common.{◌≡◌, ℕ, zero, suc, ◌+◌, ◌-◌, ◌<◌, ◌≤◌, ◌==◌, ◌&&◌, ◌||◌, List as Seq, [], ◌∷◌, map, length, drop, subst, get_or, refl, sym, ap, ◌∙◌, arith, Bool, true, false, cond, Option, Some, None, option_map, bytes_eq}
+use Rattle.std.proofs.Common.{◌≡◌, ℕ, zero, suc, ◌+◌, ◌-◌, ◌<◌, ◌≤◌, ◌==◌, ◌&&◌, ◌||◌, List as Seq, [], ◌∷◌, map, length, drop, subst, get_or, refl, sym, ap, ◌∙◌, arith, Bool, cond, Some, option_map, bytes_eq}
 use Rattle.std.proofs.lemmas.List.{length-map, get_or-map}
 use Rattle.std.specs.List.{position_from}
-use Rattle.std.proofs.lemmas.Grind.{common_steps}
 use Rattle.mapping.specs.declared.scope.ScopePath.{ScopePath}
 use Rattle.mapping.specs.declared.scope.Scope.{Scope as Part}
 use Rattle.mapping.specs.Mapping.{Mapping, Scope, root_scope, scope_at, reaches}

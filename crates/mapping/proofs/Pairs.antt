@@ -1,9 +1,9 @@
 -- Lists of pairs and of relations: one more pair, and what the relations of pairs are seen as.
-use Rattle.std.proofs.Common.{◌≡◌, ℕ, zero, suc, ◌+◌, ◌<◌, List, [], ◌∷◌, map, length, drop, get_or, refl, sym, ap, ◌∙◌, subst, arith}
+use Rattle.std.proofs.Common.{◌≡◌, ℕ, zero, suc, ◌+◌, ◌<◌, List, [], ◌∷◌, map, length, drop, get_or, refl, sym, ap, ◌∙◌, arith}
 use Rattle.mapping.specs.declared.relation.Pair.{Pair as Lent}
 use Rattle.mapping.specs.declared.relation.Relation.{Relation as Kept}
 use Rattle.mapping.specs.Names.{put, put_all}
-use Rattle.mapping.specs.Relations.{Pair, Relation, Added, names_in_pairs, with_parent, first_added, relations_by}
+use Rattle.mapping.specs.Relations.{Pair, Relation, names_in_pairs, with_parent, first_added, relations_by}
 use Rattle.mapping.specs.Seen.{pair_of, relation_of}
 
 abbrev itself : List ℕ → List ℕ

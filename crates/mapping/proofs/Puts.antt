@@ -1,11 +1,8 @@
 -- An element that is put at its place: the list with it inserted at its rank, or the list as it was.
-use Rattle.std.proofs.Common.{◌≡◌, ℕ, zero, suc, ◌+◌, ◌<◌, ◌≤◌, List, [], ◌∷◌, ◌++◌, map, length, take, drop, get_or, refl, sym, ap, ◌∙◌, subst, arith, Bool, true, false, cond, Ordering, Less, Equal, Greater, nat_cmp, is_eq, bytes_eq}
+use Rattle.std.proofs.Common.{◌≡◌, ℕ, suc, ◌<◌, ◌≤◌, List, [], ◌∷◌, ◌++◌, map, length, take, drop, get_or, refl, sym, ap, subst, arith, true, false, Less, Equal, Greater, bytes_eq}
 use Rattle.std.proofs.lemmas.Cmp.{nat_list_cmp_total}
-use Rattle.std.specs.Cmp.Lexicographic.{slice_cmp}
-use Rattle.std.specs.List.{AllByRecursion}
 use Rattle.std.specs.List.Sorted.{IsStrictlySortedBy}
-use Rattle.std.specs.Ordering.{ordering_reverse, is_lt}
-use Rattle.mapping.specs.Names.{AreAscending, rank, put, put_all, by_order}
+use Rattle.mapping.specs.Names.{AreAscending, rank, put, put_all}
 use Rattle.mapping.proofs.Ranks.{by_ordering, is_eq_from, reversed, AllAfter, compared}
 
 -- a name that is there already

@@ -1,5 +1,5 @@
 -- A mapping of one body.
-use Rattle.std.proofs.Common.{◌≡◌, ℕ, ◌+◌, List as Seq, [], ◌∷◌, ◌++◌, map, filter, drop, refl, sym, ap, ◌∙◌, Bool, true, false, Option, Some, None, append-nil}
+use Rattle.std.proofs.Common.{◌≡◌, ℕ, List as Seq, [], ◌∷◌, ◌++◌, map, filter, drop, refl, ap, ◌∙◌, Bool, true, Option, Some, append-nil}
 use Rattle.tree_json.specs.Value.{JsonValue}
 use Rattle.mapping.specs.declared.refusal.MappingRefusal.{MappingRefusal}
 use Rattle.mapping.specs.declared.refusal.MappingRefusal.TheVariants.{BadRequest, TooManyFields, TooDeep, TooManyNested, BadRelations, TooLarge, NoMemory}
@@ -8,7 +8,7 @@ use Rattle.mapping.specs.declared.property.Draft.{Draft as Made}
 use Rattle.mapping.specs.declared.scope.Field.{Field as Kept}
 use Rattle.mapping.specs.Names.{in_byte_order, AreAscending}
 use Rattle.mapping.specs.Body.{properties_of, is_nested}
-use Rattle.mapping.specs.Mapping.{Draft, draft_of, Scope, drafts_from, scopes_by, scope_by, scope_paths, nested_among, draft_paths, field_by}
+use Rattle.mapping.specs.Mapping.{Draft, draft_of, drafts_from, scopes_by, scope_by, scope_paths, nested_among, draft_paths, field_by}
 use Rattle.mapping.specs.Outline.{drafts_below, made_of}
 use Rattle.mapping.proofs.Ranks.{AllAfter}
 use Rattle.mapping.proofs.Walks.{split}

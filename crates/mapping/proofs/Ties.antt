@@ -1,18 +1,18 @@
 -- The two walks of a body, tied to its properties.
-use Rattle.std.proofs.Common.{◌≡◌, ℕ, zero, suc, ◌+◌, ◌<◌, ◌≤◌, min, List as Seq, [], ◌∷◌, ◌++◌, map, length, refl, sym, ap, ◌∙◌, arith, Bool, true, false, ◌&&◌, ◌||◌, cond, if◌then◌else◌, nat_lt, codes, bytes_eq, count_by}
+use Rattle.std.proofs.Common.{◌≡◌, ℕ, ◌+◌, ◌<◌, ◌≤◌, List as Seq, [], ◌∷◌, ◌++◌, map, length, refl, sym, ap, ◌∙◌, arith, Bool, true, false, ◌&&◌, ◌||◌, cond, if◌then◌else◌, nat_lt, codes, bytes_eq, count_by}
 use Rattle.std.proofs.lemmas.Bool.Decides.{nat_tests}
 use Rattle.std.proofs.lemmas.List.{map-append, length-map}
 use Rattle.std.proofs.lemmas.List.Recursion.{is_count_by}
-use Rattle.std.specs.List.{list_any, list_all, flat_map, sum_by}
-use Rattle.tree_json.specs.Value.{JsonValue, null, bool, whole, text, list, object, Elements, Members, no_members, member}
+use Rattle.std.specs.List.{list_any, list_all, flat_map}
+use Rattle.tree_json.specs.Value.{JsonValue, null, bool, whole, text, list, object, Members, no_members, member}
 use Rattle.tree_json.specs.View.{view}
 use Rattle.mapping.specs.declared.property.Outline.{Outline}
 use Rattle.mapping.specs.Names.{joined}
 use Rattle.mapping.specs.Body.{Property, properties_below, properties_among, properties_at, properties_named, properties_of, is_property, kind_of, is_nested, is_join}
-use Rattle.mapping.specs.Mapping.{Draft, draft_of}
+use Rattle.mapping.specs.Mapping.{draft_of}
 use Rattle.mapping.specs.Outline.{Outlined, pairs_of_outlined, outline_of, deeper, outlines_below, outlines_among, outlines_at, outlines_named, drafts_below, drafts_among, drafts_at, drafts_named}
-use Rattle.mapping.specs.Refusal.{lacks_relations, is_deep, has_many_fields, has_many_nested}
-use Rattle.mapping.specs.Relations.{Pair, pairs_of, pairs_of_property, pairs_of_form}
+use Rattle.mapping.specs.Refusal.{lacks_relations}
+use Rattle.mapping.specs.Relations.{pairs_of}
 use Rattle.mapping.proofs.Walks.{split}
 
 -- how many names, counted up to 21

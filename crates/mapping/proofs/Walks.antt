@@ -1,12 +1,12 @@
 -- The walks of a body, and the properties that they meet.
-use Rattle.std.proofs.Common.{◌≡◌, ℕ, zero, suc, ◌+◌, ◌<◌, ◌≤◌, ◌*◌, min, List as Seq, [], ◌∷◌, ◌++◌, map, length, drop, get_or, subst, refl, sym, ap, ◌∙◌, arith, Bool, true, false, cond, if◌then◌else◌, Option, Some, None, codes, bytes_eq}
-use Rattle.tree_json.specs.Value.{JsonValue, null, bool, whole, text, list, object, Elements, no_elements, element, Members, no_members, member, member_of, members_of, elements_of, value_size, elements_size, members_size}
+use Rattle.std.proofs.Common.{◌≡◌, ℕ, zero, suc, ◌+◌, ◌<◌, List as Seq, [], ◌∷◌, length, drop, get_or, subst, refl, sym, ap, arith, Bool, true, false, if◌then◌else◌, Some, codes, bytes_eq}
+use Rattle.tree_json.specs.Value.{JsonValue, Elements, no_elements, element, Members, no_members, member, member_of, members_of, elements_of, value_size, elements_size, members_size}
 use Rattle.tree_json.specs.View.{view, values, entries}
 use Rattle.tree_json.specs.declared.value.Json.{Json}
 use Rattle.mapping.proofs.Puts.{put_all-append}
 use Rattle.mapping.specs.Mapping.{Draft, draft_of}
 use Rattle.mapping.specs.Names.{joined, put, put_all}
-use Rattle.mapping.specs.Outline.{outlines_below, outlines_among, outlines_at, outlines_named, outlines_found, drafts_below, drafts_among, drafts_at, drafts_named, drafts_found}
+use Rattle.mapping.specs.Outline.{outlines_among, outlines_at, outlines_found, drafts_below, drafts_among, drafts_at, drafts_named, drafts_found}
 
 -- ---- a member stands in its object
 

@@ -1,13 +1,13 @@
 -- What is wrong with a source under a mapping: the first fault that a walk meets, names in byte order, lists in order,
 -- depth first.
-use Rattle.std.specs.Prelude.{ℕ, Bool, true, false, if◌then◌else◌, nat_lt, List, [], ◌∷◌, length, Option, Some, None, option_and_then}
+use Rattle.std.specs.Prelude.{ℕ, Bool, true, false, if◌then◌else◌, nat_lt, List, [], length, Option, Some, None, option_and_then}
 use Rattle.std.specs.List.{list_any}
 use Rattle.analysis.specs.Words.{words}
 use Rattle.tree_json.specs.Value.{JsonValue, null, bool, whole, text, list, object, Elements, no_elements, element, Members, no_members, member}
 use Rattle.mapping.specs.declared.kind.Kind.{Kind}
-use Rattle.mapping.specs.declared.kind.Kind.TheVariants.{Text, Keyword, Long, Boolean, Date, Object as Plain, Nested, Join}
+use Rattle.mapping.specs.declared.kind.Kind.TheVariants.{Text, Keyword, Object as Plain, Nested, Join}
 use Rattle.mapping.specs.declared.field_value.FieldValue.{FieldValue}
-use Rattle.mapping.specs.declared.field_value.FieldValue.TheVariants.{Number, Written}
+use Rattle.mapping.specs.declared.field_value.FieldValue.TheVariants.{Written}
 use Rattle.mapping.specs.declared.fault.Fault.{Fault}
 use Rattle.mapping.specs.declared.fault.Fault.TheVariants.{WrongType, TermTooLong, BadJoin}
 use Rattle.mapping.specs.Body.{is_join}

@@ -1,7 +1,7 @@
 -- What the bodies of a mapping say together: numbered fields, scopes and relations.
-use Rattle.std.specs.Prelude.{ℕ, zero, suc, ◌+◌, ◌-◌, ◌<◌, ◌≡◌, ◌==◌, Bool, true, false, ◌&&◌, ◌||◌, not, if◌then◌else◌, nat_le, List, [], ◌∷◌, ◌++◌, length, map, filter, codes, Option, Some, None, is_some, get_or}
+use Rattle.std.specs.Prelude.{ℕ, zero, suc, ◌+◌, ◌-◌, ◌≡◌, ◌==◌, Bool, true, false, ◌&&◌, ◌||◌, not, if◌then◌else◌, nat_le, List, [], ◌∷◌, ◌++◌, length, map, filter, codes, Option, Some, None, is_some, get_or}
 use Rattle.std.specs.List.{range_with_len}
-use Rattle.tree_json.specs.Value.{JsonValue, null}
+use Rattle.tree_json.specs.Value.{JsonValue}
 use Rattle.mapping.specs.declared.kind.Kind.{Kind}
 use Rattle.mapping.specs.declared.kind.Kind.TheVariants.{Object}
 use Rattle.mapping.specs.Names.{in_byte_order, place_of, lies_above, names_between}

@@ -1,12 +1,12 @@
 -- The two walks of a body that the reading of a mapping makes: one over the forms, which needs no paths, and then one over
 -- the fields. `proofs/Walks` ties both to the properties of the body.
-use Rattle.std.specs.Prelude.{ℕ, ◌+◌, Bool, if◌then◌else◌, nat_lt, List, [], ◌∷◌, ◌++◌, map, codes, Option, Some, None}
+use Rattle.std.specs.Prelude.{ℕ, ◌+◌, if◌then◌else◌, nat_lt, List, [], ◌∷◌, ◌++◌, codes, Option, Some, None}
 use Rattle.std.specs.Str.{bytes_eq}
-use Rattle.tree_json.specs.Value.{JsonValue, null, bool, whole, text, list, object, Elements, Members, no_members, member}
+use Rattle.tree_json.specs.Value.{JsonValue, object, Members, no_members, member}
 use Rattle.tree_json.specs.View.{view}
 use Rattle.mapping.specs.declared.property.Outline.{Outline}
 use Rattle.mapping.specs.declared.property.Draft.{Draft as Made}
-use Rattle.mapping.specs.Names.{joined, put_all}
+use Rattle.mapping.specs.Names.{joined}
 use Rattle.mapping.specs.Body.{kind_of, is_join}
 use Rattle.mapping.specs.Relations.{Pair, pairs_of_form}
 use Rattle.mapping.specs.Mapping.{Draft, draft_of}

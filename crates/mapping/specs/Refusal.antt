@@ -1,11 +1,11 @@
 -- Which bodies are no mapping, and what is said of them.
-use Rattle.std.specs.Prelude.{◌≡◌, ℕ, Bool, true, false, not, ◌||◌, ◌&&◌, if◌then◌else◌, nat_lt, List, [], ◌∷◌, length, codes, Option, Some, None}
+use Rattle.std.specs.Prelude.{◌≡◌, Bool, true, false, not, ◌||◌, ◌&&◌, if◌then◌else◌, nat_lt, [], ◌∷◌, length, codes, Option, Some, None}
 use Rattle.std.specs.List.{list_any, count_by}
-use Rattle.tree_json.specs.Value.{JsonValue, null, bool, whole, text, list, object, Members, no_members, member}
+use Rattle.tree_json.specs.Value.{JsonValue, object, member}
 use Rattle.tree_json.specs.Text.{compact}
 use Rattle.mapping.specs.declared.refusal.MappingRefusal.{MappingRefusal}
 use Rattle.mapping.specs.declared.refusal.MappingRefusal.TheVariants.{BadRequest, TooManyFields, TooDeep, TooManyNested, BadRelations, TooLarge, NoMemory}
-use Rattle.mapping.specs.Body.{Property, properties_of, is_body, kind_of, is_nested, is_join, member_named}
+use Rattle.mapping.specs.Body.{properties_of, is_body, kind_of, is_nested, is_join, member_named}
 use Rattle.mapping.specs.Relations.{pairs_of, relations_of, turns_back, has_two_parents}
 
 -- more than 1,000 properties in all

@@ -1,8 +1,8 @@
 -- The relations of a join field (Elasticsearch reference, join field type): names, each with the name of its parent.
-use Rattle.std.specs.Prelude.{ℕ, zero, suc, ◌+◌, Bool, true, false, ◌&&◌, ◌||◌, not, if◌then◌else◌, List, [], ◌∷◌, ◌++◌, length, map, filter, find, codes, Option, Some, None, is_some, option_map, option_and_then, slice_get}
+use Rattle.std.specs.Prelude.{ℕ, zero, suc, ◌+◌, Bool, false, not, if◌then◌else◌, List, [], ◌∷◌, ◌++◌, length, map, filter, find, codes, Option, Some, None, is_some, option_map, option_and_then, slice_get}
 use Rattle.std.specs.List.{list_any, flat_map}
 use Rattle.std.specs.Str.{bytes_eq}
-use Rattle.tree_json.specs.Value.{JsonValue, null, bool, whole, text, list, object, Elements, no_elements, element, Members, no_members, member}
+use Rattle.tree_json.specs.Value.{JsonValue, text, list, object, Elements, no_elements, element, Members, no_members, member}
 use Rattle.mapping.specs.Names.{in_byte_order, place_of}
 use Rattle.mapping.specs.Body.{Property, properties_of, kind_of, is_join, member_named}
 

@@ -1,6 +1,4 @@
 -- What the definitions see of the crate's own structs.
-use Rattle.std.specs.Prelude.{ℕ, List, map}
-use Rattle.tree_json.specs.View.{view}
 use Rattle.mapping.specs.declared.relation.Pair.{Pair as Lent}
 use Rattle.mapping.specs.declared.relation.Relation.{Relation as Kept}
 use Rattle.mapping.specs.Relations.{Pair, Relation}

@@ -1,5 +1,5 @@
 -- Trees: the documents of the index, each a JSON object with the objects nested in it.
-use Rattle.std.specs.Prelude.{ℕ, ◌<◌, ◌≢◌, ◌==◌, Bool, List, [], ◌∷◌, Option, Some, None, option_map, if◌then◌else◌}
+use Rattle.std.specs.Prelude.{ℕ, ◌<◌, ◌≢◌, Bool, List, [], ◌∷◌, Option, Some, None, if◌then◌else◌}
 use Rattle.std.specs.List.{AllByRecursion}
 use Rattle.std.specs.Str.{bytes_eq}
 use Rattle.tree_json.specs.Value.{JsonValue}

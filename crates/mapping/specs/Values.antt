@@ -1,18 +1,18 @@
 -- The values that an object shows.
-use Rattle.std.specs.Prelude.{ℕ, ◌==◌, ◌<◌, ℤ, pos, neg_ℤ, Bool, true, false, ◌&&◌, ◌||◌, not, if◌then◌else◌, nat_le, nat_lt, List, [], ◌∷◌, ◌++◌, length, drop, map, codes, Option, Some, None, is_none, option_map, option_and_then, slice_index, slice_get, find}
+use Rattle.std.specs.Prelude.{ℕ, ◌==◌, ℤ, pos, neg_ℤ, Bool, true, false, ◌&&◌, ◌||◌, if◌then◌else◌, nat_le, nat_lt, List, [], ◌∷◌, length, codes, Option, Some, None, is_none, option_map, option_and_then, find}
 use Rattle.std.specs.Fmt.{signed_decimal}
 use Rattle.std.specs.Char.{is_ascii_digit}
 use Rattle.std.specs.List.{flat_map, filter_map, list_all}
 use Rattle.std.specs.Str.{bytes_eq}
 use Rattle.std.specs.Str.Parse.{digits_value}
 use Rattle.date_fields.specs.Moment.{moment}
-use Rattle.tree_json.specs.Value.{JsonValue, null, bool, whole, text, list, object, Elements, Members, no_members, member, member_of}
+use Rattle.tree_json.specs.Value.{JsonValue, null, bool, whole, text, object, Members, no_members, member, member_of}
 use Rattle.mapping.specs.declared.kind.Kind.{Kind}
 use Rattle.mapping.specs.declared.kind.Kind.TheVariants.{Text, Keyword, Long, Boolean, Date, Object as Plain, Nested, Join}
 use Rattle.mapping.specs.declared.field_value.FieldValue.{FieldValue}
 use Rattle.mapping.specs.declared.field_value.FieldValue.TheVariants.{Number, Written}
 use Rattle.mapping.specs.Body.{is_join}
-use Rattle.mapping.specs.Mapping.{Mapping, Field, field_at, kind_at, home_of, names_to, knows, shows, relation_named, relation_at}
+use Rattle.mapping.specs.Mapping.{Mapping, Field, kind_at, home_of, names_to, knows, shows, relation_named, relation_at}
 use Rattle.mapping.specs.Object.{Object, scope, content, tree_of, below, items}
 use Rattle.mapping.specs.Tree.{Tree}
 
@@ -80,6 +80,13 @@ convert Date v = date_of v
 convert Plain v = None
 convert Nested v = None
 convert Join v = None
+
+-- the kinds that have values
+abbrev pub has_values : Kind → Bool
+has_values Plain = false
+has_values Nested = false
+has_values Join = false
+has_values kind = true
 
 -- ---- the values of a field at an object
 

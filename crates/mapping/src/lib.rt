@@ -2,6 +2,7 @@
 #![tactic(auto)]
 
 mod body;
+mod convert;
 mod copy;
 mod fault;
 mod field_value;
@@ -13,9 +14,12 @@ mod property;
 mod refusal;
 mod relation;
 mod scope;
+#[cfg(test)]
+mod tests;
 
+pub use convert::value_of;
 pub use fault::Fault;
 pub use field_value::{Bytes, FieldValue};
 pub use kind::Kind;
 pub use mapping::Mapping;
-pub use refusal::{MappingRefusal, NoMemory};
+pub use refusal::{MappingRefusal, NoMemory, ValueRefusal};

@@ -1,4 +1,4 @@
-use Rattle.std.proofs.Common.{◌≡◌, ◌+◌, ◌*◌, take}
+use Rattle.std.proofs.Common.{◌≡◌, ◌*◌, take}
 use Rattle.tree_json.specs.Value.{value_size, elements_size, elements_of, members_size, members_of}
 use Rattle.tree_json.specs.View.{view, values, entries}
 use Rattle.mapping.proofs.copy.+copies.Given as goal

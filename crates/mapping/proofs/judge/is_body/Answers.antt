@@ -1,4 +1,4 @@
-use Rattle.std.proofs.Common.{◌≡◌, ◌∙◌, true, sym, refl}
+use Rattle.std.proofs.Common.{◌≡◌, ◌∙◌, true, sym}
 use Rattle.tree_json.specs.View.{view}
 use Rattle.mapping.specs.Body.{is_body_alone}
 use Rattle.mapping.proofs.Ties.{forms_tied}

@@ -1,11 +1,11 @@
-use Rattle.std.proofs.Common.{◌≡◌, ◌<◌, ◌^◌, [], ◌∷◌, map, length, drop, sym, ap, ◌∙◌, refl, List, ℕ, subst, arith}
+use Rattle.std.proofs.Common.{◌≡◌, [], ◌∷◌, map, length, sym, ap, ◌∙◌, refl, List, ℕ, subst, arith}
 use Rattle.std.proofs.lemmas.Grind.{common_steps}
 use Rattle.std.proofs.lemmas.List.{length-map}
 use Rattle.tree_json.specs.View.{view}
-use Rattle.mapping.specs.Names.{in_byte_order, AreAscending}
-use Rattle.mapping.specs.Mapping.{Draft, mapping_of, drafts_from, fields_by, scopes_by, scope_paths, field_by, nested_among, draft_paths}
-use Rattle.mapping.specs.Outline.{made_of, drafts_below}
-use Rattle.mapping.specs.Stored.{IsKept, field_of, scope_seen, scope_parts}
+use Rattle.mapping.specs.Names.{AreAscending}
+use Rattle.mapping.specs.Mapping.{Draft, mapping_of, drafts_from, fields_by, scopes_by, scope_paths, draft_paths}
+use Rattle.mapping.specs.Outline.{made_of}
+use Rattle.mapping.specs.Stored.{field_of, scope_seen, scope_parts}
 use Rattle.mapping.proofs.Puts.{ascending_none}
 use Rattle.mapping.proofs.Single.{drafts_single, scopes_paths, fields_paths, made_paths, fields_by_paths, nested_ascend, drop_first}
 use Rattle.mapping.proofs.mapping.built.Goals as goal

@@ -1,9 +1,9 @@
-use Rattle.std.proofs.Common.{◌≡◌, [], ◌∷◌, ◌++◌, map, sym, ap, ◌∙◌, Some, None, refl}
+use Rattle.std.proofs.Common.{◌≡◌, [], ◌∷◌, map, sym, ap, ◌∙◌, refl}
 use Rattle.tree_json.specs.View.{view}
 use Rattle.mapping.specs.Names.{in_byte_order}
 use Rattle.mapping.specs.Outline.{outline_of, outlines_below}
-use Rattle.mapping.specs.Refusal.{first_refusal, refusal_of_forms, refusal_of_rest}
-use Rattle.mapping.specs.Relations.{relations_by, first_added, names_in_pairs, pairs_of, relations_of, Pair, Relation}
+use Rattle.mapping.specs.Refusal.{first_refusal}
+use Rattle.mapping.specs.Relations.{relations_by, first_added, names_in_pairs, pairs_of, relations_of}
 use Rattle.mapping.specs.Seen.{relation_of, pair_of}
 use Rattle.mapping.proofs.Ties.{pairs_tied}
 use Rattle.mapping.proofs.Single.{relations_single, is_first}

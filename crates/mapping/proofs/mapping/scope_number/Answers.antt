@@ -1,4 +1,4 @@
-use Rattle.std.proofs.Common.{◌≡◌, ◌<◌, ◌≤◌, ◌+◌, ◌∙◌, length, true, false, sym, ap, map, drop, Some, None, option_map, bytes_eq, arith, refl}
+use Rattle.std.proofs.Common.{◌≡◌, ◌∙◌, false, sym, bytes_eq, arith, refl}
 use Rattle.std.proofs.lemmas.Grind.{common_steps}
 use Rattle.mapping.proofs.LookUps.{place_first}
 use Rattle.mapping.proofs.mapping.scope_number.Goals as goal

@@ -1,5 +1,4 @@
-use Rattle.std.proofs.Common.{◌≡◌, ◌<◌, length, map, arith, sym, ◌∙◌, true, false, ap, Some, zero-add, bytes_eq}
-use Rattle.mapping.specs.Names.{rank}
+use Rattle.std.proofs.Common.{◌≡◌, arith, sym, ◌∙◌, true, false, ap, Some, zero-add, bytes_eq}
 use Rattle.mapping.proofs.Ranks.{place_found, place_absent, place_past}
 use Rattle.mapping.proofs.names.place_of.Goals as goal
 use Rattle.mapping.proofs.names.place_of.Goals.{else-place-items-via-then-place-items+else-eq, else-place-items-via-else-place-items}

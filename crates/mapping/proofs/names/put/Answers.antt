@@ -1,6 +1,6 @@
-use Rattle.std.proofs.Common.{◌≡◌, ℕ, ◌≤◌, ◌<◌, ◌++◌, ◌∷◌, List, length, map, take, drop, arith, sym, ap, ◌∙◌, subst, true, false, bytes_eq}
+use Rattle.std.proofs.Common.{◌≡◌, ◌++◌, ◌∷◌, map, take, drop, arith, sym, ◌∙◌, true, false, bytes_eq}
 use Rattle.std.proofs.lemmas.List.{length-map}
-use Rattle.mapping.specs.Names.{rank, put, AreAscending}
+use Rattle.mapping.specs.Names.{rank, put}
 use Rattle.mapping.proofs.Puts.{put_there, put_other, put_last, rank_bound, AreAscending-put}
 use Rattle.mapping.proofs.names.put.Goals as goal
 use Rattle.mapping.proofs.names.put.Goals.{else-place-len-via-then-place-len+else-eq, else-place-len-via-else-place-len}

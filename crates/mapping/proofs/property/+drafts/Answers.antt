@@ -1,4 +1,4 @@
-use Rattle.std.proofs.Common.{◌≡◌, arith, sym, ap, map, ◌∙◌}
+use Rattle.std.proofs.Common.{arith, ap, map, ◌∙◌}
 use Rattle.mapping.specs.Outline.{made_of}
 use Rattle.mapping.proofs.Puts.{map-put}
 use Rattle.mapping.proofs.Walks.{drafts_step}

@@ -1,4 +1,4 @@
-use Rattle.std.proofs.Common.{◌≡◌, ◌+◌, ◌*◌, ◌++◌, map, drop}
+use Rattle.std.proofs.Common.{◌≡◌, ◌+◌, ◌*◌, map, drop}
 use Rattle.tree_json.specs.Value.{value_size, members_size, members_of}
 use Rattle.tree_json.specs.View.{view, entries}
 use Rattle.mapping.specs.Names.{AreAscending, put_all}

@@ -1,7 +1,7 @@
 use Rattle.std.proofs.Common.{◌≡◌, ◌<◌, ◌++◌, [], map, arith, sym, ap, ◌∙◌, append-nil}
 use Rattle.tree_json.specs.Value.{value_size, members_size, members_of}
 use Rattle.tree_json.specs.View.{view, entries}
-use Rattle.mapping.specs.Outline.{outline_of, outlines_among, outlines_found, Outlined}
+use Rattle.mapping.specs.Outline.{outline_of, outlines_among, outlines_found}
 use Rattle.mapping.proofs.Walks.{outlines_by_member, member_size_at}
 use Rattle.mapping.proofs.property.+outlines.Goals as goal
 

@@ -1,4 +1,4 @@
-use Rattle.std.proofs.Common.{◌≡◌, refl, arith, ap, map, ◌∙◌}
+use Rattle.std.proofs.Common.{refl, arith, ap, map, ◌∙◌}
 use Rattle.mapping.proofs.Puts.{ascending_none, map-put}
 use Rattle.mapping.proofs.Pairs.{names_step}
 use Rattle.mapping.proofs.relation.names_in.Goals as goal

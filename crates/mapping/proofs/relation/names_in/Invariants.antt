@@ -1,4 +1,4 @@
-use Rattle.std.proofs.Common.{◌≡◌, List, ℕ, map, drop}
+use Rattle.std.proofs.Common.{◌≡◌, map, drop}
 use Rattle.mapping.specs.Names.{AreAscending, put_all, in_byte_order}
 use Rattle.mapping.specs.Relations.{names_in_pairs}
 use Rattle.mapping.specs.Seen.{pair_of}

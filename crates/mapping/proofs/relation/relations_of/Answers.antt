@@ -1,4 +1,4 @@
-use Rattle.std.proofs.Common.{◌≡◌, ◌∙◌, sym, ap, map, take, refl, arith, List, ℕ, subst}
+use Rattle.std.proofs.Common.{◌≡◌, ◌∙◌, sym, ap, map, take, arith, List, ℕ, subst}
 use Rattle.std.proofs.lemmas.Grind.{common_steps}
 use Rattle.mapping.specs.Names.{AreAscending}
 use Rattle.mapping.specs.Relations.{with_parent, first_added}

@@ -1,7 +1,7 @@
 use Rattle.std.proofs.Common.{◌≡◌, map, drop, length}
 use Rattle.std.specs.Prelude.{is_some}
 use Rattle.std.specs.List.{list_any}
-use Rattle.mapping.specs.Relations.{climbed, turns_back}
+use Rattle.mapping.specs.Relations.{climbed}
 use Rattle.mapping.specs.Seen.{relation_of}
 use Rattle.mapping.proofs.relation.turns_back.Given as goal
 

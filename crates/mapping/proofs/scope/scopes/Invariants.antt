@@ -1,8 +1,7 @@
 use Rattle.std.proofs.Common.{◌≡◌, ◌++◌, map, drop}
-use Rattle.std.specs.List.{flat_map}
 use Rattle.mapping.specs.Mapping.{scopes_by, scope_by, nested_among}
 use Rattle.mapping.specs.Outline.{made_of}
-use Rattle.mapping.specs.Stored.{scope_parts, scope_seen, nested_scope}
+use Rattle.mapping.specs.Stored.{scope_parts, scope_seen}
 use Rattle.mapping.proofs.scope.scopes.Given as goal
 
 abbrev pub invariant-drafts : goal.invariant-drafts

@@ -1,6 +1,5 @@
-use Rattle.std.proofs.Common.{◌≡◌, ◌<◌, ◌==◌, ◌∙◌, length, false, sym, ap, Some, arith}
+use Rattle.std.proofs.Common.{◌≡◌, ◌<◌, ◌==◌, length, false, sym, ap, Some, arith}
 use Rattle.std.proofs.lemmas.Bool.Decides.{nat_tests}
-use Rattle.mapping.specs.Mapping.{Mapping, around_of, root_scope}
 use Rattle.mapping.proofs.LookUps.{scope_kept}
 use Rattle.mapping.proofs.mapping.Mapping.around.Goals as goal
 

@@ -1,4 +1,4 @@
-use Rattle.std.proofs.Common.{◌≡◌, ap}
+use Rattle.std.proofs.Common.{ap}
 use Rattle.mapping.specs.Mapping.{mapping_of}
 use Rattle.mapping.proofs.mapping.Mapping.body.Goals as goal
 

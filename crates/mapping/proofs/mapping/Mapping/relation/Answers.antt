@@ -1,4 +1,4 @@
-use Rattle.std.proofs.Common.{◌≡◌, ◌∙◌, sym, ap, map}
+use Rattle.std.proofs.Common.{◌∙◌, sym, ap, map}
 use Rattle.mapping.specs.Names.{place_of}
 use Rattle.mapping.specs.Mapping.{Mapping, relation_named}
 use Rattle.mapping.proofs.Pairs.{names_seen}

@@ -1,8 +1,8 @@
-use Rattle.std.proofs.Common.{◌≡◌, ◌<◌, ◌==◌, ◌∙◌, length, false, sym, ap, map, Some, arith, ◌∷◌, []}
+use Rattle.std.proofs.Common.{◌≡◌, ◌<◌, ◌==◌, ◌∙◌, length, false, sym, ap, map, arith, ◌∷◌, []}
 use Rattle.tree_json.specs.View.{view}
 use Rattle.std.proofs.lemmas.Bool.Decides.{nat_tests}
 use Rattle.mapping.specs.Names.{place_of}
-use Rattle.mapping.specs.Mapping.{Mapping, mapping_of, scope_field_of, field_named, scope_at}
+use Rattle.mapping.specs.Mapping.{mapping_of, field_named}
 use Rattle.mapping.proofs.LookUps.{path_kept}
 use Rattle.mapping.proofs.Single.{fields_paths}
 use Rattle.mapping.proofs.mapping.Mapping.scope_field.Goals as goal
