@@ -2,8 +2,7 @@
 //!
 //! A segment never changes; a delete clears live bits beside it (Lucene's `SegmentReader` and its live docs,
 //! package `org.apache.lucene.index`). The crate stands on the five kinds of columns. A segment is seen as the
-//! columns that it was made from, and `of_columns` makes one exactly where they agree: what they say of each
-//! document, its flat document, is then one list, which searches and merges speak of.
+//! columns that it was made from. The call that makes one, and refuses columns that disagree, is to come.
 #![tactic(auto)]
 
 mod by_field;

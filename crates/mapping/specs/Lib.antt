@@ -1,0 +1,13 @@
+pub mod Tree
+pub mod Names
+pub mod Body
+pub mod Relations
+pub mod Mapping
+pub mod Outline
+pub mod Refusal
+pub mod Code
+pub mod Seen
+pub mod Stored
+pub mod Object
+pub mod Values
+pub mod Fault

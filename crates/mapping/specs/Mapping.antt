@@ -1,0 +1,211 @@
+-- What the bodies of a mapping say together: numbered fields, scopes and relations.
+use Rattle.std.specs.Prelude.{ℕ, zero, suc, ◌+◌, ◌-◌, ◌≡◌, ◌==◌, Bool, true, false, ◌&&◌, ◌||◌, not, if◌then◌else◌, nat_le, List, [], ◌∷◌, ◌++◌, length, map, filter, codes, Option, Some, None, is_some, get_or}
+use Rattle.std.specs.List.{range_with_len}
+use Rattle.tree_json.specs.Value.{JsonValue}
+use Rattle.mapping.specs.declared.kind.Kind.{Kind}
+use Rattle.mapping.specs.declared.kind.Kind.TheVariants.{Object}
+use Rattle.mapping.specs.Names.{in_byte_order, place_of, lies_above, names_between}
+use Rattle.mapping.specs.Body.{Property, properties_of, kind_of, is_nested, is_true, member_named, index_of}
+use Rattle.mapping.specs.Relations.{Relation, relations_of}
+
+-- a field: its path, its kind, the scope that is its home, and the mapping generation that added it, from 1
+pub record Field : Type 0 where
+  pub path : List ℕ
+  pub kind : Kind
+  pub home : ℕ
+  pub since : ℕ
+
+-- a scope, which is the root or a nested path: its path, the scope around it, the names that lead there from the scope
+-- around it, whether its values are included in the scope around it and in the root, and the generation that added it
+pub record Scope : Type 0 where
+  pub path : List ℕ
+  pub around : ℕ
+  pub names : List (List ℕ)
+  pub in_parent : Bool
+  pub in_root : Bool
+  pub since : ℕ
+
+-- A mapping: the JSON bodies that made it, in order, the name of its index, its fields from number 0, its scopes with
+-- the root as number 0, the numbers of the nested scopes in byte order of their paths, and its relations from number 0.
+pub record Mapping : Type 0 where
+  pub bodies : List JsonValue
+  pub index : List ℕ
+  pub fields : List Field
+  pub scopes : List Scope
+  pub order : List ℕ
+  pub relations : List Relation
+
+-- ---- from bodies to fields
+
+-- a field as a body says it, before homes are known
+pub record Draft : Type 0 where
+  pub path : List ℕ
+  pub kind : Kind
+  pub in_parent : Bool
+  pub in_root : Bool
+  pub since : ℕ
+
+abbrev pub draft_of : ℕ → Property → Draft
+draft_of g p = record {
+  path = p.path;
+  kind = kind_of p.form;
+  in_parent = is_true (member_named p.form (codes "include_in_parent"));
+  in_root = is_true (member_named p.form (codes "include_in_root"));
+  since = g;
+}
+
+abbrev pub draft_paths : List Draft → List (List ℕ)
+draft_paths ds = map (λ d. d.path) ds
+
+-- the fields that a body adds stand behind those that are known, in byte order of their paths
+abbrev pub with_body : ℕ → List Draft → JsonValue → List Draft
+with_body g known body =
+    known ++ in_byte_order (λ d. d.path)
+    (filter (λ d. not (is_some (place_of d.path (draft_paths known)))) (map (draft_of g) (properties_of body)))
+
+abbrev pub drafts_from : ℕ → List Draft → List JsonValue → List Draft
+drafts_from g known [] = known
+drafts_from g known (body ∷ bodies) = drafts_from (g + 1) (with_body g known body) bodies
+
+-- ---- scopes and homes
+
+-- the paths of the scopes: the root's, which is empty, and those of the nested fields
+abbrev pub nested_among : List Draft → List Draft
+nested_among ds = filter (λ d. is_nested d.kind) ds
+
+abbrev pub scope_paths : List Draft → List (List ℕ)
+scope_paths ds = [] ∷ draft_paths (nested_among ds)
+
+abbrev pub nearest_from : ℕ → ℕ → List (List ℕ) → List ℕ → ℕ
+nearest_from found at [] path = found
+nearest_from found at (above ∷ paths) path = nearest_from (if lies_above above path then at else found) (at + 1) paths path
+
+-- the nearest scope strictly above a path: of those above it, each of which lies above the next, the last
+abbrev pub nearest : List (List ℕ) → List ℕ → ℕ
+nearest paths path = nearest_from 0 0 paths path
+
+abbrev pub root_scope : Scope
+root_scope = record { path = []; around = 0; names = []; in_parent = false; in_root = false; since = 1 }
+
+abbrev pub scope_by : List (List ℕ) → Draft → Scope
+scope_by paths d = record {
+  path = d.path;
+  around = nearest paths d.path;
+  names = names_between (get_or paths (nearest paths d.path) []) d.path;
+  in_parent = d.in_parent;
+  in_root = d.in_root;
+  since = d.since;
+}
+
+abbrev pub scopes_by : List Draft → List Scope
+scopes_by ds = root_scope ∷ map (scope_by (scope_paths ds)) (nested_among ds)
+
+abbrev pub field_by : List (List ℕ) → Draft → Field
+field_by paths d = record { path = d.path; kind = d.kind; home = nearest paths d.path; since = d.since }
+
+abbrev pub fields_by : List Draft → List Field
+fields_by ds = map (field_by (scope_paths ds)) ds
+
+abbrev pub order_by : List (List ℕ) → List ℕ
+order_by paths = in_byte_order (λ n. get_or paths n []) (range_with_len 1 (length paths - 1))
+
+-- ---- the mapping
+
+abbrev pub index_named : List JsonValue → List ℕ
+index_named [] = codes "main"
+index_named (body ∷ bodies) = index_of body
+
+abbrev pub mapping_by : List JsonValue → List Draft → Mapping
+mapping_by bodies ds = record {
+  bodies = bodies;
+  index = index_named bodies;
+  fields = fields_by ds;
+  scopes = scopes_by ds;
+  order = order_by (scope_paths ds);
+  relations = relations_of bodies;
+}
+
+-- Fields are numbered from 0, scopes of nested paths from 1 and relations from 0, in order of the bodies that add them
+-- and, within one body, in byte order of their paths. Plain objects, nested fields and the join field are numbered too.
+unfoldable pub mapping_of : List JsonValue → Mapping
+mapping_of bodies = mapping_by bodies (drafts_from 1 [] bodies)
+
+-- ---- look-ups
+
+abbrev pub no_field : Field
+no_field = record { path = []; kind = Object; home = 0; since = 0 }
+
+abbrev pub no_relation : Relation
+no_relation = record { name = []; parent = None; since = 0 }
+
+abbrev pub field_at : Mapping → ℕ → Field
+field_at m f = get_or m.fields f no_field
+
+abbrev pub scope_at : Mapping → ℕ → Scope
+scope_at m n = get_or m.scopes n root_scope
+
+abbrev pub relation_at : Mapping → ℕ → Relation
+relation_at m r = get_or m.relations r no_relation
+
+abbrev pub kind_at : Mapping → ℕ → Kind
+kind_at m f = (field_at m f).kind
+
+abbrev pub home_of : Mapping → ℕ → ℕ
+home_of m f = (field_at m f).home
+
+-- the scope around a scope; the root stands in itself
+abbrev pub outer : Mapping → ℕ → ℕ
+outer m n = (scope_at m n).around
+
+-- the scope around a nested path, and none for the root
+abbrev pub around_of : Mapping → ℕ → Option ℕ
+around_of m n = if n == 0 then None else Some (outer m n)
+
+abbrev pub field_named : Mapping → List ℕ → Option ℕ
+field_named m path = place_of path (map (λ f. f.path) m.fields)
+
+abbrev pub scope_named : Mapping → List ℕ → Option ℕ
+scope_named m path = place_of path (map (λ s. s.path) m.scopes)
+
+abbrev pub relation_named : Mapping → List ℕ → Option ℕ
+relation_named m name = place_of name (map (λ r. r.name) m.relations)
+
+-- the nested field of a scope, and none for the root
+abbrev pub scope_field_of : Mapping → ℕ → Option ℕ
+scope_field_of m n = if n == 0 then None else field_named m (scope_at m n).path
+
+-- the names that lead from the home of a field to it
+abbrev pub names_to : Mapping → ℕ → List (List ℕ)
+names_to m f = names_between (scope_at m (home_of m f)).path (field_at m f).path
+
+-- ---- above
+
+-- scope a lies above scope b: the names of a are a proper prefix of the names of b
+abbrev pub is_above : Mapping → ℕ → ℕ → Bool
+is_above m a b = lies_above (scope_at m a).path (scope_at m b).path
+
+abbrev pub IsAbove : Mapping → ℕ → ℕ → Type 0
+IsAbove m a b = is_above m a b ≡ true
+
+-- ---- where a field's values show
+
+-- the values that objects of scope n show are included in scope s: by n being s, or by the flags of n
+abbrev pub reaches : Mapping → ℕ → ℕ → ℕ → Bool
+reaches m zero n s = n == s
+reaches m (suc left) n s =
+    n == s
+    || (((scope_at m n).in_parent && reaches m left (outer m n) s)
+    || ((scope_at m n).in_root && s == 0))
+
+-- the field stands in the mapping of a generation
+abbrev pub knows : Mapping → ℕ → ℕ → Bool
+knows m g f = nat_le (field_at m f).since g
+
+-- A field shows its values at its home. Where a nested path that shows them has `include_in_parent` the scope around
+-- it shows them too, and where it has `include_in_root` so does the root (Elasticsearch reference, nested field type).
+unfoldable pub included : Mapping → ℕ → ℕ → Bool
+included m f s = reaches m (home_of m f) (home_of m f) s
+
+-- in a tree of generation g: a field that isn't in that generation is shown nowhere
+abbrev pub shows : Mapping → ℕ → ℕ → ℕ → Bool
+shows m g f s = knows m g f && included m f s

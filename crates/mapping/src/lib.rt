@@ -1,0 +1,25 @@
+//! Mappings: fields, scopes and relations, and what a source is under them.
+#![tactic(auto)]
+
+mod body;
+mod convert;
+mod copy;
+mod fault;
+mod field_value;
+mod judge;
+mod kind;
+mod mapping;
+mod names;
+mod property;
+mod refusal;
+mod relation;
+mod scope;
+#[cfg(test)]
+mod tests;
+
+pub use convert::value_of;
+pub use fault::Fault;
+pub use field_value::{Bytes, FieldValue};
+pub use kind::Kind;
+pub use mapping::Mapping;
+pub use refusal::{MappingRefusal, NoMemory, ValueRefusal};

@@ -1,0 +1,138 @@
+//! Names in byte order, and the paths that names make.
+ghost use Rattle.std.specs.Prelude.{◌≡◌, ℕ, List, ◌<◌, ◌≤◌, ◌^◌, length, map, codes, IfOk, OnOk, IfSome, ◌||◌};
+ghost use Rattle.mapping.specs.Names.{AreAscending, rank, joined, lies_above, goes_on, has_dot, is_name, is_property_name, place_of, put};
+
+use crate::refusal::NoMemory;
+use std::alloc::Global;
+
+const DOT: u8 = b'.';
+
+/// What has a name that it can be found by.
+pub(crate) trait Named {
+    ghost name: { Self → List ℕ };
+
+    fn name(&self) -> &[u8]
+        ensures { result.now ≡ name self.now };
+}
+
+/// How many items at the front have a name before this one. It takes about log2 of their number comparisons.
+#[tactic(auto, using(crate::proofs::Ranks::ranks))]
+pub(crate) fn rank_of<T: Named>(items: &[T], name: &[u8]) -> usize
+    requires { AreAscending (map T.name items.now) }
+    ensures { result ≡ rank name.now (map T.name items.now) }
+{
+    let mut low = 0;
+    let mut left = items;
+    'halves: while !left.is_empty() {
+        let middle = left.len() / 2;
+        if left[middle].name().cmp(name).is_lt() {
+            low += middle + 1;
+            left = left.split_at(middle + 1).1;
+        } else {
+            left = left.split_at(middle).0;
+        }
+    }
+    low
+}
+
+/// The place of a name.
+pub(crate) fn place_of<T: Named>(items: &[T], name: &[u8]) -> Option<usize>
+    requires { AreAscending (map T.name items.now) }
+    ensures place { result ≡ place_of name.now (map T.name items.now) }
+    ensures bound { IfSome result (λ place. place < length items.now) }
+{
+    let place = rank_of(items, name);
+    if place < items.len() && items[place].name() == name {
+        Some(place)
+    } else {
+        None
+    }
+}
+
+/// The place of a name, as a number of 32 bits.
+pub(crate) fn number_of<T: Named>(items: &[T], name: &[u8]) -> Option<u32>
+    requires ascending { AreAscending (map T.name items.now) }
+    requires short { length items.now < 2 ^ 32 }
+    ensures place { result ≡ place_of name.now (map T.name items.now) }
+    ensures bound { IfSome result (λ number. number < length items.now) }
+{
+    match place_of(items, name) {
+        Some(place) => Some(place as u32),
+        None => None,
+    }
+}
+
+/// Puts an item at its place in the byte order of names. Where its name is there already, nothing changes.
+pub(crate) fn put<T: Named + Drop>(items: &mut Vec<T>, item: T) -> Result<(), NoMemory>
+    requires { AreAscending (map T.name items.old.items) }
+    ensures put { OnOk result (items.new.items ≡ put T.name item items.old.items) }
+    ensures ascending { OnOk result (AreAscending (map T.name items.new.items)) }
+{
+    let place = rank_of(items.as_slice(), item.name());
+    if place < items.len() && items[place].name() == item.name() {
+        return Ok(());
+    }
+    items.insert(place, item)?;
+    Ok(())
+}
+
+/// The path of a name below a path: a dot joins them, and the root's path is empty.
+pub(crate) fn joined(alloc: Global, path: &[u8], name: &[u8]) -> Result<Vec<u8>, NoMemory>
+    ensures { IfOk result (λ v. v.items ≡ joined path.now name.now) }
+{
+    let mut whole = Vec::new(alloc);
+    if !path.is_empty() {
+        whole.extend_from_slice(path)?;
+        whole.push(DOT)?;
+    }
+    whole.extend_from_slice(name)?;
+    Ok(whole)
+}
+
+/// Whether the names of the first path are a proper prefix of the names of the second.
+pub(crate) fn lies_above(above: &[u8], path: &[u8]) -> bool
+    ensures { result ≡ lies_above above.now path.now }
+{
+    if above.is_empty() {
+        !path.is_empty()
+    } else {
+        goes_on(above, path)
+    }
+}
+
+/// Whether the second path is the first with a further name behind a dot.
+#[tactic(auto, using(crate::proofs::Ranks::goes_on_short))]
+fn goes_on(above: &[u8], path: &[u8]) -> bool
+    ensures { result ≡ goes_on above.now path.now }
+{
+    if path.len() <= above.len() {
+        return false;
+    }
+    'bytes: for (at, byte) in above.iter().enumerate() {
+        if path[at] != *byte {
+            return false;
+        }
+    }
+    path[above.len()] == DOT
+}
+
+/// Whether a name has 1 to 255 bytes.
+pub(crate) fn is_name(name: &[u8]) -> bool
+    ensures { result ≡ is_name name.now }
+{
+    !name.is_empty() && name.len() <= 255
+}
+
+/// Whether a name has a dot.
+pub(crate) fn has_dot(name: &[u8]) -> bool
+    ensures { result ≡ has_dot name.now }
+{
+    name.iter().any(|byte| *byte == DOT)
+}
+
+/// Whether a name may be a property's: 1 to 255 bytes and no dot.
+pub(crate) fn is_property_name(name: &[u8]) -> bool
+    ensures { result ≡ is_property_name name.now }
+{
+    is_name(name) && !has_dot(name)
+}

@@ -1,0 +1,159 @@
+//! Scopes and fields, made of the fields that a body says.
+ghost use Rattle.std.specs.Prelude.{◌≡◌, ℕ, List, ◌<◌, ◌≤◌, ◌^◌, map, length, ◌++◌, IfOk, OnOk};
+ghost use Rattle.mapping.specs.Mapping.{nearest, scope_paths, field_by, scopes_by};
+ghost use Rattle.mapping.specs.Outline.{made_of};
+ghost use Rattle.mapping.specs.Stored.{field_of, scope_parts, scope_seen, nested_path, nested_scope};
+
+use crate::kind::Kind;
+use crate::names::{Named, lies_above};
+use crate::property::Draft;
+use crate::refusal::NoMemory;
+use std::alloc::Global;
+
+/// The path of a scope.
+#[derive(Drop)]
+pub(crate) struct ScopePath {
+    pub bytes: Vec<u8>,
+}
+
+impl Named for ScopePath {
+    ghost name = { λ p. p.bytes.items };
+
+    fn name(&self) -> &[u8] {
+        &self.bytes
+    }
+}
+
+/// A scope but for its path.
+#[derive(Clone, Copy, Drop)]
+pub(crate) struct Scope {
+    pub around: u32,
+    pub in_parent: bool,
+    pub in_root: bool,
+}
+
+/// A field with its number as its place in a list.
+#[derive(Drop)]
+pub(crate) struct Field {
+    pub path: Vec<u8>,
+    pub kind: Kind,
+    pub home: u32,
+}
+
+impl Named for Field {
+    ghost name = { λ f. f.path.items };
+
+    fn name(&self) -> &[u8] {
+        &self.path
+    }
+}
+
+/// The paths of the scopes: the root's, and those of the nested fields.
+pub(crate) fn scope_paths(alloc: Global, drafts: &[Draft]) -> Result<Vec<ScopePath>, NoMemory>
+    ensures { IfOk result (λ paths. map (λ p. p.bytes.items) paths.items ≡ scope_paths (map made_of drafts.now)) }
+{
+    let mut paths = Vec::new(alloc);
+    paths.push(ScopePath {
+        bytes: Vec::new(alloc),
+    })?;
+    'drafts: for draft in drafts {
+        push_nested(alloc, draft, &mut paths)?;
+    }
+    Ok(paths)
+}
+
+fn push_nested(alloc: Global, draft: &Draft, paths: &mut Vec<ScopePath>) -> Result<(), NoMemory>
+    ensures { OnOk result (map (λ p. p.bytes.items) paths.new.items ≡ map (λ p. p.bytes.items) paths.old.items ++ nested_path (made_of draft.now)) }
+{
+    match draft.kind {
+        Kind::Nested => {
+            paths.push(ScopePath {
+                bytes: draft.path.as_slice().to_vec(alloc)?,
+            })?;
+            Ok(())
+        }
+        _ => Ok(()),
+    }
+}
+
+/// The number of the nearest scope strictly above a path.
+fn nearest(paths: &[ScopePath], path: &[u8]) -> u32
+    requires { length paths.now < 2 ^ 32 }
+    ensures { result ≡ nearest (map (λ p. p.bytes.items) paths.now) path.now }
+{
+    let mut found = 0;
+    let mut at: u32 = 0;
+    'paths: for above in paths {
+        if lies_above(above.bytes.as_slice(), path) {
+            found = at;
+        }
+        at += 1;
+    }
+    found
+}
+
+/// The scopes but for their paths, the root first.
+pub(crate) fn scopes(
+    alloc: Global,
+    drafts: &[Draft],
+    paths: &[ScopePath],
+) -> Result<Vec<Scope>, NoMemory>
+    requires short { length paths.now < 2 ^ 32 }
+    requires paths { map (λ p. p.bytes.items) paths.now ≡ scope_paths (map made_of drafts.now) }
+    ensures { IfOk result (λ scopes. map scope_seen scopes.items ≡ map scope_parts (scopes_by (map made_of drafts.now))) }
+{
+    let mut scopes = Vec::new(alloc);
+    scopes.push(Scope {
+        around: 0,
+        in_parent: false,
+        in_root: false,
+    })?;
+    'drafts: for draft in drafts {
+        push_scope(draft, paths, &mut scopes)?;
+    }
+    Ok(scopes)
+}
+
+fn push_scope(draft: &Draft, paths: &[ScopePath], scopes: &mut Vec<Scope>) -> Result<(), NoMemory>
+    requires { length paths.now < 2 ^ 32 }
+    ensures { OnOk result (map scope_seen scopes.new.items ≡ map scope_seen scopes.old.items ++ nested_scope (map (λ p. p.bytes.items) paths.now) (made_of draft.now)) }
+{
+    match draft.kind {
+        Kind::Nested => {
+            scopes.push(Scope {
+                around: nearest(paths, draft.path.as_slice()),
+                in_parent: draft.in_parent,
+                in_root: draft.in_root,
+            })?;
+            Ok(())
+        }
+        _ => Ok(()),
+    }
+}
+
+/// The fields, each with its home.
+pub(crate) fn fields(
+    alloc: Global,
+    drafts: &[Draft],
+    paths: &[ScopePath],
+) -> Result<Vec<Field>, NoMemory>
+    requires short { length paths.now < 2 ^ 32 }
+    ensures { IfOk result (λ fields. map field_of fields.items ≡ map (field_by (map (λ p. p.bytes.items) paths.now)) (map made_of drafts.now)) }
+{
+    let mut fields = Vec::with_capacity(alloc, drafts.len())?;
+    'drafts: for draft in drafts {
+        fields.push(field_made(alloc, draft, paths)?)?;
+    }
+    Ok(fields)
+}
+
+fn field_made(alloc: Global, draft: &Draft, paths: &[ScopePath]) -> Result<Field, NoMemory>
+    requires { length paths.now < 2 ^ 32 }
+    ensures { IfOk result (λ f. field_of f ≡ field_by (map (λ p. p.bytes.items) paths.now) (made_of draft.now)) }
+{
+    Ok(Field {
+        path: draft.path.as_slice().to_vec(alloc)?,
+        kind: draft.kind,
+        home: nearest(paths, draft.path.as_slice()),
+    })
+}
