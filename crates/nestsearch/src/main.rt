@@ -8,10 +8,9 @@ mod streams;
 
 use io_edges::{CallList, MemDisk, Word};
 use line_engine::{Status, run};
-use std::env;
-use std::io;
 use std::process::ExitCode;
 use std::rt::Env;
+use std::{env, io};
 use streams::{StdinSource, StdoutSink};
 
 fn main(rt: HostRuntime) -> ExitCode {
