@@ -6,3 +6,4 @@ pub mod Readings
 pub mod Insertion
 pub mod SoFar
 pub mod Tokens
+mod Said

@@ -7,3 +7,4 @@ pub mod Reading
 pub mod Text
 pub mod Output
 pub mod Quick
+pub mod Said
