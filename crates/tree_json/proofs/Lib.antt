@@ -7,3 +7,6 @@ pub mod Insertion
 pub mod SoFar
 pub mod Tokens
 mod Said
+mod FirstBytes
+mod Compacted
+mod Kept

@@ -96,7 +96,7 @@ mutual
 
 -- ---- whole numbers of 64 bits are read back
 
-abbrev IsOf64 : ℤ → Type 0
+abbrev pub IsOf64 : ℤ → Type 0
 IsOf64 (pos n) = n < 2 ^ 63
 IsOf64 (negsuc n) = n < 2 ^ 63
 
@@ -174,7 +174,7 @@ said_by_compact v h shallow =
 
 -- ---- what was read has whole numbers of 64 bits
 
-abbrev Where : {A : Type 0} → (A → Type 0) → Option A → Type 0
+abbrev pub Where : {A : Type 0} → (A → Type 0) → Option A → Type 0
 Where P None = ⊤
 Where P (Some a) = P a
 
@@ -187,8 +187,8 @@ and_more P Q f h None x = tt
 and_more P Q f h (Some a) x = h a x
 
 -- the numbers that `serde_json` reads
-abbrev IsRead : Num → Type 0
-IsRead (unsigned n) = ⊤
+abbrev pub IsRead : Num → Type 0
+IsRead (unsigned n) = n < 2 ^ 64
 IsRead (negative z) = IsOf64 z
 IsRead (float x) = ⊤
 
@@ -228,17 +228,17 @@ negative_read p true e =
     let inner = and_parts (is_integer p) (nat_lt 0 (digits_of p)) outer.0 in
     negated (digits_of p) (ltb-true 0 (digits_of p) inner.1) (leb-true (digits_of p) (2 ^ 63) outer.1)
 
-positive_read : (p : Parts) (b : Bool) → Where IsRead (if b then Some (unsigned (digits_of p)) else float_of false p)
-positive_read p false = float_read false p
-positive_read p true = tt
+positive_read : (p : Parts) (b : Bool) → (is_integer p && nat_lt (digits_of p) (2 ^ 64)) ≡ b → Where IsRead (if b then Some (unsigned (digits_of p)) else float_of false p)
+positive_read p false e = float_read false p
+positive_read p true e = ltb-true (digits_of p) (2 ^ 64) (and_parts (is_integer p) (nat_lt (digits_of p) (2 ^ 64)) e).1
 
-number_read : (s : Seq ℕ) → Where IsRead (number_of s)
+pub number_read : (s : Seq ℕ) → Where IsRead (number_of s)
 unfolding number_of
 number_read s = by (slice_index s 0 == minus)
   where
     by : (b : Bool) → Where IsRead (if b then number_from true (scan (drop 1 s)) else number_from false (scan s))
     by true = negative_read (scan (drop 1 s)) _ refl
-    by false = positive_read (scan s) _
+    by false = positive_read (scan s) _ refl
 
 ordered_read : (o : Ordering) (a b c : source.Members) → PairsAreRead a → PairsAreRead b → PairsAreRead c → PairsAreRead (match_ordering o a b c)
 ordered_read Less a b c p q r = p

@@ -8,3 +8,4 @@ pub mod Text
 pub mod Output
 pub mod Quick
 pub mod Said
+pub mod Compacted

@@ -1,9 +1,10 @@
 -- The value that a compact text says: `compact` read backwards. It is how `CompactText`, which keeps the text alone,
 -- stands for its value.
-use Rattle.std.specs.Prelude.{ℕ, ℤ, pos, List, Option, Some, None}
+use Rattle.std.specs.Prelude.{◌≡◌, ℕ, ℤ, pos, List, Option, Some, None}
 use Rattle.json.specs.Json as json
 use Rattle.serde_json.specs.Data.{Num, unsigned, negative, float}
 use Rattle.serde_json.specs.Read.{number_of}
+use Rattle.tree_json.specs.Text.{compact}
 use Rattle.tree_json.specs.Value.{JsonValue, null, bool, whole, text, list, object, Elements, no_elements, element, Members, no_members, member}
 
 abbrev pub whole_of : Option Num → ℤ
@@ -35,3 +36,7 @@ said_if (Some j) = said j
 
 unfoldable pub said_by : List ℕ → JsonValue
 said_by bytes = said_if (json.document bytes)
+
+-- the bytes are the compact text of what they say
+abbrev pub IsCompact : List ℕ → Type 0
+IsCompact bytes = bytes ≡ compact (said_by bytes)
