@@ -4,7 +4,6 @@ use Rattle.std.specs.List.{AllByRecursion}
 use Rattle.std.specs.BTreeMap.{BTreeMap, get_by_text}
 use Rattle.std.specs.Prelude.{String}
 use Rattle.std.specs.Global.{Global}
-use Rattle.tree_json.specs.View.{view}
 use Rattle.tree_json.specs.Text.{compact, compact_elements}
 use Rattle.query_ast.specs.Tree.{Tree, IsLiveList, number_of}
 use Rattle.query_ast.specs.Page.{Hit, hit_of, default_sort}
@@ -13,7 +12,7 @@ use Rattle.line_engine.specs.Reply.{hit_value, hit_values}
 use Rattle.line_engine.specs.declared.live.Stored.{Stored}
 
 abbrev pub tree_at : ℕ × Stored → Tree
-tree_at entry = new_tree entry.1.id (view entry.1.source) entry.0
+tree_at entry = new_tree entry.1.id entry.1.source entry.0
 
 abbrev pub trees_of : List (ℕ × Stored) → List Tree
 trees_of entries = map tree_at entries

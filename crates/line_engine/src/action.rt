@@ -5,7 +5,7 @@ ghost use Rattle.tree_json.specs.Reading.{reading, value};
 ghost use Rattle.tree_json.specs.Value.{object, members_of};
 ghost use Rattle.tree_json.specs.View.{view, entries};
 ghost use Rattle.query_ast.specs.View.{clause_of, search_of as search_view};
-ghost use Rattle.line_engine.specs.Action.{asked_of, asked_by, command_of as command_said, command_in as command_inside, command_with as command_under, command_named as command_by_name, index_in, index_with, id_of, query_in, query_of, search_in, search_of, single_of, is_empty_object, is_object as is_object_said, action};
+ghost use Rattle.line_engine.specs.Action.{asked_of, asked_by, command_of as command_said, command_in as command_inside, command_with as command_under, command_named as command_by_name, index_in, index_with, id_of, query_in, query_of, search_in, search_of, single_of, is_empty_object, action};
 ghost use Rattle.line_engine.specs.View.{first_of, source_of};
 ghost use Rattle.line_engine.specs.Seen.{action_view};
 ghost use Rattle.line_engine.specs.Read.{command_view, IsRefused, IsNoObject};
@@ -14,7 +14,7 @@ use crate::line::{FirstLine, SourceLine};
 use crate::refusal::Refusal;
 use query_ast::{Query, SearchBody};
 use std::alloc::Global;
-use tree_json::{Json, JsonObject, JsonReader, JsonRefusal, JsonText};
+use tree_json::{CompactText, Json, JsonObject, JsonReader, JsonRefusal, JsonText};
 
 /// The most bytes of an `_id`.
 const LONGEST_ID: usize = 512;
@@ -30,7 +30,7 @@ enum Command {
 #[derive(Drop)]
 pub(crate) enum Action {
     /// A source is put under an id.
-    Index(JsonText, Json),
+    Index(JsonText, CompactText),
     /// The live trees are searched.
     Search(SearchBody),
 }
@@ -107,22 +107,13 @@ fn index_action(
         SourceLine::Missing => Err(NoAction::Refused(Refusal::MissingSource)),
         SourceLine::TooLong => Err(NoAction::Refused(Refusal::LineTooLong)),
         SourceLine::Whole(line) => {
-            let source = reader.read(alloc, line)?;
-            if is_object(&source) {
+            let source = reader.read_compact(alloc, line)?;
+            if source.is_object() {
                 Ok(Action::Index(id, source))
             } else {
                 Err(NoAction::Refused(Refusal::BadRequest))
             }
         }
-    }
-}
-
-fn is_object(value: &Json) -> bool
-    ensures { result ≡ is_object_said (view value.now) }
-{
-    match value {
-        Json::Object(_) => true,
-        _ => false,
     }
 }
 

@@ -4,7 +4,6 @@ ghost use Rattle.std.specs.Prelude.{◌≡◌, ◌<◌, ◌≤◌, ◌++◌, [],
 ghost use Rattle.std.specs.BTreeMap.{is_at, get_by_text};
 ghost use Rattle.std.specs.Map.{remove_entry};
 ghost use Rattle.std.specs.Ordering.{nat_cmp};
-ghost use Rattle.tree_json.specs.View.{view};
 ghost use Rattle.query_ast.specs.Tree.{IsLiveList};
 ghost use Rattle.line_engine.specs.Machine.{with_put, new_tree, result_of};
 ghost use Rattle.line_engine.specs.Live.{IsIndexed, AreBelow, trees_of, tree_at, scored, hits_text};
@@ -16,13 +15,13 @@ use crate::reply::WriteResult;
 use std::alloc::Global;
 use std::collections::BTreeMap;
 use std::marker::Model;
-use tree_json::{Json, JsonText, OutText};
+use tree_json::{CompactText, JsonText, OutText};
 
 /// A tree as it is kept, under its sequence number.
 #[derive(Drop)]
 pub(crate) struct Stored {
     pub(crate) id: JsonText,
-    pub(crate) source: Json,
+    pub(crate) source: CompactText,
 }
 
 /// The live trees, by sequence number and by id. One is found in time that grows with the logarithm of their number.
@@ -75,11 +74,11 @@ impl LiveTrees {
         &mut self,
         number: u64,
         id: JsonText,
-        source: Json,
+        source: CompactText,
     ) -> Result<WriteResult, NoMemory>
         requires { AreBelow number self.old }
         ensures what { IfOk result (λ what. what ≡ result_of id self.old) }
-        ensures ok { OnOk result (self.new ≡ with_put (new_tree id (view source) number) self.old) }
+        ensures ok { OnOk result (self.new ≡ with_put (new_tree id source number) self.old) }
         ensures err { OnErr result (self.new ≡ self.old) }
     {
         put_stored(

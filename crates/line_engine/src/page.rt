@@ -14,7 +14,7 @@ use crate::refusal::NoMemory;
 use crate::reply::{write_count, write_quoted};
 use query_ast::{Query, SearchBody};
 use std::collections::BTreeMap;
-use tree_json::{OutText, print};
+use tree_json::OutText;
 
 /// The most hits of a page.
 const PAGE: u64 = 10;
@@ -78,7 +78,7 @@ fn write_hit(number: u64, stored: &Stored, score: u32, out: &mut OutText) -> Res
     out.push(b",\"_score\":")?;
     write_count(score as u64, out)?;
     out.push(b",\"_source\":")?;
-    print(&stored.source, out)?;
+    out.push(stored.source.as_slice())?;
     out.push(b",\"sort\":[")?;
     write_count(score as u64, out)?;
     out.push(b",")?;
