@@ -11,3 +11,4 @@ pub mod ReplyTexts
 pub mod PageTexts
 pub mod Pages
 pub mod Puts
+mod Keys

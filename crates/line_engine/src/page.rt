@@ -74,7 +74,7 @@ fn write_hit(number: u64, stored: &Stored, score: u32, out: &mut OutText) -> Res
     ensures room { room_of out.old ≤ room_of out.new }
 {
     out.push(b"{\"_id\":")?;
-    write_quoted(stored.id.as_slice(), out)?;
+    write_quoted(stored.id.as_bytes(), out)?;
     out.push(b",\"_score\":")?;
     write_count(score as u64, out)?;
     out.push(b",\"_source\":")?;

@@ -59,6 +59,13 @@ impl JsonText {
     {
         self.text.into_bytes()
     }
+
+    /// The text as a string, with no copy.
+    pub fn into_string(self) -> String
+        ensures { string_bytes result ≡ self }
+    {
+        self.text
+    }
 }
 
 /// The values of a JSON list, in order.

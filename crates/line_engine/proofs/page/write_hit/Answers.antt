@@ -13,11 +13,11 @@ returns-clause-ok c =
       c.in_ok-write_count.ensures.ok,
       c.in_ok-push-3.ensures.bytes,
       c.in_ok-push-4.ensures.bytes,
-      c.as_slice-2.ensures,
+      c.as_slice.ensures,
       c.in_ok-push-5.ensures.bytes,
       c.in_ok-write_count-2.ensures.ok,
       c.in_ok-push-6.ensures.bytes,
       c.in_ok-write_count-3.ensures.ok,
       c.in_ok-push-7.ensures.bytes,
-      c.as_slice.ensures.bytes,
+      c.as_bytes.ensures.value,
     )
