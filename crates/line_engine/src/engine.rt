@@ -151,7 +151,12 @@ impl Engine {
     }
 
     // The room for the whole reply comes first, so that want of memory leaves the trees as they were.
-    fn index(&mut self, id: JsonText, source: CompactText, out: &mut OutText) -> Result<(), NoMemory>
+    fn index(
+        &mut self,
+        id: JsonText,
+        source: CompactText,
+        out: &mut OutText,
+    ) -> Result<(), NoMemory>
         requires room { self.old.state.next < 2 ^ 50 }
         requires calls { self.old.state.next < self.old.calls }
         ensures ok { OnOk result (out.new.bytes ≡ out.old.bytes ++ reply_text (put_step id source self.old.state).reply) }

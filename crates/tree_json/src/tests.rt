@@ -1,7 +1,7 @@
 //! What no clause says: that the definitions are RFC 8259 and `serde_json`'s text, and that each call succeeds.
 use crate::{
-    CompactText, Json, JsonList, JsonObject, JsonReader, JsonRefusal, JsonText, OutText, compact_len, count_len,
-    print, put_count, put_quoted, put_whole, quoted_len, read, whole_len,
+    CompactText, Json, JsonList, JsonObject, JsonReader, JsonRefusal, JsonText, OutText,
+    compact_len, count_len, print, put_count, put_quoted, put_whole, quoted_len, read, whole_len,
 };
 use std::alloc::Global;
 use std::test::Fail;
@@ -85,7 +85,11 @@ fn values_are_read_and_printed(rt: HostRuntime) -> Result<(), Fail> {
         match compacted(rt.alloc(), line.as_bytes()) {
             Ok(text) => {
                 assert_eq!(rt; text.as_slice(), want.as_bytes(), "compact, at {line}");
-                assert_eq!(rt; text.is_object(), want.as_bytes()[0] == b'{', "an object, at {line}");
+                assert_eq!(rt;
+                    text.is_object(),
+                    want.as_bytes()[0] == b'{',
+                    "an object, at {line}"
+                );
             }
             Err(_) => panic!(rt; "refused: {line}"),
         }

@@ -165,7 +165,7 @@ write_object-members-preserved t c =
       (
         so_far.0 ++ (key, one.what) ∷ [],
         rw (← put) (object_more _ _ _ so_far.0 key found.says one.what so_far.1
-        (members_more (value c.args.depth) l.invariant.0 key l.reader c.next_key.new.self c.write_value.new.reader found.says (omega (arith, l.invariant.1)) named found.parses) found.whole),
+            (members_more (value c.args.depth) l.invariant.0 key l.reader c.next_key.new.self c.write_value.new.reader found.says (omega (arith, l.invariant.1)) named found.parses) found.whole),
         member_written (λ s. s.now) l.last c.args.out.now.bytes l.out.bytes c.write_name.new.out.bytes c.write_value.new.out.bytes c.is_some.result so_far.0 key one.what so_far.2 so_far.3 c.is_some.ensures (rw c.as_bytes.ensures.value at c.in_ok-write_name.ensures) one.bytes,
         sym (last_name-push so_far.0 key one.what),
         rw (← put) (IsAscending-with_entry so_far.0 key one.what so_far.4),
