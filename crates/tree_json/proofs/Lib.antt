@@ -10,3 +10,4 @@ mod Said
 mod FirstBytes
 mod Compacted
 mod Kept
+mod OneTexts

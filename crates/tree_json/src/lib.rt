@@ -7,6 +7,7 @@
 
 mod compact_text;
 mod compactor;
+mod one_text;
 mod out_text;
 mod printer;
 mod quick;
@@ -18,6 +19,7 @@ mod value;
 mod whole;
 
 pub use compact_text::CompactText;
+pub use one_text::OneText;
 pub use out_text::{NoMemory, OutText};
 pub use printer::{compact_len, print, put};
 pub use quote::{put_quoted, quoted_len};

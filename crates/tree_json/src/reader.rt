@@ -1,5 +1,6 @@
 //! From bytes to a value.
-ghost use Rattle.std.specs.Prelude.{◌≡◌, Some, None, OnOk, IfOk, IsErrOf, MatchResult};
+ghost use Rattle.std.specs.Prelude.{◌≡◌, Some, None, OnOk, IfOk, IfSome, IsErrOf, MatchResult};
+ghost use Rattle.tree_json.specs.OneText.{one_text};
 ghost use Rattle.serde_json.specs.View.{items_view, members_view, view as data_view};
 ghost use Rattle.serde_json.specs.Read.{read as read_data};
 ghost use Rattle.tree_json.specs.Quick.{SaysText, IsFraction};
@@ -9,6 +10,7 @@ ghost use Rattle.tree_json.specs.View.{view};
 
 use crate::compact_text::CompactText;
 use crate::compactor::write_text;
+use crate::one_text::{OneText, one_text_of};
 use crate::out_text::{NoMemory, OutText};
 use crate::printer::print;
 use crate::quick::{Stop, read_text};
@@ -105,6 +107,18 @@ impl JsonReader {
             return Err(JsonRefusal::BadJson);
         };
         compact_of(alloc, text, &mut self.scratch, &mut self.text)
+    }
+
+    /// The text that the bytes hold in an object of one member in an object of one member, lent: no memory is taken for
+    /// it. `None` tells nothing of the bytes, and `read` may be asked.
+    #[tactic(auto, using(crate::proofs::Readings::readings))]
+    pub fn one_text<'a>(&'a mut self, bytes: &'a [u8]) -> Option<OneText<'a>>
+        ensures { IfSome result (λ it. reading bytes.now ≡ value (one_text it.outer.now it.inner.now it.text.now)) }
+    {
+        let Ok(text) = simdutf8::compat::from_utf8(bytes) else {
+            return None;
+        };
+        one_text_of(text, &mut self.scratch)
     }
 }
 

@@ -1,8 +1,10 @@
 //! The types of a JSON value.
-ghost use Rattle.std.specs.Prelude.{◌≡◌, map, option_map};
+ghost use Rattle.std.specs.Prelude.{◌≡◌, map, option_map, IfOk};
 ghost use Rattle.std.specs.Str.{IsUtf8};
 ghost use Rattle.std.specs.String.{string_bytes};
 
+use crate::out_text::NoMemory;
+use std::alloc::Global;
 use std::cmp::Ordering;
 use std::marker::Model;
 
@@ -30,6 +32,15 @@ impl JsonText {
         // SAFETY: the bytes are UTF-8, as is required of the caller.
         let text = unsafe { String::from_utf8_unchecked(bytes) };
         JsonText { text }
+    }
+
+    /// The text, copied.
+    pub fn of_str(alloc: Global, text: &str) -> Result<JsonText, NoMemory>
+        ensures { IfOk result (λ copy. copy ≡ text.now) }
+    {
+        Ok(JsonText {
+            text: String::from_str(alloc, text)?,
+        })
     }
 
     pub(crate) fn of_string(text: String) -> JsonText
