@@ -12,3 +12,4 @@ pub mod PageTexts
 pub mod Pages
 pub mod Puts
 mod Keys
+mod IndexLines
