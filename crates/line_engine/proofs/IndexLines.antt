@@ -1,15 +1,11 @@
 -- The action line of `index`, and a first line by way of its value.
-use Rattle.std.proofs.Common.{◌≡◌, ℕ, ◌≤◌, ◌<◌, Bool, true, false, cond, ◌&&◌, nat_le, List, length, codes, Option, Some, None, option_map, refl, sym, ap, ◌∙◌, subst, le-leb}
-use Rattle.std.specs.Str.{bytes_eq}
-use Rattle.std.proofs.lemmas.Slice.Eq.{bytes_eq-Decides}
+use Rattle.std.proofs.Common.{◌≡◌, ℕ, ◌≤◌, cond, ◌&&◌, nat_le, List, length, codes, Option, Some, None, option_map, sym, ap, ◌∙◌, le-leb}
 use Rattle.tree_json.specs.OneText.{one_text}
 use Rattle.tree_json.specs.Reading.{Reading, bad_json, fraction, value}
 use Rattle.tree_json.specs.Value.{JsonValue}
-use Rattle.tree_json.specs.declared.reader.JsonRefusal.{JsonRefusal}
 use Rattle.tree_json.specs.declared.reader.JsonRefusal.TheVariants as Json
-use Rattle.line_engine.specs.Action.{Command, index, id_of, command_of, asked_in, asked_by}
+use Rattle.line_engine.specs.Action.{Command, index, command_of, asked_in, asked_by}
 use Rattle.line_engine.specs.Read.{AsksAs, IsRefusedFirst, no_action_of}
-use Rattle.line_engine.specs.declared.action.NoAction.{NoAction}
 use Rattle.line_engine.specs.declared.action.NoAction.TheVariants.{NoMemory}
 
 command_is : (id : List ℕ) → 1 ≤ length id → length id ≤ 512 → command_of (one_text (codes "index") (codes "_id") id) ≡ Some (index id)

@@ -1,14 +1,14 @@
 -- The compact text of a value that was read says that value.
-use Rattle.std.proofs.Common.{◌≡◌, ℕ, zero, suc, ◌^◌, ◌+◌, ◌<◌, ◌≤◌, max, ℤ, pos, negsuc, Bool, true, false, ◌&&◌, List as Seq, [], ◌∷◌, ◌++◌, codes, Option, Some, None, Ordering, Less, Equal, Greater, option_map, option_and_then, refl, sym, ap, ap₂, subst, ◌∙◌, append_assoc, arith}
+use Rattle.std.proofs.Common.{◌≡◌, ℕ, zero, suc, ◌^◌, ◌<◌, ◌≤◌, ℤ, pos, negsuc, Bool, true, false, ◌&&◌, List as Seq, ◌∷◌, ◌++◌, codes, Option, Some, None, Ordering, Less, Equal, Greater, option_map, option_and_then, refl, sym, ap, ap₂, subst, ◌∙◌, append_assoc, arith}
 use Rattle.std.proofs.lemmas.Bool.{ltb-true, leb-true, and_parts}
 use Rattle.std.specs.Float.{binary64, float_is_finite}
 use Rattle.std.specs.Fmt.{signed_decimal}
 use Rattle.std.specs.Ordering.{match_ordering}
-use Rattle.std.specs.Prelude.{⊤, nat_lt, nat_le, length, if◌then◌else◌, slice_index, ◌==◌, drop, not}
+use Rattle.std.specs.Prelude.{⊤, nat_lt, nat_le, if◌then◌else◌, slice_index, ◌==◌, drop}
 use Rattle.fast_float.specs.Text.{Parts, minus, scan, digits_of, nearest, with_sign}
 use Rattle.json.specs.Json as json
 use Rattle.json.specs.Json.{document, max_depth, if_last}
-use Rattle.json.specs.Print.{IsNumber, print}
+use Rattle.json.specs.Print.{IsNumber}
 use Rattle.json.specs.Lex.{tokens}
 use Rattle.json.specs.Tree as tree
 use Rattle.json.specs.Tree.{HasNumbers, ItemsHaveNumbers, MembersHaveNumbers, json_tokens}

@@ -87,7 +87,7 @@ fn values_are_read_and_printed(rt: HostRuntime) -> Result<(), Fail> {
                 assert_eq!(rt; text.as_slice(), want.as_bytes(), "compact, at {line}");
                 assert_eq!(rt;
                     text.is_object(),
-                    want.as_bytes()[0] == b'{',
+                    want.as_bytes().starts_with(b"{"),
                     "an object, at {line}"
                 );
             }

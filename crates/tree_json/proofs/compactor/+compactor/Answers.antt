@@ -1,4 +1,4 @@
-use Rattle.std.proofs.Common.{◌≡◌, ◌-◌, ◌<◌, ◌++◌, List as Seq, [], ◌∷◌, length, codes, Bool, true, false, Some, None, option_map, subst, to_z, of_z, to_z-of_z, w64, refl, sym, ap, ◌∙◌, append_assoc, append-nil, arith}
+use Rattle.std.proofs.Common.{◌≡◌, ◌-◌, ◌<◌, ◌++◌, [], ◌∷◌, length, codes, false, Some, None, option_map, subst, to_z, of_z, to_z-of_z, w64, refl, sym, ap, ◌∙◌, append_assoc, append-nil, arith}
 use Rattle.std.specs.Fmt.{signed_decimal}
 use Rattle.json.specs.Json.{after_end_array, read_key, value}
 use Rattle.json.specs.Reads.{token_of}
@@ -7,8 +7,8 @@ use Rattle.tree_json.proofs.Compacted.{element_written, member_written, later_mo
 use Rattle.tree_json.proofs.Insertion.{with_entry, IsAscending-with_entry, none_ascend}
 use Rattle.tree_json.proofs.SoFar.{list_begun, list_more, list_over, list_bad, object_begun, object_more, object_over, object_bad}
 use Rattle.tree_json.proofs.Tokens.{said_text, said_bool, said_null, said_whole, said_list, said_object, bad_end, bad_list_level, bad_object_level, bad_list, bad_object}
-use Rattle.tree_json.specs.Compacted.{Writes, ComesAfter}
-use Rattle.tree_json.specs.Text.{compact, compact_elements, compact_members, comma_if}
+use Rattle.tree_json.specs.Compacted.{ComesAfter}
+use Rattle.tree_json.specs.Text.{compact_elements, compact_members}
 use Rattle.tree_json.specs.Value.{JsonValue, bool, whole, text, list, object, elements_of, members_of}
 use Rattle.tree_json.proofs.compactor.+compactor.Goals as goal
 

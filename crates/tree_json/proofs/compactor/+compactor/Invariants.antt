@@ -1,4 +1,4 @@
-use Rattle.std.proofs.Common.{◌≡◌, ℕ, ◌+◌, ◌*◌, ◌≤◌, ◌++◌, List as Seq, length, Bool, false, option_map}
+use Rattle.std.proofs.Common.{◌≡◌, ℕ, ◌+◌, ◌*◌, ◌≤◌, ◌++◌, List as Seq, length, false, option_map}
 use Rattle.json.specs.Json.{items, members, value}
 use Rattle.tree_json.proofs.Compacted.{is_later, last_name}
 use Rattle.tree_json.proofs.SoFar.{ListSoFar, ObjectSoFar}
