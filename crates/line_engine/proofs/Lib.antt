@@ -11,3 +11,5 @@ pub mod ReplyTexts
 pub mod PageTexts
 pub mod Pages
 pub mod Puts
+mod Keys
+mod IndexLines

@@ -6,12 +6,11 @@ use Rattle.std.proofs.lemmas.List.{map-append}
 use Rattle.std.proofs.lemmas.Slice.Eq.{bytes_eq-Decides}
 use Rattle.std.specs.Map.{remove_entry}
 use Rattle.std.specs.Str.{bytes_eq}
-use Rattle.std.specs.BTreeMap.{BTreeMap, is_at, insert_entry, get_by_text}
-use Rattle.std.specs.Prelude.{String}
-use Rattle.std.specs.Global.{Global}
+use Rattle.std.specs.BTreeMap.{BTreeMap, is_at, insert_entry}
+use Rattle.std.specs.String.{string_bytes}
 use Rattle.query_ast.specs.Tree.{Tree, ComesFirst, IsLiveList, has_id, number_of, without}
 use Rattle.line_engine.specs.Machine.{with_put}
-use Rattle.line_engine.specs.Live.{tree_at, trees_of, AreBelow, IsIndexed}
+use Rattle.line_engine.specs.Live.{tree_at, trees_of, AreBelow, Key, get_by_id, IsIndexed}
 use Rattle.line_engine.specs.declared.live.Stored.{Stored}
 
 none_or_some : (n : ℕ) → None ≡ Some n → ⊥
@@ -147,16 +146,16 @@ below_put tree (first ∷ trees) below = step (has_id tree.id first) (below_put 
 -- ---- the maps
 
 -- as long as the entries stay
-pub indexed_same : (trees trees' : BTreeMap ℕ Stored) (numbers numbers' : BTreeMap (String Global) ℕ) → trees'.entries ≡ trees.entries → numbers'.entries ≡ numbers.entries → IsIndexed trees numbers → IsIndexed trees' numbers'
+pub indexed_same : (trees trees' : BTreeMap ℕ Stored) (numbers numbers' : BTreeMap Key ℕ) → trees'.entries ≡ trees.entries → numbers'.entries ≡ numbers.entries → IsIndexed trees numbers → IsIndexed trees' numbers'
 indexed_same trees trees' numbers numbers' e f is = record { live = rw e is.live; found = λ id. rw (e, f) (is.found id) }
 
 -- after a tree is put, and its number under its id
-pub indexed_put : (trees trees' : BTreeMap ℕ Stored) (numbers numbers' : BTreeMap (String Global) ℕ) (tree : Tree) (key : List ℕ) → IsIndexed trees numbers → AreBelow tree.number (trees_of trees.entries)
+pub indexed_put : (trees trees' : BTreeMap ℕ Stored) (numbers numbers' : BTreeMap Key ℕ) (tree : Tree) (key : List ℕ) → IsIndexed trees numbers → AreBelow tree.number (trees_of trees.entries)
     → trees_of trees'.entries ≡ with_put tree (trees_of trees.entries) → key ≡ tree.id
-    → ((id : List ℕ) → get_by_text numbers' id ≡ cond (bytes_eq key id) (Some tree.number) (get_by_text numbers id)) → IsIndexed trees' numbers'
+    → ((id : List ℕ) → get_by_id numbers' id ≡ cond (bytes_eq key id) (Some tree.number) (get_by_id numbers id)) → IsIndexed trees' numbers'
 indexed_put trees trees' numbers numbers' tree key is below put same look = record {
   live = subst (λ (now : List Tree). IsLiveList now) (sym put) (live_put tree (trees_of trees.entries) is.live below);
-  found = λ id. look id ∙ (ap (λ (bytes : List ℕ). cond (bytes_eq bytes id) (Some tree.number) (get_by_text numbers id)) same
+  found = λ id. look id ∙ (ap (λ (bytes : List ℕ). cond (bytes_eq bytes id) (Some tree.number) (get_by_id numbers id)) same
       ∙ (ap (λ (found : Option ℕ). cond (bytes_eq tree.id id) (Some tree.number) found) (is.found id)
       ∙ (sym (number_put id tree (trees_of trees.entries)) ∙ ap (λ (now : List Tree). number_of id now) (sym put))));
 }
@@ -172,18 +171,18 @@ as_before n stored old mid now below put took =
     took ∙ ap (λ (entries : List (ℕ × Stored)). remove_entry (is_at (nat_cmp n)) entries) (grown n stored old mid below put) ∙ taken_back n stored old below
 
 -- a tree whose id is new
-pub put_new : {trees : BTreeMap ℕ Stored} {numbers : BTreeMap (String Global) ℕ} (n : ℕ) (stored : Stored) (now : List (ℕ × Stored))
-    → IsIndexed trees numbers → AreBelow n (trees_of trees.entries) → get_by_text numbers stored.id ≡ None → now ≡ insert_entry nat_cmp trees.entries n stored
+pub put_new : {trees : BTreeMap ℕ Stored} {numbers : BTreeMap Key ℕ} (n : ℕ) (stored : Stored) (now : List (ℕ × Stored))
+    → IsIndexed trees numbers → AreBelow n (trees_of trees.entries) → get_by_id numbers (string_bytes stored.id) ≡ None → now ≡ insert_entry nat_cmp trees.entries n stored
     → trees_of now ≡ with_put (tree_at (n, stored)) (trees_of trees.entries)
 put_new {trees} {numbers} n stored now is below kept put =
     ap trees_of (grown n stored trees.entries now below put)
     ∙ trees_more trees.entries (n, stored)
-    ∙ ap (λ (rest : List Tree). rest ++ tree_at (n, stored) ∷ []) (sym (without_none stored.id (trees_of trees.entries) (sym (is.found stored.id) ∙ kept)))
+    ∙ ap (λ (rest : List Tree). rest ++ tree_at (n, stored) ∷ []) (sym (without_none (string_bytes stored.id) (trees_of trees.entries) (sym (is.found (string_bytes stored.id)) ∙ kept)))
 
 -- a tree whose id another one has, under the number m
-pub put_over : {trees : BTreeMap ℕ Stored} {numbers : BTreeMap (String Global) ℕ} (n m : ℕ) (stored : Stored) (mid now : List (ℕ × Stored))
-    → IsIndexed trees numbers → AreBelow n (trees_of trees.entries) → get_by_text numbers stored.id ≡ Some m → mid ≡ insert_entry nat_cmp trees.entries n stored
+pub put_over : {trees : BTreeMap ℕ Stored} {numbers : BTreeMap Key ℕ} (n m : ℕ) (stored : Stored) (mid now : List (ℕ × Stored))
+    → IsIndexed trees numbers → AreBelow n (trees_of trees.entries) → get_by_id numbers (string_bytes stored.id) ≡ Some m → mid ≡ insert_entry nat_cmp trees.entries n stored
     → now ≡ remove_entry (is_at (nat_cmp m)) mid → trees_of now ≡ with_put (tree_at (n, stored)) (trees_of trees.entries)
 put_over {trees} {numbers} n m stored mid now is below kept put took =
     ap trees_of (took ∙ ap (λ (entries : List (ℕ × Stored)). remove_entry (is_at (nat_cmp m)) entries) (grown n stored trees.entries mid below put))
-    ∙ taken_out stored.id m trees.entries (n, stored) is.live (sym (is.found stored.id) ∙ kept)
+    ∙ taken_out (string_bytes stored.id) m trees.entries (n, stored) is.live (sym (is.found (string_bytes stored.id)) ∙ kept)

@@ -1,7 +1,7 @@
 -- What a request asks for: an action, or the refusal of what isn't one.
 use Rattle.std.specs.Prelude.{ℕ, Bool, true, false, List, length, codes, nat_le, if◌then◌else◌, ◌&&◌, Option, Some, None, option_map}
 use Rattle.std.specs.Str.{bytes_eq}
-use Rattle.tree_json.specs.Value.{JsonValue, text, object, Members, no_members, member}
+use Rattle.tree_json.specs.Value.{JsonValue, text, object, Members, no_members, member, is_object}
 use Rattle.tree_json.specs.Reading.{Reading, reading, bad_json, fraction, value}
 use Rattle.query_ast.specs.Clause.{Clause, match_all}
 use Rattle.query_ast.specs.Page.{Search}
@@ -90,10 +90,6 @@ command_in (Some it) = command_with it.0 it.1
 abbrev pub command_of : JsonValue → Option Command
 command_of (object members) = command_in (single_of members)
 command_of _ = None
-
-abbrev pub is_object : JsonValue → Bool
-is_object (object ms) = true
-is_object _ = false
 
 -- the source line of `index` is an object
 abbrev pub indexed : List ℕ → Reading → Asked

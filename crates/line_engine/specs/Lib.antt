@@ -10,6 +10,7 @@ pub mod Limit
 pub mod View
 pub mod Seen
 pub mod Input
+pub mod Fingerprint
 pub mod Live
 pub mod LineIn
 pub mod Fetch

@@ -1,10 +1,12 @@
 -- How the reading of a request is seen.
-use Rattle.std.specs.Prelude.{◌≡◌, ⊤}
+use Rattle.std.specs.Prelude.{◌≡◌, ⊤, Option}
 use Rattle.tree_json.specs.Value.{JsonValue, object}
 use Rattle.tree_json.specs.declared.reader.JsonRefusal.{JsonRefusal}
 use Rattle.tree_json.specs.declared.reader.JsonRefusal.TheVariants as Json
 use Rattle.query_ast.specs.View.{search_of}
-use Rattle.line_engine.specs.Action.{Command, index, search, Asked, refused}
+use Rattle.line_engine.specs.Action.{Command, index, search, Asked, refused, asked_in, asked_by}
+use Rattle.line_engine.specs.Request.{SourceLine}
+use Rattle.tree_json.specs.Reading.{Reading}
 use Rattle.line_engine.specs.declared.refusal.Refusal.TheVariants.{BadJson, FractionNumber}
 use Rattle.line_engine.specs.declared.action.Command as Declared
 use Rattle.line_engine.specs.declared.action.Command.TheVariants.{Index, Search}
@@ -29,3 +31,11 @@ IsRefused asked NoMemory = ⊤
 abbrev pub IsNoObject : JsonValue → Type 0
 IsNoObject (object ms) = ⊥
 IsNoObject _ = ⊤
+
+-- a first line that reads so asks what the command asks, or what no command asks
+pub record AsksAs (line : Reading) (command : Option Command) : Type 0 where
+  pub asks : (source : SourceLine) → asked_in line source ≡ asked_by command source
+
+-- it is refused so, whatever its source line is
+pub record IsRefusedFirst (line : Reading) (why : NoAction) : Type 0 where
+  pub refuses : (source : SourceLine) → IsRefused (asked_in line source) why

@@ -2,7 +2,6 @@
 use Rattle.std.specs.Prelude.{ℕ, Bool, List, refl}
 use Rattle.std.specs.Coded.{Coded, code_by, coded_list, coded×, coded_ℕ}
 use Rattle.tree_json.specs.Value.{JsonValue}
-use Rattle.tree_json.specs.View.{view}
 use Rattle.tree_json.specs.Code.{value_code}
 use Rattle.query_ast.specs.Tree.{Tree}
 use Rattle.query_ast.specs.View.{search_of}
@@ -14,7 +13,7 @@ use Rattle.line_engine.specs.declared.limits.Limits.{Limits}
 
 -- the action that is read from a request
 abbrev pub action_view : Declared.Action → Action
-action_view (Index id source) = index_source id (view source)
+action_view (Index id source) = index_source id source
 action_view (Search body) = search_trees (search_of body)
 
 -- the input: the bytes read and not used yet, how many more may be read, and whether its end was met

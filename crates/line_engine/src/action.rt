@@ -5,16 +5,16 @@ ghost use Rattle.tree_json.specs.Reading.{reading, value};
 ghost use Rattle.tree_json.specs.Value.{object, members_of};
 ghost use Rattle.tree_json.specs.View.{view, entries};
 ghost use Rattle.query_ast.specs.View.{clause_of, search_of as search_view};
-ghost use Rattle.line_engine.specs.Action.{asked_of, asked_by, command_of as command_said, command_in as command_inside, command_with as command_under, command_named as command_by_name, index_in, index_with, id_of, query_in, query_of, search_in, search_of, single_of, is_empty_object, is_object as is_object_said, action};
+ghost use Rattle.line_engine.specs.Action.{index, asked_of, asked_by, command_of as command_said, command_in as command_inside, command_with as command_under, command_named as command_by_name, index_in, index_with, id_of, query_in, query_of, search_in, search_of, single_of, is_empty_object, action};
 ghost use Rattle.line_engine.specs.View.{first_of, source_of};
 ghost use Rattle.line_engine.specs.Seen.{action_view};
-ghost use Rattle.line_engine.specs.Read.{command_view, IsRefused, IsNoObject};
+ghost use Rattle.line_engine.specs.Read.{command_view, IsRefused, IsRefusedFirst, AsksAs, IsNoObject};
 
 use crate::line::{FirstLine, SourceLine};
 use crate::refusal::Refusal;
 use query_ast::{Query, SearchBody};
 use std::alloc::Global;
-use tree_json::{Json, JsonObject, JsonReader, JsonRefusal, JsonText};
+use tree_json::{CompactText, Json, JsonObject, JsonReader, JsonRefusal, JsonText, NoMemory};
 
 /// The most bytes of an `_id`.
 const LONGEST_ID: usize = 512;
@@ -30,7 +30,7 @@ enum Command {
 #[derive(Drop)]
 pub(crate) enum Action {
     /// A source is put under an id.
-    Index(JsonText, Json),
+    Index(JsonText, CompactText),
     /// The live trees are searched.
     Search(SearchBody),
 }
@@ -57,6 +57,17 @@ impl From<JsonRefusal> for NoAction {
     }
 }
 
+impl From<NoMemory> for NoAction {
+    ghost use Rattle.std.specs.Prelude.{◌≡◌};
+    ghost use Rattle.line_engine.specs.declared.action.NoAction.TheVariants.{NoMemory};
+
+    ghost from_gives = { λ _ e. e ≡ NoMemory };
+
+    fn from(_error: tree_json::NoMemory) -> NoAction {
+        NoAction::NoMemory
+    }
+}
+
 /// The action that a request asks for. The first line's refusals come first.
 #[tactic(auto, unfolding(crate::specs::Action::asked_of))]
 pub(crate) fn action_of(
@@ -70,10 +81,46 @@ pub(crate) fn action_of(
 {
     match first {
         FirstLine::TooLong => Err(NoAction::Refused(Refusal::LineTooLong)),
-        FirstLine::Whole(line) => {
-            let command = command_of(reader.read(alloc, line)?);
-            action_by(alloc, reader, command, second)
-        }
+        FirstLine::Whole(line) => match command_at(alloc, reader, line) {
+            Ok(command) => action_by(alloc, reader, command, second),
+            Err(why) => Err(why),
+        },
+    }
+}
+
+// What a first line says. Most lines are the action lines of `index`, of which only the id is copied.
+#[tactic(auto, using(crate::proofs::IndexLines::index_lines))]
+fn command_at(
+    alloc: Global,
+    reader: &mut JsonReader,
+    line: &[u8],
+) -> Result<Option<Command>, NoAction>
+    ensures ok { IfOk result (λ command. AsksAs (reading line.now) (option_map command_view command)) }
+    ensures refused { IfErr result (IsRefusedFirst (reading line.now)) }
+{
+    match index_id(alloc, reader, line)? {
+        Some(id) => Ok(Some(Command::Index(id))),
+        None => Ok(command_of(reader.read(alloc, line)?)),
+    }
+}
+
+// The id of the action line of `index`, where the line is found to be one.
+#[tactic(auto, using(crate::proofs::IndexLines::index_lines))]
+fn index_id(
+    alloc: Global,
+    reader: &mut JsonReader,
+    line: &[u8],
+) -> Result<Option<JsonText>, NoMemory>
+    ensures { IfOk result (λ found. IfSome found (λ id. AsksAs (reading line.now) (Some (index id)))) }
+{
+    let Some(it) = reader.one_text(line) else {
+        return Ok(None);
+    };
+    let len = it.text.len();
+    if it.outer == "index" && it.inner == "_id" && 1 <= len && len <= LONGEST_ID {
+        Ok(Some(JsonText::of_str(alloc, it.text)?))
+    } else {
+        Ok(None)
     }
 }
 
@@ -107,22 +154,13 @@ fn index_action(
         SourceLine::Missing => Err(NoAction::Refused(Refusal::MissingSource)),
         SourceLine::TooLong => Err(NoAction::Refused(Refusal::LineTooLong)),
         SourceLine::Whole(line) => {
-            let source = reader.read(alloc, line)?;
-            if is_object(&source) {
+            let source = reader.read_compact(alloc, line)?;
+            if source.is_object() {
                 Ok(Action::Index(id, source))
             } else {
                 Err(NoAction::Refused(Refusal::BadRequest))
             }
         }
-    }
-}
-
-fn is_object(value: &Json) -> bool
-    ensures { result ≡ is_object_said (view value.now) }
-{
-    match value {
-        Json::Object(_) => true,
-        _ => false,
     }
 }
 

@@ -2,7 +2,6 @@
 
 ghost use Rattle.std.specs.Prelude.{◌≡◌, ◌≤◌, ◌<◌, ◌+◌, ◌^◌, ◌++◌, [], OnOk, OnErr, IfOk};
 ghost use Rattle.tree_json.specs.Output.{room_of};
-ghost use Rattle.tree_json.specs.View.{view};
 ghost use Rattle.line_engine.specs.Limit.{AreLimits};
 ghost use Rattle.line_engine.specs.Machine.{empty_state, step, action_step, put_step};
 ghost use Rattle.line_engine.specs.Reply.{reply_text, refusal};
@@ -22,7 +21,7 @@ use source_steps::Steps;
 use std::alloc::Global;
 use std::marker::Model;
 use std::sync::ledger::Ledger;
-use tree_json::{Json, JsonReader, JsonText, OutText};
+use tree_json::{CompactText, JsonReader, JsonText, OutText};
 
 /// The answer to a request.
 #[derive(Clone, Copy, Debug, PartialEq, Eq)]
@@ -152,11 +151,16 @@ impl Engine {
     }
 
     // The room for the whole reply comes first, so that want of memory leaves the trees as they were.
-    fn index(&mut self, id: JsonText, source: Json, out: &mut OutText) -> Result<(), NoMemory>
+    fn index(
+        &mut self,
+        id: JsonText,
+        source: CompactText,
+        out: &mut OutText,
+    ) -> Result<(), NoMemory>
         requires room { self.old.state.next < 2 ^ 50 }
         requires calls { self.old.state.next < self.old.calls }
-        ensures ok { OnOk result (out.new.bytes ≡ out.old.bytes ++ reply_text (put_step id (view source) self.old.state).reply) }
-        ensures state { OnOk result (self.new.state ≡ (put_step id (view source) self.old.state).state) }
+        ensures ok { OnOk result (out.new.bytes ≡ out.old.bytes ++ reply_text (put_step id source self.old.state).reply) }
+        ensures state { OnOk result (self.new.state ≡ (put_step id source self.old.state).state) }
         ensures err { OnErr result (self.new.state ≡ self.old.state) }
         ensures limits { self.new.limits ≡ self.old.limits }
         ensures calls { self.new.calls ≡ self.old.calls }

@@ -9,6 +9,7 @@
 mod action;
 mod engine;
 mod fetch;
+mod fingerprint;
 mod input;
 mod limits;
 mod line;

@@ -1,36 +1,39 @@
 //! The live trees of an index.
 
 ghost use Rattle.std.specs.Prelude.{◌≡◌, ◌<◌, ◌≤◌, ◌++◌, [], false, length, map, take, OnOk, OnErr, IfOk, None};
-ghost use Rattle.std.specs.BTreeMap.{is_at, get_by_text};
+ghost use Rattle.std.specs.BTreeMap.{is_at};
 ghost use Rattle.std.specs.Map.{remove_entry};
 ghost use Rattle.std.specs.Ordering.{nat_cmp};
-ghost use Rattle.tree_json.specs.View.{view};
+ghost use Rattle.std.specs.String.{string_bytes};
 ghost use Rattle.query_ast.specs.Tree.{IsLiveList};
 ghost use Rattle.line_engine.specs.Machine.{with_put, new_tree, result_of};
-ghost use Rattle.line_engine.specs.Live.{IsIndexed, AreBelow, trees_of, tree_at, scored, hits_text};
+ghost use Rattle.line_engine.specs.Fingerprint.{fingerprint};
+ghost use Rattle.line_engine.specs.Live.{IsIndexed, AreBelow, trees_of, get_by_id, scored, hits_text};
 ghost use Rattle.tree_json.specs.Output.{room_of};
 
+use crate::fingerprint::fingerprint_of;
 use crate::page::write_hits;
 use crate::refusal::NoMemory;
 use crate::reply::WriteResult;
 use std::alloc::Global;
 use std::collections::BTreeMap;
 use std::marker::Model;
-use tree_json::{Json, JsonText, OutText};
+use tree_json::{CompactText, JsonText, OutText};
 
 /// A tree as it is kept, under its sequence number.
 #[derive(Drop)]
 pub(crate) struct Stored {
-    pub(crate) id: JsonText,
-    pub(crate) source: Json,
+    pub(crate) id: String,
+    pub(crate) source: CompactText,
 }
 
 /// The live trees, by sequence number and by id. One is found in time that grows with the logarithm of their number.
+/// Ids are compared by their fingerprints first, so that a look-up reads hardly any id but the one that it finds.
 #[derive(Drop)]
 pub(crate) struct LiveTrees {
     alloc: Global,
     trees: BTreeMap<u64, Stored>,
-    numbers: BTreeMap<String, u64>,
+    numbers: BTreeMap<(u64, String), u64>,
 }
 
 impl Model for LiveTrees {
@@ -75,19 +78,21 @@ impl LiveTrees {
         &mut self,
         number: u64,
         id: JsonText,
-        source: Json,
+        source: CompactText,
     ) -> Result<WriteResult, NoMemory>
         requires { AreBelow number self.old }
         ensures what { IfOk result (λ what. what ≡ result_of id self.old) }
-        ensures ok { OnOk result (self.new ≡ with_put (new_tree id (view source) number) self.old) }
+        ensures ok { OnOk result (self.new ≡ with_put (new_tree id source number) self.old) }
         ensures err { OnErr result (self.new ≡ self.old) }
     {
+        let key = (fingerprint_of(id.as_slice()), id.into_string());
         put_stored(
             self.alloc,
             &mut self.trees,
             &mut self.numbers,
             number,
-            Stored { id, source },
+            key,
+            source,
         )
     }
 
@@ -104,26 +109,29 @@ impl LiveTrees {
 fn put_stored(
     alloc: Global,
     trees: &mut BTreeMap<u64, Stored>,
-    numbers: &mut BTreeMap<String, u64>,
+    numbers: &mut BTreeMap<(u64, String), u64>,
     number: u64,
-    stored: Stored,
+    key: (u64, String),
+    source: CompactText,
 ) -> Result<WriteResult, NoMemory>
     requires indexed { IsIndexed trees.old numbers.old }
     requires above { AreBelow number (trees_of trees.old.entries) }
-    ensures what { IfOk result (λ what. what ≡ result_of stored.id (trees_of trees.old.entries)) }
-    ensures ok { OnOk result (trees_of trees.new.entries ≡ with_put (tree_at (number, stored)) (trees_of trees.old.entries)) }
+    requires key { key.0 ≡ fingerprint (string_bytes key.1) }
+    ensures what { IfOk result (λ what. what ≡ result_of (string_bytes key.1) (trees_of trees.old.entries)) }
+    ensures ok { OnOk result (trees_of trees.new.entries ≡ with_put (new_tree (string_bytes key.1) source number) (trees_of trees.old.entries)) }
     ensures err { OnErr result (trees_of trees.new.entries ≡ trees_of trees.old.entries) }
     ensures indexed { IsIndexed trees.new numbers.new }
 {
-    match numbers.get_mut(stored.id.as_str()) {
+    match numbers.get_mut(&key) {
         Some(kept) => {
-            trees.insert(number, stored)?;
+            let (_, id) = key;
+            trees.insert(number, Stored { id, source })?;
             take_out(trees, *kept);
             *kept = number;
             Ok(WriteResult::Updated)
         }
         None => {
-            put_new(alloc, trees, numbers, number, stored)?;
+            put_new(alloc, trees, numbers, number, key, source)?;
             Ok(WriteResult::Created)
         }
     }
@@ -133,19 +141,21 @@ fn put_stored(
 fn put_new(
     alloc: Global,
     trees: &mut BTreeMap<u64, Stored>,
-    numbers: &mut BTreeMap<String, u64>,
+    numbers: &mut BTreeMap<(u64, String), u64>,
     number: u64,
-    stored: Stored,
+    key: (u64, String),
+    source: CompactText,
 ) -> Result<(), NoMemory>
     requires indexed { IsIndexed trees.old numbers.old }
     requires above { AreBelow number (trees_of trees.old.entries) }
-    requires new { get_by_text numbers.old stored.id ≡ None }
-    ensures ok { OnOk result (trees_of trees.new.entries ≡ with_put (tree_at (number, stored)) (trees_of trees.old.entries)) }
+    requires key { key.0 ≡ fingerprint (string_bytes key.1) }
+    requires new { get_by_id numbers.old (string_bytes key.1) ≡ None }
+    ensures ok { OnOk result (trees_of trees.new.entries ≡ with_put (new_tree (string_bytes key.1) source number) (trees_of trees.old.entries)) }
     ensures err { OnErr result (trees_of trees.new.entries ≡ trees_of trees.old.entries) }
     ensures indexed { IsIndexed trees.new numbers.new }
 {
-    let key = String::from_str(alloc, stored.id.as_str())?;
-    trees.insert(number, stored)?;
+    let id = String::from_str(alloc, key.1.as_str())?;
+    trees.insert(number, Stored { id, source })?;
     match numbers.insert(key, number) {
         Ok(_none) => Ok(()),
         Err(_failed) => {

@@ -14,7 +14,7 @@ use crate::refusal::NoMemory;
 use crate::reply::{write_count, write_quoted};
 use query_ast::{Query, SearchBody};
 use std::collections::BTreeMap;
-use tree_json::{OutText, print};
+use tree_json::OutText;
 
 /// The most hits of a page.
 const PAGE: u64 = 10;
@@ -74,11 +74,11 @@ fn write_hit(number: u64, stored: &Stored, score: u32, out: &mut OutText) -> Res
     ensures room { room_of out.old ≤ room_of out.new }
 {
     out.push(b"{\"_id\":")?;
-    write_quoted(stored.id.as_slice(), out)?;
+    write_quoted(stored.id.as_bytes(), out)?;
     out.push(b",\"_score\":")?;
     write_count(score as u64, out)?;
     out.push(b",\"_source\":")?;
-    print(&stored.source, out)?;
+    out.push(stored.source.as_slice())?;
     out.push(b",\"sort\":[")?;
     write_count(score as u64, out)?;
     out.push(b",")?;

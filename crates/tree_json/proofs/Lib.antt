@@ -6,3 +6,8 @@ pub mod Readings
 pub mod Insertion
 pub mod SoFar
 pub mod Tokens
+mod Said
+mod FirstBytes
+mod Compacted
+mod Kept
+mod OneTexts

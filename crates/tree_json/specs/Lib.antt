@@ -7,3 +7,6 @@ pub mod Reading
 pub mod Text
 pub mod Output
 pub mod Quick
+pub mod OneText
+pub mod Said
+pub mod Compacted

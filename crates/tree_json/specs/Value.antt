@@ -1,6 +1,6 @@
 -- JSON values as mathematics (RFC 8259), with whole numbers alone and texts as their bytes of UTF-8.
 -- Every definition above this crate speaks of these; `View` leads here from the Rust type.
-use Rattle.std.specs.Prelude.{ℕ, ◌+◌, ℤ, Bool, List, [], ◌∷◌, Option, Some, None, if◌then◌else◌}
+use Rattle.std.specs.Prelude.{ℕ, ◌+◌, ℤ, Bool, true, false, List, [], ◌∷◌, Option, Some, None, if◌then◌else◌}
 use Rattle.std.specs.Str.{bytes_eq}
 
 mutual
@@ -51,3 +51,11 @@ abbrev mutual
   pub members_size : Members → ℕ
   members_size no_members = 1
   members_size (member k d ms) = value_size d + members_size ms
+
+abbrev pub is_object : JsonValue → Bool
+is_object null = false
+is_object (bool b) = false
+is_object (whole z) = false
+is_object (text s) = false
+is_object (list ds) = false
+is_object (object ms) = true

@@ -5,6 +5,9 @@
 //! others use: `read` answers as the one function `reading` of the bytes says, and `print` appends `compact`.
 #![tactic(auto)]
 
+mod compact_text;
+mod compactor;
+mod one_text;
 mod out_text;
 mod printer;
 mod quick;
@@ -15,6 +18,8 @@ mod tests;
 mod value;
 mod whole;
 
+pub use compact_text::CompactText;
+pub use one_text::OneText;
 pub use out_text::{NoMemory, OutText};
 pub use printer::{compact_len, print, put};
 pub use quote::{put_quoted, quoted_len};

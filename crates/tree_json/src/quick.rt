@@ -12,6 +12,7 @@ ghost use Rattle.tree_json.specs.Quick.{Says, SaysElements, SaysMembers, SaysTex
 ghost use Rattle.tree_json.specs.Value.{JsonValue};
 ghost use Rattle.tree_json.specs.View.{view, entries};
 
+use crate::out_text::NoMemory;
 use crate::value::{Json, JsonList, JsonObject, JsonText};
 use fast_float::Numeral;
 use json::{Invalid, Reader, Scratch, Token};
@@ -19,7 +20,7 @@ use std::alloc::{AllocError, AllocFailed, Global};
 use std::cmp::Ordering;
 
 // The greatest number of lists and objects inside one another.
-const MAX_LEVELS: usize = 127;
+pub(crate) const MAX_LEVELS: usize = 127;
 
 // The greatest number of members among which one is put out of order.
 const MAX_SHIFTED: usize = 32;
@@ -40,6 +41,17 @@ impl From<Invalid> for Stop {
 
     fn from(_error: Invalid) -> Stop {
         Stop::BadJson
+    }
+}
+
+impl From<NoMemory> for Stop {
+    ghost use Rattle.std.specs.Prelude.{◌≡◌};
+    ghost use Rattle.tree_json.specs.declared.quick.Stop.TheVariants.{NoMemory};
+
+    ghost from_gives = { λ _ e. e ≡ NoMemory };
+
+    fn from(_error: NoMemory) -> Stop {
+        Stop::NoMemory
     }
 }
 
@@ -210,7 +222,7 @@ fn place_of(members: &[(JsonText, Json)], name: &[u8]) -> Result<usize, usize>
 
 // The number that a token writes, where it is a whole one of 64 bits, signed.
 #[tactic(auto, unfolding(serde_json::specs::Read::number_of))]
-fn whole_number(text: &str) -> Option<i64>
+pub(crate) fn whole_number(text: &str) -> Option<i64>
     ensures { IfSome result (IsWhole (number_of text.now)) }
 {
     let bytes = text.as_bytes();

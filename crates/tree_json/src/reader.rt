@@ -1,5 +1,6 @@
 //! From bytes to a value.
-ghost use Rattle.std.specs.Prelude.{◌≡◌, Some, None, OnOk, IfOk, IsErrOf, MatchResult};
+ghost use Rattle.std.specs.Prelude.{◌≡◌, Some, None, OnOk, IfOk, IfSome, IsErrOf, MatchResult};
+ghost use Rattle.tree_json.specs.OneText.{one_text};
 ghost use Rattle.serde_json.specs.View.{items_view, members_view, view as data_view};
 ghost use Rattle.serde_json.specs.Read.{read as read_data};
 ghost use Rattle.tree_json.specs.Quick.{SaysText, IsFraction};
@@ -7,7 +8,11 @@ ghost use Rattle.tree_json.specs.Reading.{bad_json, fraction, reading, value, wh
 ghost use Rattle.tree_json.specs.Value.{elements_of, members_of};
 ghost use Rattle.tree_json.specs.View.{view};
 
-use crate::out_text::NoMemory;
+use crate::compact_text::CompactText;
+use crate::compactor::write_text;
+use crate::one_text::{OneText, one_text_of};
+use crate::out_text::{NoMemory, OutText};
+use crate::printer::print;
 use crate::quick::{Stop, read_text};
 use crate::value::{Json, JsonList, JsonObject, JsonText};
 use json::Scratch;
@@ -59,10 +64,11 @@ impl<T: Drop> From<AllocFailed<T>> for JsonRefusal {
     }
 }
 
-/// Reads values, one after another, over a buffer that it keeps.
+/// Reads values, one after another, over buffers that it keeps.
 #[derive(Drop)]
 pub struct JsonReader {
     scratch: Scratch,
+    text: OutText,
 }
 
 impl JsonReader {
@@ -70,6 +76,7 @@ impl JsonReader {
     pub fn new(alloc: Global) -> JsonReader {
         JsonReader {
             scratch: Scratch::new(alloc),
+            text: OutText::empty(alloc),
         }
     }
 
@@ -84,13 +91,88 @@ impl JsonReader {
         let Ok(text) = simdutf8::compat::from_utf8(bytes) else {
             return Err(JsonRefusal::BadJson);
         };
-        match read_text(alloc, text, &mut self.scratch) {
-            Ok(value) => Ok(value),
-            Err(Stop::BadJson) => Err(JsonRefusal::BadJson),
-            Err(Stop::Undecided) => read_slowly(alloc, text),
-            Err(Stop::NoMemory) => Err(JsonRefusal::NoMemory),
-        }
+        value_of(alloc, text, &mut self.scratch)
     }
+
+    /// The value that the bytes say (RFC 8259), as its compact text. A repeated name keeps its last value. Where the
+    /// names of each object ascend, the text is written as the bytes are read.
+    #[tactic(auto, using(crate::proofs::Readings::readings))]
+    pub fn read_compact(&mut self, alloc: Global, bytes: &[u8]) -> Result<CompactText, JsonRefusal>
+        ensures ok { IfOk result (λ text. reading bytes.now ≡ value text) }
+        ensures bad { IsErrOf result JsonRefusal.BadJson → reading bytes.now ≡ bad_json }
+        ensures fraction { IsErrOf result JsonRefusal.FractionNumber
+            → reading bytes.now ≡ fraction }
+    {
+        let Ok(text) = simdutf8::compat::from_utf8(bytes) else {
+            return Err(JsonRefusal::BadJson);
+        };
+        compact_of(alloc, text, &mut self.scratch, &mut self.text)
+    }
+
+    /// The text that the bytes hold in an object of one member in an object of one member, lent: no memory is taken for
+    /// it. `None` tells nothing of the bytes, and `read` may be asked.
+    #[tactic(auto, using(crate::proofs::Readings::readings))]
+    pub fn one_text<'a>(&'a mut self, bytes: &'a [u8]) -> Option<OneText<'a>>
+        ensures { IfSome result (λ it. reading bytes.now ≡ value (one_text it.outer.now it.inner.now it.text.now)) }
+    {
+        let Ok(text) = simdutf8::compat::from_utf8(bytes) else {
+            return None;
+        };
+        one_text_of(text, &mut self.scratch)
+    }
+}
+
+// The value that the text says, by the quick way where it decides.
+fn value_of(alloc: Global, text: &str, scratch: &mut Scratch) -> Result<Json, JsonRefusal>
+    ensures ok { IfOk result (λ j. SaysText (read_data text.now) (view j)) }
+    ensures bad { IsErrOf result JsonRefusal.BadJson → read_data text.now ≡ None }
+    ensures fraction { IsErrOf result JsonRefusal.FractionNumber → IsFraction (read_data text.now) }
+{
+    match read_text(alloc, text, scratch) {
+        Ok(value) => Ok(value),
+        Err(Stop::BadJson) => Err(JsonRefusal::BadJson),
+        Err(Stop::Undecided) => read_slowly(alloc, text),
+        Err(Stop::NoMemory) => Err(JsonRefusal::NoMemory),
+    }
+}
+
+// The compact text of the value that the text says, written into a buffer first.
+#[tactic(auto, using(crate::proofs::Kept::kept))]
+fn compact_of(
+    alloc: Global,
+    text: &str,
+    scratch: &mut Scratch,
+    into: &mut OutText,
+) -> Result<CompactText, JsonRefusal>
+    ensures ok { IfOk result (λ compact. SaysText (read_data text.now) compact) }
+    ensures bad { IsErrOf result JsonRefusal.BadJson → read_data text.now ≡ None }
+    ensures fraction { IsErrOf result JsonRefusal.FractionNumber → IsFraction (read_data text.now) }
+{
+    into.clear();
+    match write_text(text, scratch, into) {
+        Ok(()) => Ok(CompactText::of(alloc, into.as_slice())?),
+        Err(Stop::BadJson) => Err(JsonRefusal::BadJson),
+        Err(Stop::Undecided) => compact_of_value(alloc, text, scratch, into),
+        Err(Stop::NoMemory) => Err(JsonRefusal::NoMemory),
+    }
+}
+
+// The same, by way of the value.
+#[tactic(auto, using(crate::proofs::Kept::kept))]
+fn compact_of_value(
+    alloc: Global,
+    text: &str,
+    scratch: &mut Scratch,
+    into: &mut OutText,
+) -> Result<CompactText, JsonRefusal>
+    ensures ok { IfOk result (λ compact. SaysText (read_data text.now) compact) }
+    ensures bad { IsErrOf result JsonRefusal.BadJson → read_data text.now ≡ None }
+    ensures fraction { IsErrOf result JsonRefusal.FractionNumber → IsFraction (read_data text.now) }
+{
+    let value = value_of(alloc, text, scratch)?;
+    into.clear();
+    print(&value, into)?;
+    Ok(CompactText::of(alloc, into.as_slice())?)
 }
 
 /// The value that the bytes say, over a buffer of its own: `JsonReader` reads many lines over one.

@@ -1,7 +1,7 @@
 //! What no clause says: that the definitions are RFC 8259 and `serde_json`'s text, and that each call succeeds.
 use crate::{
-    Json, JsonList, JsonObject, JsonReader, JsonRefusal, JsonText, OutText, compact_len, count_len,
-    print, put_count, put_quoted, put_whole, quoted_len, read, whole_len,
+    CompactText, Json, JsonList, JsonObject, JsonReader, JsonRefusal, JsonText, OutText,
+    compact_len, count_len, print, put_count, put_quoted, put_whole, quoted_len, read, whole_len,
 };
 use std::alloc::Global;
 use std::test::Fail;
@@ -12,6 +12,11 @@ fn printed(alloc: Global, bytes: &[u8]) -> Result<OutText, JsonRefusal> {
     let mut text = OutText::empty(alloc);
     print(&value, &mut text)?;
     Ok(text)
+}
+
+// The compact text that is read from the bytes.
+fn compacted(alloc: Global, bytes: &[u8]) -> Result<CompactText, JsonRefusal> {
+    JsonReader::new(alloc).read_compact(alloc, bytes)
 }
 
 #[test]
@@ -77,6 +82,17 @@ fn values_are_read_and_printed(rt: HostRuntime) -> Result<(), Fail> {
             Ok(text) => assert_eq!(rt; text.as_slice(), want.as_bytes(), "at {line}"),
             Err(_) => panic!(rt; "refused: {line}"),
         }
+        match compacted(rt.alloc(), line.as_bytes()) {
+            Ok(text) => {
+                assert_eq!(rt; text.as_slice(), want.as_bytes(), "compact, at {line}");
+                assert_eq!(rt;
+                    text.is_object(),
+                    want.as_bytes().starts_with(b"{"),
+                    "an object, at {line}"
+                );
+            }
+            Err(_) => panic!(rt; "refused: {line}"),
+        }
     }
     Ok(())
 }
@@ -129,6 +145,10 @@ fn other_bytes_are_refused(rt: HostRuntime) {
         match read(rt.alloc(), line) {
             Ok(_) => panic!(rt; "read: row {place}"),
             Err(refusal) => assert_eq!(rt; refusal, want, "at row {place}"),
+        }
+        match compacted(rt.alloc(), line) {
+            Ok(_) => panic!(rt; "compacted: row {place}"),
+            Err(refusal) => assert_eq!(rt; refusal, want, "compact, at row {place}"),
         }
     }
 }

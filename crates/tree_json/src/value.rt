@@ -1,8 +1,10 @@
 //! The types of a JSON value.
-ghost use Rattle.std.specs.Prelude.{◌≡◌, map, option_map};
+ghost use Rattle.std.specs.Prelude.{◌≡◌, map, option_map, IfOk};
 ghost use Rattle.std.specs.Str.{IsUtf8};
 ghost use Rattle.std.specs.String.{string_bytes};
 
+use crate::out_text::NoMemory;
+use std::alloc::Global;
 use std::cmp::Ordering;
 use std::marker::Model;
 
@@ -32,6 +34,15 @@ impl JsonText {
         JsonText { text }
     }
 
+    /// The text, copied.
+    pub fn of_str(alloc: Global, text: &str) -> Result<JsonText, NoMemory>
+        ensures { IfOk result (λ copy. copy ≡ text.now) }
+    {
+        Ok(JsonText {
+            text: String::from_str(alloc, text)?,
+        })
+    }
+
     pub(crate) fn of_string(text: String) -> JsonText
         ensures { result ≡ string_bytes text }
     {
@@ -58,6 +69,13 @@ impl JsonText {
         ensures { result.items ≡ self }
     {
         self.text.into_bytes()
+    }
+
+    /// The text as a string, with no copy.
+    pub fn into_string(self) -> String
+        ensures { string_bytes result ≡ self }
+    {
+        self.text
     }
 }
 

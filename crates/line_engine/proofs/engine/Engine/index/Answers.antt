@@ -1,5 +1,4 @@
 use Rattle.std.proofs.Common.{◌≡◌, ◌+◌, ap, arith, List, subst, sym}
-use Rattle.tree_json.specs.View.{view}
 use Rattle.query_ast.specs.Tree.{Tree}
 use Rattle.line_engine.specs.Machine.{new_tree}
 use Rattle.line_engine.specs.Live.{AreBelow}
@@ -11,4 +10,4 @@ pub invariant_of-self-2 : goal.invariant_of-self-2
 invariant_of-self-2 c =
     let next : c.self.inside.next ≡ c.args.self.now.state.next = ap (λ (seen : EngineState). seen.state.next) c.self.view_is in
     let calls : c.self.inside.calls ≡ c.args.self.now.calls = ap (λ (seen : EngineState). seen.calls) c.self.view_is in
-    (omega (arith, c.requires.calls), subst (λ (now : List Tree). AreBelow (c.self.inside.next + 1) now) (sym c.in_ok-what.ensures.ok) (below_put (new_tree c.args.id (view c.args.source) c.self.inside.next) c.self.inside.live c.self.invariant.1))
+    (omega (arith, c.requires.calls), subst (λ (now : List Tree). AreBelow (c.self.inside.next + 1) now) (sym c.in_ok-what.ensures.ok) (below_put (new_tree c.args.id c.args.source c.self.inside.next) c.self.inside.live c.self.invariant.1))

@@ -1,0 +1,32 @@
+-- The action line of `index`, and a first line by way of its value.
+use Rattle.std.proofs.Common.{◌≡◌, ℕ, ◌≤◌, cond, ◌&&◌, nat_le, List, length, codes, Option, Some, None, option_map, sym, ap, ◌∙◌, le-leb}
+use Rattle.tree_json.specs.OneText.{one_text}
+use Rattle.tree_json.specs.Reading.{Reading, bad_json, fraction, value}
+use Rattle.tree_json.specs.Value.{JsonValue}
+use Rattle.tree_json.specs.declared.reader.JsonRefusal.TheVariants as Json
+use Rattle.line_engine.specs.Action.{Command, index, command_of, asked_in, asked_by}
+use Rattle.line_engine.specs.Read.{AsksAs, IsRefusedFirst, no_action_of}
+use Rattle.line_engine.specs.declared.action.NoAction.TheVariants.{NoMemory}
+
+command_is : (id : List ℕ) → 1 ≤ length id → length id ≤ 512 → command_of (one_text (codes "index") (codes "_id") id) ≡ Some (index id)
+command_is id some short = ap (λ b. option_map index (cond (b && nat_le (length id) 512) (Some id) None)) (le-leb 1 (length id) some) ∙ ap (λ b. option_map index (cond b (Some id) None)) (le-leb (length id) 512 short)
+
+pub index_line : (line : Reading) (outer inner id : List ℕ) → line ≡ value (one_text outer inner id) → outer ≡ codes "index" → inner ≡ codes "_id" → 1 ≤ length id → length id ≤ 512 → AsksAs line (Some (index id))
+index_line line outer inner id reads first second some short = record {
+  asks = λ source. ap (λ l. asked_in l source) reads ∙ ap (λ o. asked_in (value (one_text o inner id)) source) first ∙ ap (λ i. asked_in (value (one_text (codes "index") i id)) source) second
+      ∙ ap (λ command. asked_by command source) (command_is id some short);
+}
+
+pub value_line : (line : Reading) (v : JsonValue) (command : Option Command) → line ≡ value v → command ≡ command_of v → AsksAs line command
+value_line line v command reads is = record { asks = λ source. ap (λ l. asked_in l source) reads ∙ ap (λ c. asked_by c source) (sym is) }
+
+pub bad_line : (line : Reading) → line ≡ bad_json → IsRefusedFirst line (no_action_of Json.BadJson)
+bad_line line reads = record { refuses = λ source. ap (λ l. asked_in l source) reads }
+
+pub fraction_line : (line : Reading) → line ≡ fraction → IsRefusedFirst line (no_action_of Json.FractionNumber)
+fraction_line line reads = record { refuses = λ source. ap (λ l. asked_in l source) reads }
+
+pub no_memory_line : (line : Reading) → IsRefusedFirst line NoMemory
+no_memory_line line = record { refuses = λ source. tt }
+
+pub ruleset index_lines = (index_line, value_line, bad_line, fraction_line, no_memory_line)
