@@ -6,12 +6,12 @@ use Rattle.std.proofs.lemmas.List.FromFn.{length-map-range_with_len, get_or-map-
 use Rattle.std.specs.List.Sorted.{IsStrictlyIncreasing}
 use Rattle.std.proofs.lemmas.Map.Keys.{sorted_from_strictly_increasing, below_from_sorted}
 use Rattle.std.proofs.lemmas.Bool.{cases_eq, cases_lt}
-use Rattle.block_bits.specs.Flags.{is_marked}
+use Rattle.block_bits.specs.Flags.{is_marked, cleared}
 use Rattle.segment.specs.Agree.{AreColumns}
-use Rattle.segment.specs.Live.{LiveState, IsLiveOver, live_docs, root_of, block_start, block_end, cleared, killed}
+use Rattle.segment.specs.Live.{LiveState, IsLiveOver, live_docs, root_of, block_start, block_end, killed}
 use Rattle.segment.specs.Roots.{root_flags}
 use Rattle.segment.specs.declared.columns.Columns.{Columns}
-use Rattle.segment.proofs.Cleared.{length-cleared, cleared-before, cleared-inside, cleared-after}
+use Rattle.block_bits.proofs.Ranges.{length-cleared, cleared-before, cleared-inside, cleared-after}
 use Rattle.segment.proofs.Places.{length-root_flags, end_edge, start_edge, block-ordered, block-within}
 
 pub length-live_docs : (flags roots : List Bool) → length (live_docs flags roots) ≡ length flags

@@ -1,3 +1,3 @@
-pub mod Cleared
 pub mod Deaths
 pub mod Places
+pub mod Loops

@@ -3,7 +3,7 @@ use Rattle.std.specs.Prelude.{◌≡◌, ℕ, ℤ, ◌<◌, ◌≤◌, Bool, fal
 use Rattle.std.specs.List.{All}
 use Rattle.std.specs.List.Sorted.{IsStrictlyIncreasing}
 use Rattle.block_bits.specs.Flags.{is_marked}
-use Rattle.block_bits.specs.Blocks.{AreBits}
+use Rattle.block_bits.specs.Blocks.{HaveOneScope}
 use Rattle.postings.specs.Postings.{documents}
 use Rattle.doc_values.specs.Values.{values_of}
 use Rattle.segment.specs.Fields.{column_of, fields}
@@ -13,10 +13,6 @@ use Rattle.segment.specs.declared.columns.Columns.{Columns}
 use Rattle.segment.specs.declared.root.Join.{Join}
 use Rattle.segment.specs.declared.root.Join.TheVariants.{Unjoined, Named, Child}
 use Rattle.segment.specs.declared.root.Root.{Root}
-
--- so many documents, each of exactly one scope
-abbrev pub HaveOneScope : ℕ → List (List Bool) → Type 0
-HaveOneScope count sets = (scopes : List ℕ) × AreBits (length sets) sets scopes × (length scopes ≡ count)
 
 -- an id has 1 to 512 bytes
 abbrev pub IsId : List ℕ → Type 0

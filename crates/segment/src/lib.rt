@@ -5,16 +5,20 @@
 //! columns that it was made from. The call that makes one, and refuses columns that disagree, is to come.
 #![tactic(auto)]
 
+mod agree;
 mod by_field;
 mod columns;
 mod live_bits;
 mod parts;
+mod refusal;
 mod root;
+mod root_docs;
 mod segment;
 
 pub use by_field::ByField;
 pub use columns::Columns;
 pub use live_bits::LiveBits;
+pub use refusal::SegmentRefusal;
 pub use root::{Join, JoinValue, Root, RootList};
 pub use segment::Segment;
 use std::alloc::{AllocError, AllocFailed};
