@@ -8,6 +8,7 @@
 mod by_field;
 mod columns;
 mod live_bits;
+mod number_key;
 mod parts;
 mod root;
 mod segment;
