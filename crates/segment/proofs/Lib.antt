@@ -1,3 +1,4 @@
+pub mod ByDocument
 pub mod Cleared
 pub mod Deaths
 pub mod Places

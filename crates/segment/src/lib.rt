@@ -11,6 +11,7 @@ mod live_bits;
 mod number_key;
 mod parts;
 mod root;
+mod rows;
 mod segment;
 
 pub use by_field::ByField;
