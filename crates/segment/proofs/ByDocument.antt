@@ -1,12 +1,15 @@
 -- Rows by document: where a binary search ends, and the values of a document.
-use Rattle.std.proofs.Common.{◌≡◌, ℕ, ◌+◌, ◌<◌, ◌≤◌, zero, suc, List, [], ◌∷◌, length, get_or, slice_get, Some, Err, Contains, refl, sym, ap, ◌∙◌, inl, inr, arith}
+use Rattle.std.proofs.Common.{◌≡◌, ℕ, ℤ, ◌<◌, ◌↔◌, zero, suc, List, [], ◌∷◌, length, get_or, slice_get, Some, Result, Ok, Err, Contains, IsTrue, is_ok, refl, sym, ap, ◌∙◌, inl, inr, arith}
 use Rattle.std.specs.List.{HoldsAt}
-use Rattle.std.specs.List.Sorted.{IsStrictlyIncreasing, IsBinarySearchResult, IsNonDecreasingBy}
-use Rattle.std.specs.Ordering.{nat_cmp, ordering_index}
-use Rattle.std.specs.declared.cmp.Ordering.TheVariants.{Equal}
-use Rattle.std.proofs.lemmas.Bool.{cases_lt}
+use Rattle.std.specs.List.Sorted.{IsStrictlyIncreasing, IsSorted, IsSearchInRange, IsBinarySearchResult, IsNonDecreasingBy}
+use Rattle.std.specs.Cmp.{IsTotalOrder}
+use Rattle.std.specs.Ordering.{nat_cmp, int_cmp, ordering_index}
+use Rattle.std.specs.declared.cmp.Ordering.{Ordering}
+use Rattle.std.specs.declared.cmp.Ordering.TheVariants.{Less, Equal, Greater}
+use Rattle.std.proofs.lemmas.Bool.{cases_lt, false≢true}
 use Rattle.std.proofs.lemmas.Bool.Decides.{nat_tests}
-use Rattle.std.proofs.lemmas.Cmp.{ranked}
+use Rattle.std.proofs.lemmas.Cmp.{ranked, int_ranked, tied_itself, nat_cmp_total, int_cmp_total}
+use Rattle.std.proofs.lemmas.List.Sorted.{searchable_from_sorted}
 use Rattle.std.proofs.lemmas.List.{length-map, get_or-map, get_or_default}
 use Rattle.std.proofs.lemmas.Map.Keys.{sorted_from_strictly_increasing, below_from_sorted}
 use Rattle.std.proofs.lemmas.Option.{slice_get_cases, slice_get-get_or, get_or_from_slice_get}
@@ -86,3 +89,24 @@ values_of-missing (r ∷ rows) doc never =
     let other : r.0 ≡ doc → ⊥ = λ same. never (0, omega arith, same) in
     let rest : values_of doc rows ≡ [] = values_of-missing rows doc (λ there. never (suc there.0, omega (arith, there.1), there.2)) in
     grind (arith, nat_tests, rest, other)
+
+-- a binary search among ascending values finds one exactly where it stands there
+pub searched_value : {K : Type 0} {R : K → K → Ordering} (total : IsTotalOrder R) (same : (a b : K) → R a b ≡ Equal → a ≡ b) (values : List K) (value : K) (r : Result ℕ ℕ) → IsSorted R values → IsSearchInRange r (length values) → IsBinarySearchResult (λ y. R y value) values r → IsTrue (is_ok r) ↔ Contains values value
+searched_value total same values value (Ok at) ascend inside equal = (λ _. (at, inside, same _ value (equal value)), λ _. refl)
+searched_value {K} {R} total same values value (Err at) ascend inside parted = (
+  λ no. absurd (false≢true no),
+  λ there.
+      let sides = parted (searchable_from_sorted total (λ y. y) values value ascend) in
+      let itself : R (get_or values there.0 value) value ≡ Equal = ap (λ y. R y value) there.2 ∙ tied_itself total value in
+      elim (cases_lt there.0 at) [
+        | inl before ↦ let less : R (get_or values there.0 value) value ≡ Less = sides.0 there.0 value (omega arith) before in cc
+        | inr from ↦ let more : R (get_or values there.0 value) value ≡ Greater = sides.1 there.0 value from there.1 in cc
+      ],
+)
+
+-- the same of ordinals, and of numbers
+pub searched_ordinal : (values : List ℕ) (value : ℕ) (r : Result ℕ ℕ) → IsSorted nat_cmp values → IsSearchInRange r (length values) → IsBinarySearchResult (λ y. nat_cmp y value) values r → IsTrue (is_ok r) ↔ Contains values value
+searched_ordinal = searched_value nat_cmp_total (λ a b equal. ranked a b Equal (sym equal))
+
+pub searched_number : (values : List ℤ) (value : ℤ) (r : Result ℕ ℕ) → IsSorted int_cmp values → IsSearchInRange r (length values) → IsBinarySearchResult (λ y. int_cmp y value) values r → IsTrue (is_ok r) ↔ Contains values value
+searched_number = searched_value int_cmp_total (λ a b equal. int_ranked a b Equal (sym equal))

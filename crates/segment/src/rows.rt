@@ -1,7 +1,7 @@
 //! Rows by document, as they stand before a column or a table is built from them.
 
 ghost use Rattle.std.specs.Prelude.{◌≡◌, ◌<◌, length, slice_get, Some, Contains, IfSome, IfNone};
-ghost use Rattle.std.specs.List.Sorted.{IsStrictlyIncreasing};
+ghost use Rattle.std.specs.List.Sorted.{IsStrictlyIncreasing, IsSorted};
 ghost use Rattle.doc_values.specs.Values.{values_of};
 ghost use Rattle.segment.specs.Rows.{documents};
 
@@ -22,7 +22,8 @@ pub(crate) fn place_of<X>(rows: &[(u32, X)], doc: u32) -> Option<usize>
 
 /// The values of a document, ascending; none where it has no row.
 pub(crate) fn values_of<T: Ord + Copy>(list: &RowList<T>, doc: u32) -> &[T]
-    ensures { result.now ≡ values_of doc list.now }
+    ensures values { result.now ≡ values_of doc list.now }
+    ensures ascending { IsSorted T.cmp result.now }
 {
     let rows = list.as_slice();
     match place_of(rows, doc) {

@@ -1,4 +1,4 @@
-use Rattle.std.proofs.Common.{rules, ◌≡◌}
+use Rattle.std.proofs.Common.{rules}
 use Rattle.std.proofs.lemmas.List.Sorted.{answers_always}
 use Rattle.segment.proofs.ByDocument.{found_row, missing_row}
 use Rattle.segment.proofs.rows.place_of.Goals as goal
