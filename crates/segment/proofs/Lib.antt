@@ -1,3 +1,4 @@
+pub mod ByDocument
 pub mod Deaths
 pub mod Places
 pub mod Loops

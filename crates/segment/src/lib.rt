@@ -6,13 +6,16 @@
 #![tactic(auto)]
 
 mod agree;
+mod agree_terms;
 mod by_field;
 mod columns;
 mod live_bits;
+mod number_key;
 mod parts;
 mod refusal;
 mod root;
 mod root_docs;
+mod rows;
 mod segment;
 
 pub use by_field::ByField;
