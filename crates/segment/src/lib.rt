@@ -13,6 +13,7 @@ mod parts;
 mod root;
 mod rows;
 mod segment;
+mod term_search;
 
 pub use by_field::ByField;
 pub use columns::Columns;
