@@ -5,6 +5,7 @@
 //! columns that it was made from. The call that makes one, and refuses columns that disagree, is to come.
 #![tactic(auto)]
 
+mod agree_columns;
 mod by_field;
 mod columns;
 mod live_bits;
