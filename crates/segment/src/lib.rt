@@ -7,6 +7,7 @@
 
 mod agree;
 mod agree_terms;
+mod agree_columns;
 mod by_field;
 mod columns;
 mod live_bits;
@@ -17,6 +18,7 @@ mod root;
 mod root_docs;
 mod rows;
 mod segment;
+mod term_search;
 
 pub use by_field::ByField;
 pub use columns::Columns;
