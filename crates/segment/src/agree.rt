@@ -1,19 +1,41 @@
-//! Whether the columns of a segment agree, as far as documents, roots and fields go.
+//! Whether columns agree, so that they are those of one segment.
 
 ghost use Rattle.std.specs.Prelude.{◌≡◌, ◌↔◌, ◌<◌, List, length, count_by, IsTrue, All};
 ghost use Rattle.std.specs.List.Sorted.{IsStrictlyIncreasing};
 ghost use Rattle.block_bits.specs.Flags.{is_marked};
-ghost use Rattle.segment.specs.Agree.{IsId, HasParentId, HasIds, HasDocuments, HasFlags, AreApart, AreRooted, HaveFields, HaveDocuments};
+ghost use Rattle.segment.specs.Agree.{IsId, HasParentId, HasIds, HasDocuments, HasFlags, AreApart, AreRooted, HaveFields, HaveDocuments, HaveTerms, AreColumns};
 ghost use Rattle.segment.specs.Fields.{fields};
 ghost use Rattle.segment.specs.Roots.{root_flags};
 
+use crate::agree_columns::{have_keys, have_ordinals};
+use crate::agree_terms::are_terms;
 use crate::{ByField, Columns, Join, Root};
 use block_bits::BitSet;
 use doc_values::RowList;
 use postings::PostingLists;
 
+/// Whether columns are those of one segment.
+pub(crate) fn are_columns(columns: &Columns) -> bool
+    ensures { IsTrue result ↔ AreColumns columns.now }
+{
+    are_rooted(columns) && have_fields(columns) && have_documents(columns) && have_terms(columns)
+}
+
+/// Whether terms and the columns of fields say the same.
+fn have_terms(columns: &Columns) -> bool
+    ensures { IsTrue result ↔ HaveTerms columns.now }
+{
+    if !are_terms(columns) {
+        return false;
+    }
+    if !have_ordinals(columns) {
+        return false;
+    }
+    have_keys(columns)
+}
+
 /// Whether there are documents, each of one scope, and for each root an entry and a source.
-pub(crate) fn are_rooted(columns: &Columns) -> bool
+fn are_rooted(columns: &Columns) -> bool
     ensures { IsTrue result ↔ AreRooted columns.now }
 {
     let roots = columns.roots.as_slice();
@@ -63,7 +85,7 @@ fn is_id(bytes: &[u8]) -> bool
 }
 
 /// Whether fields ascend in each list of columns, and no field has columns of two kinds.
-pub(crate) fn have_fields(columns: &Columns) -> bool
+fn have_fields(columns: &Columns) -> bool
     ensures { IsTrue result ↔ HaveFields columns.now }
 {
     if !are_ascending(&columns.ordinals) {
@@ -110,7 +132,7 @@ fn are_apart<C: Drop, D: Drop>(ones: &ByField<C>, others: &ByField<D>) -> bool
 }
 
 /// Whether each list and each column names a document, and none that isn't there.
-pub(crate) fn have_documents(columns: &Columns) -> bool
+fn have_documents(columns: &Columns) -> bool
     ensures { IsTrue result ↔ HaveDocuments columns.now }
 {
     let count = columns.documents;

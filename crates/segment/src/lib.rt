@@ -2,7 +2,7 @@
 //!
 //! A segment never changes; a delete clears live bits beside it (Lucene's `SegmentReader` and its live docs,
 //! package `org.apache.lucene.index`). The crate stands on the five kinds of columns. A segment is seen as the
-//! columns that it was made from. The call that makes one, and refuses columns that disagree, is to come.
+//! columns that it was made from: `Segment::of_columns` makes it, and refuses columns that disagree.
 #![tactic(auto)]
 
 mod agree;
