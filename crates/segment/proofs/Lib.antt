@@ -1,7 +1,9 @@
 pub mod ByDocument
 pub mod Deaths
 pub mod Keyed
+pub mod Loops
+pub mod NumberKeys
+pub mod Numbers
 pub mod Passes
 pub mod Places
-pub mod Loops
 pub mod Searches

@@ -1,13 +1,16 @@
 //! Whether terms say the same as the columns of their fields.
 
-ghost use Rattle.std.specs.Prelude.{◌≡◌, ◌<◌, ◌↔◌, ℕ, List, length, map, slice_get, slice_index_or, Some, [], All, Contains, IsTrue};
+ghost use Rattle.std.specs.Prelude.{◌≡◌, ◌<◌, ◌↔◌, ℕ, List, length, map, slice_get, slice_index_or, Some, [], All, Contains, IsTrue, FitsSigned};
+ghost use Rattle.std.specs.Int.{w64};
+ghost use Rattle.std.specs.List.Sorted.{IsSorted};
+ghost use Rattle.std.specs.Ordering.{int_cmp};
 ghost use Rattle.doc_values.specs.Values.{values_of};
 ghost use Rattle.segment.specs.Agree.{AreTerms, IsTermAt, IsTermOf, IsWordAt, IsKeywordAt, IsNumberAt};
 ghost use Rattle.segment.specs.Fields.{column_of};
 ghost use Rattle.segment.specs.Keys.{number_key};
 
 use crate::Columns;
-use crate::number_key::key_of;
+use crate::number_key::number_of;
 use crate::rows::values_of;
 use block_bits::BitSet;
 use doc_values::{NumberRows, OrdinalRows};
@@ -126,14 +129,36 @@ fn is_number_at(rows: &NumberRows, key: &[u8], posting: &(u32, PositionList)) ->
     positions.as_slice().is_empty() && has_key(values_of(rows, *doc), key)
 }
 
-/// Whether one of these numbers has this key.
+/// Whether one of these numbers, which ascend, has this key.
 fn has_key(numbers: &[i64], key: &[u8]) -> bool
+    requires { IsSorted int_cmp numbers.now }
     ensures { IsTrue result ↔ Contains (map number_key numbers.now) key.now }
 {
-    'numbers: for number in numbers {
-        if key_of(*number).as_slice() == key {
-            return true;
-        }
+    match number_of(key) {
+        Some(number) => has_number(numbers, number),
+        None => false,
     }
-    false
+}
+
+/// Whether a number is one of these, which ascend.
+fn has_number(numbers: &[i64], number: i64) -> bool
+    requires { IsSorted int_cmp numbers.now }
+    ensures contained { IsTrue result ↔ Contains numbers.now number }
+    ensures fit { All (FitsSigned w64) numbers.now }
+{
+    lies_between(numbers, number) && numbers.binary_search(&number).is_ok()
+}
+
+/// Whether a number lies between the first and the last of these, which ascend.
+fn lies_between(numbers: &[i64], number: i64) -> bool
+    requires { IsSorted int_cmp numbers.now }
+    ensures contained { Contains numbers.now number → IsTrue result }
+    ensures fit { All (FitsSigned w64) numbers.now }
+{
+    if numbers.is_empty() {
+        return false;
+    }
+    let first = numbers[0];
+    let last = numbers[numbers.len() - 1];
+    first <= number && number <= last
 }
