@@ -6,8 +6,8 @@
 #![tactic(auto)]
 
 mod agree;
-mod agree_terms;
 mod agree_columns;
+mod agree_terms;
 mod by_field;
 mod columns;
 mod live_bits;
