@@ -21,6 +21,7 @@ live_docs flags roots = map (λ doc. slice_index_or roots (root_of flags doc) tr
 -- live bits of a segment's documents and roots
 pub record IsLiveOver (columns : Columns) (live : LiveState) : Type 0 where
   pub roots : length live.roots ≡ length columns.roots
+  pub documents : length live.docs ≡ columns.documents
   pub docs : live.docs ≡ live_docs (root_flags columns.scopes) live.roots
 
 -- where the block of a root begins: after the document of the root before it

@@ -19,6 +19,8 @@ mod root_docs;
 mod rows;
 mod segment;
 mod term_search;
+#[cfg(test)]
+mod tests;
 
 pub use by_field::ByField;
 pub use columns::Columns;
