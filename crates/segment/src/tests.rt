@@ -367,3 +367,426 @@ fn live_bits(rt: HostRuntime) -> Result<(), Fail> {
     are_dead(&rt, &segment, &live, [true, true, true]);
     Ok(())
 }
+
+/// Two blocks: documents 0 and 1, and 2 alone. Field 0 is a keyword, field 1 a number, field 2 a text.
+const SMALL: Written<'static> = Written {
+    documents: 3,
+    scopes: &[(3, &[(1, 3)]), (3, &[(0, 1)])],
+    roots: &[
+        (b"a", 1, JoinValue::Unjoined),
+        (b"b", 2, JoinValue::Child(0, b"a")),
+    ],
+    sources: &[b"{}", b"{}"],
+    terms: &[(0, b"x"), (0, b"y"), (1, FIVE), (2, b"w")],
+    postings: &[
+        &[(0, &[]), (1, &[])],
+        &[(2, &[])],
+        &[(2, &[])],
+        &[(1, &[0])],
+    ],
+    ordinals: &[(0, &[(0, &[0]), (1, &[0]), (2, &[1])])],
+    numbers: &[(1, &[(2, &[5])])],
+    present: &[(2, 3, &[(1, 2)])],
+};
+
+/// More bytes than an id has.
+const LONG_ID: &[u8] = &[b'a'; 513];
+
+/// Columns whose documents, scopes and roots disagree, each with its fault.
+const UNROOTED: &[(&str, Written<'static>)] = &[
+    (
+        "no document",
+        Written {
+            documents: 0,
+            scopes: &[(0, &[]), (0, &[])],
+            roots: &[],
+            sources: &[],
+            terms: &[],
+            postings: &[],
+            ordinals: &[],
+            numbers: &[],
+            present: &[],
+        },
+    ),
+    (
+        "a document more than the sets have",
+        Written {
+            documents: 4,
+            ..SMALL
+        },
+    ),
+    (
+        "no scope",
+        Written {
+            scopes: &[],
+            ..SMALL
+        },
+    ),
+    (
+        "a set too long",
+        Written {
+            scopes: &[(3, &[(1, 3)]), (4, &[(0, 1)])],
+            ..SMALL
+        },
+    ),
+    (
+        "a document in no scope",
+        Written {
+            scopes: &[(3, &[(1, 3)]), (3, &[])],
+            ..SMALL
+        },
+    ),
+    (
+        "a document in two scopes",
+        Written {
+            scopes: &[(3, &[(1, 3)]), (3, &[(0, 2)])],
+            ..SMALL
+        },
+    ),
+    (
+        "a root too few",
+        Written {
+            roots: &[(b"a", 1, JoinValue::Unjoined)],
+            sources: &[b"{}"],
+            ..SMALL
+        },
+    ),
+    (
+        "a source too few",
+        Written {
+            sources: &[b"{}"],
+            ..SMALL
+        },
+    ),
+    (
+        "a source too many",
+        Written {
+            sources: &[b"{}", b"{}", b"{}"],
+            ..SMALL
+        },
+    ),
+    (
+        "an empty id",
+        Written {
+            roots: &[
+                (b"a", 1, JoinValue::Unjoined),
+                (b"", 2, JoinValue::Unjoined),
+            ],
+            ..SMALL
+        },
+    ),
+    (
+        "an id of 513 bytes",
+        Written {
+            roots: &[
+                (LONG_ID, 1, JoinValue::Unjoined),
+                (b"b", 2, JoinValue::Unjoined),
+            ],
+            ..SMALL
+        },
+    ),
+    (
+        "an empty parent's id",
+        Written {
+            roots: &[
+                (b"a", 1, JoinValue::Unjoined),
+                (b"b", 2, JoinValue::Child(0, b"")),
+            ],
+            ..SMALL
+        },
+    ),
+    (
+        "a parent's id of 513 bytes",
+        Written {
+            roots: &[
+                (b"a", 1, JoinValue::Unjoined),
+                (b"b", 2, JoinValue::Child(0, LONG_ID)),
+            ],
+            ..SMALL
+        },
+    ),
+];
+
+/// Columns of fields that don't ascend, have two kinds, or name documents that aren't there.
+const UNFIELDED: &[(&str, Written<'static>)] = &[
+    (
+        "two columns of one keyword field",
+        Written {
+            ordinals: &[(0, &[(0, &[0]), (1, &[0]), (2, &[1])]), (0, &[(0, &[0])])],
+            ..SMALL
+        },
+    ),
+    (
+        "two columns of one number field",
+        Written {
+            numbers: &[(1, &[(2, &[5])]), (1, &[(2, &[5])])],
+            ..SMALL
+        },
+    ),
+    (
+        "presence columns that fall",
+        Written {
+            present: &[(3, 3, &[(1, 2)]), (2, 3, &[(1, 2)])],
+            ..SMALL
+        },
+    ),
+    (
+        "a field of keywords and of numbers",
+        Written {
+            numbers: &[(0, &[(2, &[5])]), (1, &[(2, &[5])])],
+            ..SMALL
+        },
+    ),
+    (
+        "a field of keywords and of texts",
+        Written {
+            present: &[(0, 3, &[(0, 3)]), (2, 3, &[(1, 2)])],
+            ..SMALL
+        },
+    ),
+    (
+        "a field of numbers and of texts",
+        Written {
+            present: &[(1, 3, &[(0, 3)]), (2, 3, &[(1, 2)])],
+            ..SMALL
+        },
+    ),
+    (
+        "a keyword column without rows",
+        Written {
+            ordinals: &[(0, &[(0, &[0]), (1, &[0]), (2, &[1])]), (3, &[])],
+            ..SMALL
+        },
+    ),
+    (
+        "a number column without rows",
+        Written {
+            numbers: &[(1, &[(2, &[5])]), (3, &[])],
+            ..SMALL
+        },
+    ),
+    (
+        "a presence column without documents",
+        Written {
+            present: &[(2, 3, &[(1, 2)]), (3, 3, &[])],
+            ..SMALL
+        },
+    ),
+    (
+        "a presence column of more documents",
+        Written {
+            present: &[(2, 4, &[(1, 2)])],
+            ..SMALL
+        },
+    ),
+    (
+        "a keyword of a document that isn't there",
+        Written {
+            postings: &[
+                &[(0, &[]), (1, &[])],
+                &[(2, &[]), (3, &[])],
+                &[(2, &[])],
+                &[(1, &[0])],
+            ],
+            ordinals: &[(0, &[(0, &[0]), (1, &[0]), (2, &[1]), (3, &[1])])],
+            ..SMALL
+        },
+    ),
+    (
+        "a number of a document that isn't there",
+        Written {
+            postings: &[
+                &[(0, &[]), (1, &[])],
+                &[(2, &[])],
+                &[(2, &[]), (3, &[])],
+                &[(1, &[0])],
+            ],
+            numbers: &[(1, &[(2, &[5]), (3, &[5])])],
+            ..SMALL
+        },
+    ),
+];
+
+/// Columns whose terms differ from the columns of their fields.
+const UNTERMED: &[(&str, Written<'static>)] = &[
+    (
+        "a list of postings too few",
+        Written {
+            postings: &[&[(0, &[]), (1, &[])], &[(2, &[])], &[(2, &[])]],
+            ..SMALL
+        },
+    ),
+    (
+        "a list of postings too many",
+        Written {
+            postings: &[
+                &[(0, &[]), (1, &[])],
+                &[(2, &[])],
+                &[(2, &[])],
+                &[(1, &[0])],
+                &[(1, &[0])],
+            ],
+            ..SMALL
+        },
+    ),
+    (
+        "a word without documents",
+        Written {
+            postings: &[&[(0, &[]), (1, &[])], &[(2, &[])], &[(2, &[])], &[]],
+            ..SMALL
+        },
+    ),
+    (
+        "a term of a field without a column",
+        Written {
+            present: &[],
+            ..SMALL
+        },
+    ),
+    (
+        "a keyword with a position",
+        Written {
+            postings: &[
+                &[(0, &[]), (1, &[])],
+                &[(2, &[0])],
+                &[(2, &[])],
+                &[(1, &[0])],
+            ],
+            ..SMALL
+        },
+    ),
+    (
+        "a number with a position",
+        Written {
+            postings: &[
+                &[(0, &[]), (1, &[])],
+                &[(2, &[])],
+                &[(2, &[0])],
+                &[(1, &[0])],
+            ],
+            ..SMALL
+        },
+    ),
+    (
+        "a word without positions",
+        Written {
+            postings: &[&[(0, &[]), (1, &[])], &[(2, &[])], &[(2, &[])], &[(1, &[])]],
+            ..SMALL
+        },
+    ),
+    (
+        "a word of a document without a text",
+        Written {
+            postings: &[
+                &[(0, &[]), (1, &[])],
+                &[(2, &[])],
+                &[(2, &[])],
+                &[(1, &[0]), (2, &[0])],
+            ],
+            ..SMALL
+        },
+    ),
+    (
+        "a keyword of a document whose row hasn't it",
+        Written {
+            postings: &[
+                &[(0, &[]), (1, &[])],
+                &[(1, &[]), (2, &[])],
+                &[(2, &[])],
+                &[(1, &[0])],
+            ],
+            ..SMALL
+        },
+    ),
+    (
+        "a row with a keyword that hasn't the document",
+        Written {
+            ordinals: &[(0, &[(0, &[0, 1]), (1, &[0]), (2, &[1])])],
+            ..SMALL
+        },
+    ),
+    (
+        "an ordinal of another field",
+        Written {
+            ordinals: &[(0, &[(0, &[0]), (1, &[0]), (2, &[1, 2])])],
+            ..SMALL
+        },
+    ),
+    (
+        "an ordinal past the last term",
+        Written {
+            ordinals: &[(0, &[(0, &[0]), (1, &[0]), (2, &[1, 4])])],
+            ..SMALL
+        },
+    ),
+    (
+        "a number of a document whose row hasn't it",
+        Written {
+            postings: &[
+                &[(0, &[]), (1, &[])],
+                &[(2, &[])],
+                &[(1, &[]), (2, &[])],
+                &[(1, &[0])],
+            ],
+            ..SMALL
+        },
+    ),
+    (
+        "a row with a number that hasn't the document",
+        Written {
+            numbers: &[(1, &[(1, &[5]), (2, &[5])])],
+            ..SMALL
+        },
+    ),
+    (
+        "a number that is no term",
+        Written {
+            numbers: &[(1, &[(2, &[5, 6])])],
+            ..SMALL
+        },
+    ),
+    (
+        "a number's key of 7 bytes",
+        Written {
+            terms: &[(0, b"x"), (0, b"y"), (1, b"\x80\0\0\0\0\0\x05"), (2, b"w")],
+            ..SMALL
+        },
+    ),
+];
+
+/// Makes a segment of each of these columns, and wants it refused.
+fn are_refused(rt: &impl Abort, alloc: Global, rows: &[(&str, Written)]) -> Result<(), Fail> {
+    for (fault, written) in rows {
+        let columns = columns_of(rt, alloc, written)?;
+        let refusal = Segment::of_columns(alloc, columns).err();
+        assert_eq!(rt; refusal, Some(SegmentRefusal::NotASegment), "{fault}");
+    }
+    Ok(())
+}
+
+#[test]
+fn columns_that_disagree(rt: HostRuntime) -> Result<(), Fail> {
+    segment_of(&rt, rt.alloc(), &SMALL)?;
+    are_refused(&rt, rt.alloc(), UNROOTED)?;
+    are_refused(&rt, rt.alloc(), UNFIELDED)?;
+    are_refused(&rt, rt.alloc(), UNTERMED)?;
+    Ok(())
+}
+
+/// Whether columns with a word of so many bytes, `w`s, make a segment.
+fn takes_word_of(rt: &impl Abort, alloc: Global, len: usize) -> Result<bool, Fail> {
+    let word = vec![in alloc; b'w'; len]?;
+    let written = Written {
+        terms: &[(0, b"x"), (0, b"y"), (1, FIVE), (2, word.as_slice())],
+        ..SMALL
+    };
+    let columns = columns_of(rt, alloc, &written)?;
+    Ok(Segment::of_columns(alloc, columns).is_ok())
+}
+
+#[test]
+fn bytes_of_a_term(rt: HostRuntime) -> Result<(), Fail> {
+    assert!(rt; takes_word_of(&rt, rt.alloc(), 32_766)?);
+    assert!(rt; !takes_word_of(&rt, rt.alloc(), 32_767)?);
+    Ok(())
+}
