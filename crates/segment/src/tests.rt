@@ -240,11 +240,7 @@ fn segment_of(rt: &impl Abort, alloc: Global, written: &Written) -> Result<Segme
     Ok(Segment::of_columns(alloc, columns)?)
 }
 
-#[test]
-fn readers_of_columns(rt: HostRuntime) -> Result<(), Fail> {
-    let segment = segment_of(&rt, rt.alloc(), &BLOCKS)?;
-    assert_eq!(rt; (segment.docs(), segment.roots()), (67, 3));
-    assert_eq!(rt; segment.scopes().as_slice().len(), 3);
+fn read_terms(rt: &impl Abort, segment: &Segment) {
     let terms: [(u32, &[u8], Option<u64>); 6] = [
         (0, b"ab", Some(1)),
         (0, b"abc", None),
@@ -254,13 +250,12 @@ fn readers_of_columns(rt: HostRuntime) -> Result<(), Fail> {
         (3, b"a", None),
     ];
     for (field, bytes, ordinal) in terms {
-        assert_eq!(rt;
-            segment.terms().find(field, bytes),
-            ordinal,
-            "in field {field}"
-        );
+        assert!(rt; segment.terms().find(field, bytes) == ordinal);
     }
-    assert_eq!(rt; segment.terms().prefix(2, b"oak"), (4, 6));
+    assert!(rt; segment.terms().prefix(2, b"oak") == (4, 6));
+}
+
+fn read_postings(rt: &impl Abort, segment: &Segment) {
     let postings: [(u64, u32, Option<u32>); 6] = [
         (0, 0, Some(0)),
         (0, 1, Some(63)),
@@ -271,24 +266,17 @@ fn readers_of_columns(rt: HostRuntime) -> Result<(), Fail> {
     ];
     for (ordinal, to, doc) in postings {
         assert!(rt; ordinal < segment.postings().count());
-        assert_eq!(rt;
-            segment.postings().cursor(ordinal).advance(to),
-            doc,
-            "from {to} on"
-        );
+        assert!(rt; segment.postings().cursor(ordinal).advance(to) == doc);
     }
-    Ok(())
 }
 
-#[test]
-fn readers_of_fields(rt: HostRuntime) -> Result<(), Fail> {
-    let segment = segment_of(&rt, rt.alloc(), &BLOCKS)?;
+fn read_columns(rt: &impl Abort, segment: &Segment) {
     assert!(rt; segment.ordinals(1).is_none() && segment.ordinals(2).is_none());
     assert!(rt; segment.numbers(0).is_none() && segment.numbers(2).is_none());
     assert!(rt; segment.present(0).is_none() && segment.present(3).is_none());
-    let keywords = segment.ordinals(0).expect(&rt, "field 0 has keywords");
-    let numbers = segment.numbers(1).expect(&rt, "field 1 has numbers");
-    let present = segment.present(2).expect(&rt, "field 2 has texts");
+    let keywords = segment.ordinals(0).expect(rt, "field 0 has keywords");
+    let numbers = segment.numbers(1).expect(rt, "field 1 has numbers");
+    let present = segment.present(2).expect(rt, "field 2 has texts");
     // document, keywords, numbers, whether there is a text
     let rows: [(u32, u32, u32, bool); 7] = [
         (0, 1, 0, false),
@@ -301,19 +289,15 @@ fn readers_of_fields(rt: HostRuntime) -> Result<(), Fail> {
     ];
     for (doc, keyword_count, number_count, text) in rows {
         assert!(rt; doc < present.len());
-        assert_eq!(rt; keywords.count(doc), keyword_count, "keywords of {doc}");
-        assert_eq!(rt; numbers.count(doc), number_count, "numbers of {doc}");
-        assert_eq!(rt; present.has(doc), text, "text of {doc}");
+        assert!(rt; keywords.count(doc) == keyword_count);
+        assert!(rt; numbers.count(doc) == number_count);
+        assert!(rt; present.has(doc) == text);
     }
     assert!(rt; 1 < keywords.count(63) && 0 < numbers.count(64));
-    assert_eq!(rt; (keywords.value(63, 1), numbers.value(64, 0)), (1, -1));
-    Ok(())
+    assert!(rt; keywords.value(63, 1) == 1 && numbers.value(64, 0) == -1);
 }
 
-#[test]
-fn readers_of_roots(rt: HostRuntime) -> Result<(), Fail> {
-    let segment = segment_of(&rt, rt.alloc(), &BLOCKS)?;
-    assert_eq!(rt; segment.sources().count(), 3);
+fn read_roots(rt: &impl Abort, segment: &Segment) {
     let rows: [(u32, u32, &[u8], u64, JoinValue); 3] = [
         (0, 63, b"x", 7, JoinValue::Unjoined),
         (1, 65, b"yy", 9, JoinValue::Named(1)),
@@ -321,50 +305,61 @@ fn readers_of_roots(rt: HostRuntime) -> Result<(), Fail> {
     ];
     for (root, doc, id, number, join) in rows {
         assert!(rt; root < segment.roots());
-        assert_eq!(rt; segment.root_doc(root), doc, "root {root}");
-        assert!(rt; segment.root_id(root) == id, "root {root}");
-        assert_eq!(rt; segment.root_number(root), number, "root {root}");
-        assert!(rt; segment.root_join(root) == join, "root {root}");
+        assert!(rt; segment.root_doc(root) == doc);
+        assert!(rt; segment.root_id(root) == id);
+        assert!(rt; segment.root_number(root) == number);
+        assert!(rt; segment.root_join(root) == join);
     }
-    let single = segment_of(&rt, rt.alloc(), &SINGLE)?;
-    assert_eq!(rt; (single.docs(), single.roots()), (1, 1));
-    assert!(rt; 0 < single.roots());
-    assert_eq!(rt; single.root_doc(0), 0);
-    assert!(rt; single.root_id(0) == b"1".as_slice());
-    Ok(())
 }
 
-/// Whether exactly these roots and the documents of their blocks are dead.
+/// Wants exactly these roots, and the documents of their blocks, to be dead.
 fn are_dead(rt: &impl Abort, segment: &Segment, live: &LiveBits, dead: [bool; 3])
     requires { IsLiveOver segment.now live.now }
 {
-    assert!(rt; segment.roots() == 3 && segment.docs() == 67);
-    assert!(rt; live.root(0) == !dead[0] && live.root(1) == !dead[1] && live.root(2) == !dead[2]);
-    let blocks: [(u32, usize); 7] = [(0, 0), (1, 0), (62, 0), (63, 0), (64, 1), (65, 1), (66, 2)];
+    let blocks: [(u32, u32); 7] = [(0, 0), (1, 0), (62, 0), (63, 0), (64, 1), (65, 1), (66, 2)];
     for (doc, root) in blocks {
-        assert!(rt; doc < segment.docs() && root < 3);
-        assert_eq!(rt; live.doc(doc), !dead[root], "document {doc}");
+        assert!(rt; doc < segment.docs() && root < segment.roots() && root < 3);
+        assert!(rt; live.root(root) != dead[root as usize]);
+        assert!(rt; live.doc(doc) != dead[root as usize]);
     }
 }
 
-#[test]
-fn live_bits(rt: HostRuntime) -> Result<(), Fail> {
-    let segment = segment_of(&rt, rt.alloc(), &BLOCKS)?;
-    let all = LiveBits::over(rt.alloc(), &segment, &[])?;
-    are_dead(&rt, &segment, &all, [false, false, false]);
+fn kill_each(rt: &impl Abort, alloc: Global, segment: &Segment) -> Result<(), Fail> {
+    let all = LiveBits::over(alloc, segment, &[])?;
     for root in 0..3 {
-        let mut live = all.copy(rt.alloc())?;
+        let mut live = all.copy(alloc)?;
         assert!(rt; root < segment.roots() && live.root(root));
-        live.kill(&segment, root);
-        are_dead(&rt, &segment, &live, [root == 0, root == 1, root == 2]);
+        live.kill(segment, root);
+        are_dead(rt, segment, &live, [root == 0, root == 1, root == 2]);
     }
-    are_dead(&rt, &segment, &all, [false, false, false]);
+    are_dead(rt, segment, &all, [false, false, false]);
+    Ok(())
+}
+
+fn kill_the_rest(rt: &impl Abort, alloc: Global, segment: &Segment) -> Result<(), Fail> {
     assert!(rt; segment.roots() == 3);
-    let mut live = LiveBits::over(rt.alloc(), &segment, &[0, 2])?;
-    are_dead(&rt, &segment, &live, [true, false, true]);
+    let mut live = LiveBits::over(alloc, segment, &[0, 2])?;
+    are_dead(rt, segment, &live, [true, false, true]);
     assert!(rt; live.root(1));
-    live.kill(&segment, 1);
-    are_dead(&rt, &segment, &live, [true, true, true]);
+    live.kill(segment, 1);
+    are_dead(rt, segment, &live, [true, true, true]);
+    Ok(())
+}
+
+#[test]
+fn look_ups(rt: HostRuntime) -> Result<(), Fail> {
+    let segment = segment_of(&rt, rt.alloc(), &BLOCKS)?;
+    assert!(rt; segment.docs() == 67 && segment.roots() == 3);
+    assert!(rt; segment.scopes().as_slice().len() == 3 && segment.sources().count() == 3);
+    read_terms(&rt, &segment);
+    read_postings(&rt, &segment);
+    read_columns(&rt, &segment);
+    read_roots(&rt, &segment);
+    kill_each(&rt, rt.alloc(), &segment)?;
+    kill_the_rest(&rt, rt.alloc(), &segment)?;
+    let single = segment_of(&rt, rt.alloc(), &SINGLE)?;
+    assert!(rt; single.docs() == 1 && single.roots() == 1);
+    assert!(rt; single.root_doc(0) == 0);
     Ok(())
 }
 
@@ -389,16 +384,44 @@ const SMALL: Written<'static> = Written {
     present: &[(2, 3, &[(1, 2)])],
 };
 
-/// More bytes than an id has.
-const LONG_ID: &[u8] = &[b'a'; 513];
+fn small(rt: &impl Abort, alloc: Global) -> Result<Columns, Fail> {
+    columns_of(rt, alloc, &SMALL)
+}
 
-/// Columns whose documents, scopes and roots disagree, each with its fault.
-const UNROOTED: &[(&str, Written<'static>)] = &[
-    (
-        "no document",
-        Written {
+/// Wants columns to be refused for their fault.
+fn refuses(rt: &impl Abort, alloc: Global, columns: Columns, fault: &str) {
+    let refused = match Segment::of_columns(alloc, columns) {
+        Ok(_) => false,
+        Err(refusal) => refusal == SegmentRefusal::NotASegment,
+    };
+    assert!(rt; refused, "{fault}");
+}
+
+fn refuses_scopes(rt: &impl Abort, alloc: Global) -> Result<(), Fail> {
+    let faults: [(&str, u32, &[(u32, &[Range])]); 6] = [
+        ("no document", 0, &[(0, &[]), (0, &[])]),
+        ("a document more", 4, &[(3, &[(1, 3)]), (3, &[(0, 1)])]),
+        ("no scope", 3, &[]),
+        ("a set too long", 3, &[(3, &[(1, 3)]), (4, &[(0, 1)])]),
+        ("a document in no scope", 3, &[(3, &[(1, 3)]), (3, &[])]),
+        ("one in two scopes", 3, &[(3, &[(1, 3)]), (3, &[(0, 2)])]),
+    ];
+    for (fault, documents, scopes) in faults {
+        let mut columns = small(rt, alloc)?;
+        columns.documents = documents;
+        columns.scopes = scopes_of(rt, alloc, scopes)?;
+        refuses(rt, alloc, columns, fault);
+    }
+    Ok(())
+}
+
+fn refuses_no_document(rt: &impl Abort, alloc: Global) -> Result<(), Fail> {
+    let columns = columns_of(
+        rt,
+        alloc,
+        &Written {
             documents: 0,
-            scopes: &[(0, &[]), (0, &[])],
+            scopes: &[(0, &[])],
             roots: &[],
             sources: &[],
             terms: &[],
@@ -407,386 +430,192 @@ const UNROOTED: &[(&str, Written<'static>)] = &[
             numbers: &[],
             present: &[],
         },
-    ),
-    (
-        "a document more than the sets have",
-        Written {
-            documents: 4,
-            ..SMALL
-        },
-    ),
-    (
-        "no scope",
-        Written {
-            scopes: &[],
-            ..SMALL
-        },
-    ),
-    (
-        "a set too long",
-        Written {
-            scopes: &[(3, &[(1, 3)]), (4, &[(0, 1)])],
-            ..SMALL
-        },
-    ),
-    (
-        "a document in no scope",
-        Written {
-            scopes: &[(3, &[(1, 3)]), (3, &[])],
-            ..SMALL
-        },
-    ),
-    (
-        "a document in two scopes",
-        Written {
-            scopes: &[(3, &[(1, 3)]), (3, &[(0, 2)])],
-            ..SMALL
-        },
-    ),
-    (
-        "a root too few",
-        Written {
-            roots: &[(b"a", 1, JoinValue::Unjoined)],
-            sources: &[b"{}"],
-            ..SMALL
-        },
-    ),
-    (
-        "a source too few",
-        Written {
-            sources: &[b"{}"],
-            ..SMALL
-        },
-    ),
-    (
-        "a source too many",
-        Written {
-            sources: &[b"{}", b"{}", b"{}"],
-            ..SMALL
-        },
-    ),
-    (
-        "an empty id",
-        Written {
-            roots: &[
-                (b"a", 1, JoinValue::Unjoined),
-                (b"", 2, JoinValue::Unjoined),
-            ],
-            ..SMALL
-        },
-    ),
-    (
-        "an id of 513 bytes",
-        Written {
-            roots: &[
-                (LONG_ID, 1, JoinValue::Unjoined),
-                (b"b", 2, JoinValue::Unjoined),
-            ],
-            ..SMALL
-        },
-    ),
-    (
-        "an empty parent's id",
-        Written {
-            roots: &[
-                (b"a", 1, JoinValue::Unjoined),
-                (b"b", 2, JoinValue::Child(0, b"")),
-            ],
-            ..SMALL
-        },
-    ),
-    (
-        "a parent's id of 513 bytes",
-        Written {
-            roots: &[
-                (b"a", 1, JoinValue::Unjoined),
-                (b"b", 2, JoinValue::Child(0, LONG_ID)),
-            ],
-            ..SMALL
-        },
-    ),
-];
+    )?;
+    refuses(rt, alloc, columns, "nothing at all");
+    Ok(())
+}
 
-/// Columns of fields that don't ascend, have two kinds, or name documents that aren't there.
-const UNFIELDED: &[(&str, Written<'static>)] = &[
-    (
-        "two columns of one keyword field",
-        Written {
-            ordinals: &[(0, &[(0, &[0]), (1, &[0]), (2, &[1])]), (0, &[(0, &[0])])],
-            ..SMALL
-        },
-    ),
-    (
-        "two columns of one number field",
-        Written {
-            numbers: &[(1, &[(2, &[5])]), (1, &[(2, &[5])])],
-            ..SMALL
-        },
-    ),
-    (
-        "presence columns that fall",
-        Written {
-            present: &[(3, 3, &[(1, 2)]), (2, 3, &[(1, 2)])],
-            ..SMALL
-        },
-    ),
-    (
-        "a field of keywords and of numbers",
-        Written {
-            numbers: &[(0, &[(2, &[5])]), (1, &[(2, &[5])])],
-            ..SMALL
-        },
-    ),
-    (
-        "a field of keywords and of texts",
-        Written {
-            present: &[(0, 3, &[(0, 3)]), (2, 3, &[(1, 2)])],
-            ..SMALL
-        },
-    ),
-    (
-        "a field of numbers and of texts",
-        Written {
-            present: &[(1, 3, &[(0, 3)]), (2, 3, &[(1, 2)])],
-            ..SMALL
-        },
-    ),
-    (
-        "a keyword column without rows",
-        Written {
-            ordinals: &[(0, &[(0, &[0]), (1, &[0]), (2, &[1])]), (3, &[])],
-            ..SMALL
-        },
-    ),
-    (
-        "a number column without rows",
-        Written {
-            numbers: &[(1, &[(2, &[5])]), (3, &[])],
-            ..SMALL
-        },
-    ),
-    (
-        "a presence column without documents",
-        Written {
-            present: &[(2, 3, &[(1, 2)]), (3, 3, &[])],
-            ..SMALL
-        },
-    ),
-    (
-        "a presence column of more documents",
-        Written {
-            present: &[(2, 4, &[(1, 2)])],
-            ..SMALL
-        },
-    ),
-    (
-        "a keyword of a document that isn't there",
-        Written {
-            postings: &[
-                &[(0, &[]), (1, &[])],
-                &[(2, &[]), (3, &[])],
-                &[(2, &[])],
-                &[(1, &[0])],
-            ],
-            ordinals: &[(0, &[(0, &[0]), (1, &[0]), (2, &[1]), (3, &[1])])],
-            ..SMALL
-        },
-    ),
-    (
-        "a number of a document that isn't there",
-        Written {
-            postings: &[
-                &[(0, &[]), (1, &[])],
-                &[(2, &[])],
-                &[(2, &[]), (3, &[])],
-                &[(1, &[0])],
-            ],
-            numbers: &[(1, &[(2, &[5]), (3, &[5])])],
-            ..SMALL
-        },
-    ),
-];
-
-/// Columns whose terms differ from the columns of their fields.
-const UNTERMED: &[(&str, Written<'static>)] = &[
-    (
-        "a list of postings too few",
-        Written {
-            postings: &[&[(0, &[]), (1, &[])], &[(2, &[])], &[(2, &[])]],
-            ..SMALL
-        },
-    ),
-    (
-        "a list of postings too many",
-        Written {
-            postings: &[
-                &[(0, &[]), (1, &[])],
-                &[(2, &[])],
-                &[(2, &[])],
-                &[(1, &[0])],
-                &[(1, &[0])],
-            ],
-            ..SMALL
-        },
-    ),
-    (
-        "a word without documents",
-        Written {
-            postings: &[&[(0, &[]), (1, &[])], &[(2, &[])], &[(2, &[])], &[]],
-            ..SMALL
-        },
-    ),
-    (
-        "a term of a field without a column",
-        Written {
-            present: &[],
-            ..SMALL
-        },
-    ),
-    (
-        "a keyword with a position",
-        Written {
-            postings: &[
-                &[(0, &[]), (1, &[])],
-                &[(2, &[0])],
-                &[(2, &[])],
-                &[(1, &[0])],
-            ],
-            ..SMALL
-        },
-    ),
-    (
-        "a number with a position",
-        Written {
-            postings: &[
-                &[(0, &[]), (1, &[])],
-                &[(2, &[])],
-                &[(2, &[0])],
-                &[(1, &[0])],
-            ],
-            ..SMALL
-        },
-    ),
-    (
-        "a word without positions",
-        Written {
-            postings: &[&[(0, &[]), (1, &[])], &[(2, &[])], &[(2, &[])], &[(1, &[])]],
-            ..SMALL
-        },
-    ),
-    (
-        "a word of a document without a text",
-        Written {
-            postings: &[
-                &[(0, &[]), (1, &[])],
-                &[(2, &[])],
-                &[(2, &[])],
-                &[(1, &[0]), (2, &[0])],
-            ],
-            ..SMALL
-        },
-    ),
-    (
-        "a keyword of a document whose row hasn't it",
-        Written {
-            postings: &[
-                &[(0, &[]), (1, &[])],
-                &[(1, &[]), (2, &[])],
-                &[(2, &[])],
-                &[(1, &[0])],
-            ],
-            ..SMALL
-        },
-    ),
-    (
-        "a row with a keyword that hasn't the document",
-        Written {
-            ordinals: &[(0, &[(0, &[0, 1]), (1, &[0]), (2, &[1])])],
-            ..SMALL
-        },
-    ),
-    (
-        "an ordinal of another field",
-        Written {
-            ordinals: &[(0, &[(0, &[0]), (1, &[0]), (2, &[1, 2])])],
-            ..SMALL
-        },
-    ),
-    (
-        "an ordinal past the last term",
-        Written {
-            ordinals: &[(0, &[(0, &[0]), (1, &[0]), (2, &[1, 4])])],
-            ..SMALL
-        },
-    ),
-    (
-        "a number of a document whose row hasn't it",
-        Written {
-            postings: &[
-                &[(0, &[]), (1, &[])],
-                &[(2, &[])],
-                &[(1, &[]), (2, &[])],
-                &[(1, &[0])],
-            ],
-            ..SMALL
-        },
-    ),
-    (
-        "a row with a number that hasn't the document",
-        Written {
-            numbers: &[(1, &[(1, &[5]), (2, &[5])])],
-            ..SMALL
-        },
-    ),
-    (
-        "a number that is no term",
-        Written {
-            numbers: &[(1, &[(2, &[5, 6])])],
-            ..SMALL
-        },
-    ),
-    (
-        "a number's key of 7 bytes",
-        Written {
-            terms: &[(0, b"x"), (0, b"y"), (1, b"\x80\0\0\0\0\0\x05"), (2, b"w")],
-            ..SMALL
-        },
-    ),
-];
-
-/// Makes a segment of each of these columns, and wants it refused.
-fn are_refused(rt: &impl Abort, alloc: Global, rows: &[(&str, Written)]) -> Result<(), Fail> {
-    for (fault, written) in rows {
-        let columns = columns_of(rt, alloc, written)?;
-        let refusal = Segment::of_columns(alloc, columns).err();
-        assert_eq!(rt; refusal, Some(SegmentRefusal::NotASegment), "{fault}");
+fn refuses_roots(rt: &impl Abort, alloc: Global) -> Result<(), Fail> {
+    let long: &[u8] = &[b'a'; 513];
+    let faults: [(&str, &[u8], JoinValue); 4] = [
+        ("an empty id", b"", JoinValue::Unjoined),
+        ("an id of 513 bytes", long, JoinValue::Unjoined),
+        ("an empty parent's id", b"b", JoinValue::Child(0, b"")),
+        ("a parent's of 513", b"b", JoinValue::Child(0, long)),
+    ];
+    for (fault, id, join) in faults {
+        let mut columns = small(rt, alloc)?;
+        columns.roots = roots_of(alloc, &[(b"a", 1, JoinValue::Unjoined), (id, 2, join)])?;
+        refuses(rt, alloc, columns, fault);
     }
+    let mut columns = small(rt, alloc)?;
+    columns.roots = roots_of(alloc, &[(b"a", 1, JoinValue::Unjoined)])?;
+    columns.sources = sources_of(rt, alloc, &[b"{}"])?;
+    refuses(rt, alloc, columns, "a root too few");
+    let mut columns = small(rt, alloc)?;
+    columns.sources = sources_of(rt, alloc, &[b"{}"])?;
+    refuses(rt, alloc, columns, "a source too few");
+    Ok(())
+}
+
+fn refuses_keywords(rt: &impl Abort, alloc: Global) -> Result<(), Fail> {
+    let rows: &[Row<u64>] = &[(0, &[0]), (1, &[0]), (2, &[1])];
+    let faults: [(&str, &[(u32, &[Row<u64>])]); 9] = [
+        ("two columns of a field", &[(0, rows), (0, rows)]),
+        ("a field of two kinds", &[(0, rows), (1, &[(2, &[2])])]),
+        ("a word's field", &[(0, rows), (2, &[(1, &[3])])]),
+        ("a column without rows", &[(0, rows), (3, &[])]),
+        ("no column of the field", &[]),
+        (
+            "another document",
+            &[(0, &[(0, &[0, 1]), (1, &[0]), (2, &[1])])],
+        ),
+        ("a document too few", &[(0, &[(0, &[0]), (2, &[1])])]),
+        (
+            "another field's term",
+            &[(0, &[(0, &[0]), (1, &[0]), (2, &[1, 2])])],
+        ),
+        (
+            "past the last term",
+            &[(0, &[(0, &[0]), (1, &[0]), (2, &[1, 4])])],
+        ),
+    ];
+    for (fault, ordinals) in faults {
+        let mut columns = small(rt, alloc)?;
+        columns.ordinals = rows_of(rt, alloc, ordinals)?;
+        refuses(rt, alloc, columns, fault);
+    }
+    Ok(())
+}
+
+fn refuses_numbers(rt: &impl Abort, alloc: Global) -> Result<(), Fail> {
+    let rows: &[Row<i64>] = &[(2, &[5])];
+    let faults: [(&str, &[(u32, &[Row<i64>])]); 7] = [
+        ("two columns of a field", &[(1, rows), (1, rows)]),
+        ("a field of two kinds", &[(0, rows), (1, rows)]),
+        ("a column without rows", &[(1, rows), (3, &[])]),
+        ("no column of the field", &[]),
+        ("another document", &[(1, &[(1, &[5]), (2, &[5])])]),
+        ("no term", &[(1, &[(2, &[5, 6])])]),
+        ("another number", &[(1, &[(2, &[4])])]),
+    ];
+    for (fault, numbers) in faults {
+        let mut columns = small(rt, alloc)?;
+        columns.numbers = rows_of(rt, alloc, numbers)?;
+        refuses(rt, alloc, columns, fault);
+    }
+    Ok(())
+}
+
+fn refuses_presence(rt: &impl Abort, alloc: Global) -> Result<(), Fail> {
+    let faults: [(&str, &[(u32, u32, &[Range])]); 6] = [
+        ("fields that fall", &[(3, 3, &[(1, 2)]), (2, 3, &[(1, 2)])]),
+        ("a keyword field", &[(0, 3, &[(0, 3)]), (2, 3, &[(1, 2)])]),
+        ("a number field", &[(1, 3, &[(0, 3)]), (2, 3, &[(1, 2)])]),
+        (
+            "a column without documents",
+            &[(2, 3, &[(1, 2)]), (3, 3, &[])],
+        ),
+        ("a column of more documents", &[(2, 4, &[(1, 2)])]),
+        ("a word's document left out", &[(2, 3, &[(0, 1)])]),
+    ];
+    for (fault, present) in faults {
+        let mut columns = small(rt, alloc)?;
+        columns.present = present_of(rt, alloc, present)?;
+        refuses(rt, alloc, columns, fault);
+    }
+    Ok(())
+}
+
+fn refuses_postings(rt: &impl Abort, alloc: Global) -> Result<(), Fail> {
+    let xs: &[Row<u32>] = &[(0, &[]), (1, &[])];
+    let plain: &[Row<u32>] = &[(2, &[])];
+    let word: &[Row<u32>] = &[(1, &[0])];
+    let faults: [(&str, &[&[Row<u32>]]); 9] = [
+        ("a list too few", &[xs, plain, plain]),
+        ("a list too many", &[xs, plain, plain, word, word]),
+        ("a word without documents", &[xs, plain, plain, &[]]),
+        ("a word without positions", &[xs, plain, plain, &[(1, &[])]]),
+        (
+            "a word where no text is",
+            &[xs, plain, plain, &[(1, &[0]), (2, &[0])]],
+        ),
+        (
+            "a keyword with a position",
+            &[xs, &[(2, &[0])], plain, word],
+        ),
+        ("a number with a position", &[xs, plain, &[(2, &[0])], word]),
+        (
+            "a keyword's other document",
+            &[xs, &[(1, &[]), (2, &[])], plain, word],
+        ),
+        (
+            "a number's other document",
+            &[xs, plain, &[(1, &[]), (2, &[])], word],
+        ),
+    ];
+    for (fault, postings) in faults {
+        let mut columns = small(rt, alloc)?;
+        columns.postings = postings_of(rt, alloc, postings)?;
+        refuses(rt, alloc, columns, fault);
+    }
+    Ok(())
+}
+
+/// A keyword and a number of document 3, where there are documents 0 to 2.
+fn refuses_documents(rt: &impl Abort, alloc: Global) -> Result<(), Fail> {
+    let xs: &[Row<u32>] = &[(0, &[]), (1, &[])];
+    let plain: &[Row<u32>] = &[(2, &[])];
+    let more: &[Row<u32>] = &[(2, &[]), (3, &[])];
+    let word: &[Row<u32>] = &[(1, &[0])];
+    let mut columns = small(rt, alloc)?;
+    columns.postings = postings_of(rt, alloc, &[xs, more, plain, word])?;
+    columns.ordinals = rows_of(
+        rt,
+        alloc,
+        &[(0, &[(0, &[0]), (1, &[0]), (2, &[1]), (3, &[1])])],
+    )?;
+    refuses(rt, alloc, columns, "a keyword of no document");
+    let mut columns = small(rt, alloc)?;
+    columns.postings = postings_of(rt, alloc, &[xs, plain, more, word])?;
+    columns.numbers = rows_of(rt, alloc, &[(1, &[(2, &[5]), (3, &[5])])])?;
+    refuses(rt, alloc, columns, "a number of no document");
+    Ok(())
+}
+
+/// Columns whose word, of field 2, has so many bytes.
+fn with_word(rt: &impl Abort, alloc: Global, len: usize) -> Result<Columns, Fail> {
+    let word = vec![in alloc; b'w'; len]?;
+    let terms: [(u32, &[u8]); 4] = [(0, b"x"), (0, b"y"), (1, FIVE), (2, word.as_slice())];
+    let mut columns = small(rt, alloc)?;
+    columns.terms = terms_of(rt, alloc, &terms)?;
+    Ok(columns)
+}
+
+fn refuses_terms(rt: &impl Abort, alloc: Global) -> Result<(), Fail> {
+    let longest = with_word(rt, alloc, 32_766)?;
+    assert!(rt; Segment::of_columns(alloc, longest).is_ok());
+    let longer = with_word(rt, alloc, 32_767)?;
+    refuses(rt, alloc, longer, "a term too long");
+    let mut columns = small(rt, alloc)?;
+    let key: &[u8] = b"\x80\0\0\0\0\0\x05";
+    columns.terms = terms_of(rt, alloc, &[(0, b"x"), (0, b"y"), (1, key), (2, b"w")])?;
+    refuses(rt, alloc, columns, "a key of 7 bytes");
     Ok(())
 }
 
 #[test]
 fn columns_that_disagree(rt: HostRuntime) -> Result<(), Fail> {
-    segment_of(&rt, rt.alloc(), &SMALL)?;
-    are_refused(&rt, rt.alloc(), UNROOTED)?;
-    are_refused(&rt, rt.alloc(), UNFIELDED)?;
-    are_refused(&rt, rt.alloc(), UNTERMED)?;
-    Ok(())
-}
-
-/// Whether columns with a word of so many bytes, `w`s, make a segment.
-fn takes_word_of(rt: &impl Abort, alloc: Global, len: usize) -> Result<bool, Fail> {
-    let word = vec![in alloc; b'w'; len]?;
-    let written = Written {
-        terms: &[(0, b"x"), (0, b"y"), (1, FIVE), (2, word.as_slice())],
-        ..SMALL
-    };
-    let columns = columns_of(rt, alloc, &written)?;
-    Ok(Segment::of_columns(alloc, columns).is_ok())
-}
-
-#[test]
-fn bytes_of_a_term(rt: HostRuntime) -> Result<(), Fail> {
-    assert!(rt; takes_word_of(&rt, rt.alloc(), 32_766)?);
-    assert!(rt; !takes_word_of(&rt, rt.alloc(), 32_767)?);
+    let columns = small(&rt, rt.alloc())?;
+    assert!(rt; Segment::of_columns(rt.alloc(), columns).is_ok());
+    refuses_scopes(&rt, rt.alloc())?;
+    refuses_no_document(&rt, rt.alloc())?;
+    refuses_roots(&rt, rt.alloc())?;
+    refuses_keywords(&rt, rt.alloc())?;
+    refuses_numbers(&rt, rt.alloc())?;
+    refuses_presence(&rt, rt.alloc())?;
+    refuses_postings(&rt, rt.alloc())?;
+    refuses_documents(&rt, rt.alloc())?;
+    refuses_terms(&rt, rt.alloc())?;
     Ok(())
 }
