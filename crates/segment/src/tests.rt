@@ -459,12 +459,26 @@ fn refuses_roots(rt: &impl Abort, alloc: Global) -> Result<(), Fail> {
 }
 
 fn refuses_keywords(rt: &impl Abort, alloc: Global) -> Result<(), Fail> {
-    let rows: &[Row<u64>] = &[(0, &[0]), (1, &[0]), (2, &[1])];
     let faults: [(&str, &[(u32, &[Row<u64>])]); 9] = [
-        ("two columns of a field", &[(0, rows), (0, rows)]),
-        ("a field of two kinds", &[(0, rows), (1, &[(2, &[2])])]),
-        ("a word's field", &[(0, rows), (2, &[(1, &[3])])]),
-        ("a column without rows", &[(0, rows), (3, &[])]),
+        (
+            "two columns of a field",
+            &[
+                (0, &[(0, &[0]), (1, &[0]), (2, &[1])]),
+                (0, &[(0, &[0]), (1, &[0]), (2, &[1])]),
+            ],
+        ),
+        (
+            "a field of two kinds",
+            &[(0, &[(0, &[0]), (1, &[0]), (2, &[1])]), (1, &[(2, &[2])])],
+        ),
+        (
+            "a word's field",
+            &[(0, &[(0, &[0]), (1, &[0]), (2, &[1])]), (2, &[(1, &[3])])],
+        ),
+        (
+            "a column without rows",
+            &[(0, &[(0, &[0]), (1, &[0]), (2, &[1])]), (3, &[])],
+        ),
         ("no column of the field", &[]),
         (
             "another document",
@@ -489,11 +503,16 @@ fn refuses_keywords(rt: &impl Abort, alloc: Global) -> Result<(), Fail> {
 }
 
 fn refuses_numbers(rt: &impl Abort, alloc: Global) -> Result<(), Fail> {
-    let rows: &[Row<i64>] = &[(2, &[5])];
     let faults: [(&str, &[(u32, &[Row<i64>])]); 7] = [
-        ("two columns of a field", &[(1, rows), (1, rows)]),
-        ("a field of two kinds", &[(0, rows), (1, rows)]),
-        ("a column without rows", &[(1, rows), (3, &[])]),
+        (
+            "two columns of a field",
+            &[(1, &[(2, &[5])]), (1, &[(2, &[5])])],
+        ),
+        (
+            "a field of two kinds",
+            &[(0, &[(2, &[5])]), (1, &[(2, &[5])])],
+        ),
+        ("a column without rows", &[(1, &[(2, &[5])]), (3, &[])]),
         ("no column of the field", &[]),
         ("another document", &[(1, &[(1, &[5]), (2, &[5])])]),
         ("no term", &[(1, &[(2, &[5, 6])])]),
@@ -527,49 +546,52 @@ fn refuses_presence(rt: &impl Abort, alloc: Global) -> Result<(), Fail> {
     Ok(())
 }
 
+/// The postings of the small columns, but for the list at one place.
+fn postings_with(
+    rt: &impl Abort,
+    alloc: Global,
+    place: usize,
+    list: &[Row<u32>],
+) -> Result<PostingLists, Fail> {
+    let mut all = Vec::new(alloc);
+    for (at, own) in SMALL.postings.iter().enumerate() {
+        let list = if at == place { list } else { *own };
+        all.push(posting_list_of(rt, alloc, list)?)?;
+    }
+    Ok(PostingLists::of(all))
+}
+
 fn refuses_postings(rt: &impl Abort, alloc: Global) -> Result<(), Fail> {
-    let xs: &[Row<u32>] = &[(0, &[]), (1, &[])];
-    let plain: &[Row<u32>] = &[(2, &[])];
-    let word: &[Row<u32>] = &[(1, &[0])];
-    let faults: [(&str, &[&[Row<u32>]]); 9] = [
-        ("a list too few", &[xs, plain, plain]),
-        ("a list too many", &[xs, plain, plain, word, word]),
-        ("a word without documents", &[xs, plain, plain, &[]]),
-        ("a word without positions", &[xs, plain, plain, &[(1, &[])]]),
-        (
-            "a word where no text is",
-            &[xs, plain, plain, &[(1, &[0]), (2, &[0])]],
-        ),
-        (
-            "a keyword with a position",
-            &[xs, &[(2, &[0])], plain, word],
-        ),
-        ("a number with a position", &[xs, plain, &[(2, &[0])], word]),
-        (
-            "a keyword's other document",
-            &[xs, &[(1, &[]), (2, &[])], plain, word],
-        ),
-        (
-            "a number's other document",
-            &[xs, plain, &[(1, &[]), (2, &[])], word],
-        ),
+    let faults: [(&str, usize, &[Row<u32>]); 7] = [
+        ("a keyword with a position", 1, &[(2, &[0])]),
+        ("a keyword's other document", 1, &[(1, &[]), (2, &[])]),
+        ("a number with a position", 2, &[(2, &[0])]),
+        ("a number's other document", 2, &[(1, &[]), (2, &[])]),
+        ("a word without documents", 3, &[]),
+        ("a word without positions", 3, &[(1, &[])]),
+        ("a word where no text is", 3, &[(1, &[0]), (2, &[0])]),
     ];
-    for (fault, postings) in faults {
+    for (fault, place, list) in faults {
         let mut columns = small(rt, alloc)?;
-        columns.postings = postings_of(rt, alloc, postings)?;
+        columns.postings = postings_with(rt, alloc, place, list)?;
         refuses(rt, alloc, columns, fault);
     }
     Ok(())
 }
 
+/// As many lists of postings as there are terms, but for one.
+fn refuses_lists(rt: &impl Abort, alloc: Global) -> Result<(), Fail> {
+    let few: &[&[Row<u32>]] = &[&[(0, &[]), (1, &[])], &[(2, &[])], &[(2, &[])]];
+    let mut columns = small(rt, alloc)?;
+    columns.postings = postings_of(rt, alloc, few)?;
+    refuses(rt, alloc, columns, "a list too few");
+    Ok(())
+}
+
 /// A keyword and a number of document 3, where there are documents 0 to 2.
 fn refuses_documents(rt: &impl Abort, alloc: Global) -> Result<(), Fail> {
-    let xs: &[Row<u32>] = &[(0, &[]), (1, &[])];
-    let plain: &[Row<u32>] = &[(2, &[])];
-    let more: &[Row<u32>] = &[(2, &[]), (3, &[])];
-    let word: &[Row<u32>] = &[(1, &[0])];
     let mut columns = small(rt, alloc)?;
-    columns.postings = postings_of(rt, alloc, &[xs, more, plain, word])?;
+    columns.postings = postings_with(rt, alloc, 1, &[(2, &[]), (3, &[])])?;
     columns.ordinals = rows_of(
         rt,
         alloc,
@@ -577,7 +599,7 @@ fn refuses_documents(rt: &impl Abort, alloc: Global) -> Result<(), Fail> {
     )?;
     refuses(rt, alloc, columns, "a keyword of no document");
     let mut columns = small(rt, alloc)?;
-    columns.postings = postings_of(rt, alloc, &[xs, plain, more, word])?;
+    columns.postings = postings_with(rt, alloc, 2, &[(2, &[]), (3, &[])])?;
     columns.numbers = rows_of(rt, alloc, &[(1, &[(2, &[5]), (3, &[5])])])?;
     refuses(rt, alloc, columns, "a number of no document");
     Ok(())
@@ -615,6 +637,7 @@ fn columns_that_disagree(rt: HostRuntime) -> Result<(), Fail> {
     refuses_numbers(&rt, rt.alloc())?;
     refuses_presence(&rt, rt.alloc())?;
     refuses_postings(&rt, rt.alloc())?;
+    refuses_lists(&rt, rt.alloc())?;
     refuses_documents(&rt, rt.alloc())?;
     refuses_terms(&rt, rt.alloc())?;
     Ok(())
