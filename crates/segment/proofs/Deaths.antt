@@ -6,12 +6,12 @@ use Rattle.std.proofs.lemmas.List.FromFn.{length-map-range_with_len, get_or-map-
 use Rattle.std.specs.List.Sorted.{IsStrictlyIncreasing}
 use Rattle.std.proofs.lemmas.Map.Keys.{sorted_from_strictly_increasing, below_from_sorted}
 use Rattle.std.proofs.lemmas.Bool.{cases_eq, cases_lt}
-use Rattle.block_bits.specs.Flags.{is_marked}
+use Rattle.block_bits.specs.Flags.{is_marked, cleared}
 use Rattle.segment.specs.Agree.{AreColumns}
-use Rattle.segment.specs.Live.{LiveState, IsLiveOver, live_docs, root_of, block_start, block_end, cleared, killed}
+use Rattle.segment.specs.Live.{LiveState, IsLiveOver, live_docs, root_of, block_start, block_end, killed}
 use Rattle.segment.specs.Roots.{root_flags}
 use Rattle.segment.specs.declared.columns.Columns.{Columns}
-use Rattle.segment.proofs.Cleared.{length-cleared, cleared-before, cleared-inside, cleared-after}
+use Rattle.block_bits.proofs.Ranges.{length-cleared, cleared-before, cleared-inside, cleared-after}
 use Rattle.segment.proofs.Places.{length-root_flags, end_edge, start_edge, block-ordered, block-within}
 
 pub length-live_docs : (flags roots : List Bool) → length (live_docs flags roots) ≡ length flags
@@ -57,20 +57,28 @@ live_docs-killed scopes roots root long h within =
       ]
     ])
 
+-- as many flags as documents
+docs_long : (columns : Columns) (docs roots : List Bool) → AreColumns columns → docs ≡ live_docs (root_flags columns.scopes) roots → length docs ≡ columns.documents
+docs_long columns docs roots agree are =
+    ap (λ (one : List Bool). length one) are ∙ length-live_docs (root_flags columns.scopes) roots
+    ∙ length-root_flags columns.documents columns.scopes agree.rooted.scopes
+
+over_from : (columns : Columns) (docs roots : List Bool) → AreColumns columns → length roots ≡ length columns.roots → docs ≡ live_docs (root_flags columns.scopes) roots → IsLiveOver columns (record { docs = docs; roots = roots })
+over_from columns docs roots agree long are = record { roots = long; documents = docs_long columns docs roots agree are; docs = are }
+
 -- the bits stay those of the segment
 pub IsLiveOver-killed : (columns : Columns) (live : LiveState) (root : ℕ) → AreColumns columns → IsLiveOver columns live → root < length live.roots → IsLiveOver columns (killed columns root live)
-IsLiveOver-killed columns live root agree over h = record {
-  roots = length-set live.roots root false ∙ over.roots;
-  docs =
-      ap (λ docs. cleared (block_start columns.scopes root) (block_end columns.scopes root) docs) over.docs
-      ∙ live_docs-killed columns.scopes live.roots root (over.roots ∙ agree.rooted.roots) h
-      (omega (arith, block-within columns root agree (omega (arith, h, over.roots)), length-root_flags columns.documents columns.scopes agree.rooted.scopes));
-}
+IsLiveOver-killed columns live root agree over h =
+    over_from columns (cleared (block_start columns.scopes root) (block_end columns.scopes root) live.docs) (set live.roots root false) agree
+    (length-set live.roots root false ∙ over.roots)
+    (ap (λ docs. cleared (block_start columns.scopes root) (block_end columns.scopes root) docs) over.docs
+    ∙ live_docs-killed columns.scopes live.roots root (over.roots ∙ agree.rooted.roots) h
+    (omega (arith, block-within columns root agree (omega (arith, h, over.roots)), length-root_flags columns.documents columns.scopes agree.rooted.scopes)))
 
 -- the block lies within the flags of documents
 pub block-in_live : (columns : Columns) (live : LiveState) (root : ℕ) → AreColumns columns → IsLiveOver columns live → root < length columns.roots → block_end columns.scopes root ≤ length live.docs
 block-in_live columns live root agree over h =
-    omega (arith, block-within columns root agree h, length-root_flags columns.documents columns.scopes agree.rooted.scopes, ap (λ (docs : List Bool). length docs) over.docs, length-live_docs (root_flags columns.scopes) live.roots)
+    omega (arith, block-within columns root agree h, over.documents)
 
 each : (n k : ℕ) → get_or (replicate n true) k true ≡ true
 each n k = elim (cases_lt k n) [
@@ -91,10 +99,10 @@ live_docs-all flags n =
 
 -- all documents and all roots of a segment
 pub IsLiveOver-all : (columns : Columns) → AreColumns columns → IsLiveOver columns (record { docs = replicate columns.documents true; roots = replicate (length columns.roots) true })
-IsLiveOver-all columns agree = record {
-  roots = length-replicate (length columns.roots) true;
-  docs = ap (λ n. replicate n true) (sym (length-root_flags columns.documents columns.scopes agree.rooted.scopes)) ∙ sym (live_docs-all (root_flags columns.scopes) (length columns.roots));
-}
+IsLiveOver-all columns agree =
+    over_from columns (replicate columns.documents true) (replicate (length columns.roots) true) agree
+    (length-replicate (length columns.roots) true)
+    (ap (λ n. replicate n true) (sym (length-root_flags columns.documents columns.scopes agree.rooted.scopes)) ∙ sym (live_docs-all (root_flags columns.scopes) (length columns.roots)))
 
 false_no_true : false ≡ true → ⊥
 false_no_true e = absurd (subst (λ flag. cond flag ⊥ (Unit {0})) e tt)
@@ -160,10 +168,9 @@ live-inside roots root live = elim (cases_lt root (length roots)) [
 pub over-made : (columns : Columns) (docs roots : List Bool) → AreColumns columns → docs ≡ replicate columns.documents true → roots ≡ replicate (length columns.roots) true → IsLiveOver columns (record { docs = docs; roots = roots })
 over-made columns docs roots agree docs_are roots_are =
     let all = IsLiveOver-all columns agree in
-    record {
-      roots = ap (λ (one : List Bool). length one) roots_are ∙ all.roots;
-      docs = docs_are ∙ all.docs ∙ ap (λ one. live_docs (root_flags columns.scopes) one) (sym roots_are);
-    }
+    over_from columns docs roots agree
+    (ap (λ (one : List Bool). length one) roots_are ∙ all.roots)
+    (docs_are ∙ all.docs ∙ ap (λ one. live_docs (root_flags columns.scopes) one) (sym roots_are))
 
 -- what `kill` does to the bits `inner`, which are seen as `live`
 pub record IsKilling (columns : Columns) (inner live : LiveState) (root : ℕ) (range : ℕ × ℕ) : Type 0 where
@@ -177,16 +184,14 @@ pub kill-over : (columns : Columns) (inner live : LiveState) (root : ℕ) (range
     → docs ≡ cleared range.0 range.1 inner.docs → roots ≡ set inner.roots root false → IsLiveOver columns (record { docs = docs; roots = roots })
 kill-over columns inner live root range docs roots it docs_are roots_are =
     let then = IsLiveOver-killed columns live root it.agree it.over (live-inside live.roots root it.alive) in
-    record {
-      roots = ap (λ (one : List Bool). length one) roots_are ∙ ap (λ (one : LiveState). length (set one.roots root false)) it.seen ∙ then.roots;
-      docs =
-          docs_are
-          ∙ ap (λ (pair : ℕ × ℕ). cleared pair.0 pair.1 inner.docs) it.edges
-          ∙ ap (λ (one : LiveState). cleared (block_start columns.scopes root) (block_end columns.scopes root) one.docs) it.seen
-          ∙ then.docs
-          ∙ ap (λ (one : LiveState). live_docs (root_flags columns.scopes) (set one.roots root false)) (sym it.seen)
-          ∙ ap (λ one. live_docs (root_flags columns.scopes) one) (sym roots_are);
-    }
+    over_from columns docs roots it.agree
+    (ap (λ (one : List Bool). length one) roots_are ∙ ap (λ (one : LiveState). length (set one.roots root false)) it.seen ∙ then.roots)
+    (docs_are
+    ∙ ap (λ (pair : ℕ × ℕ). cleared pair.0 pair.1 inner.docs) it.edges
+    ∙ ap (λ (one : LiveState). cleared (block_start columns.scopes root) (block_end columns.scopes root) one.docs) it.seen
+    ∙ then.docs
+    ∙ ap (λ (one : LiveState). live_docs (root_flags columns.scopes) (set one.roots root false)) (sym it.seen)
+    ∙ ap (λ one. live_docs (root_flags columns.scopes) one) (sym roots_are))
 
 pub kill-within : (columns : Columns) (inner live : LiveState) (root : ℕ) (range : ℕ × ℕ) → IsKilling columns inner live root range → range.1 ≤ length inner.docs
 kill-within columns inner live root range it =

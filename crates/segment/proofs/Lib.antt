@@ -1,3 +1,9 @@
-pub mod Cleared
+pub mod ByDocument
 pub mod Deaths
+pub mod Keyed
+pub mod Loops
+pub mod NumberKeys
+pub mod Numbers
+pub mod Passes
 pub mod Places
+pub mod Searches

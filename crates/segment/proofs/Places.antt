@@ -1,12 +1,13 @@
 -- The documents of the roots.
-use Rattle.std.proofs.Common.{subst, Some, slice_get, ◌≡◌, inl, inr, ℕ, zero, suc, ◌+◌, ◌-◌, ◌<◌, ◌≤◌, ◌↔◌, Bool, true, false, cond, List, [], ◌∷◌, length, get_or, take, refl, sym, ap, ◌∙◌, arith}
-use Rattle.std.specs.List.{All, count_by}
-use Rattle.std.proofs.lemmas.List.{get_or_default}
+use Rattle.std.proofs.Common.{subst, Some, None, slice_get, ◌++◌, drop, append_assoc, ◌≡◌, inl, inr, ℕ, zero, suc, ◌+◌, ◌-◌, ◌<◌, ◌≤◌, ◌↔◌, Bool, true, false, cond, List, [], ◌∷◌, length, get_or, take, refl, sym, ap, ◌∙◌, arith}
+use Rattle.std.specs.List.{All, count_by, position_from}
+use Rattle.std.proofs.lemmas.List.{append-nil, get_or_default, drop-drop}
 use Rattle.std.proofs.lemmas.Option.{slice_get_read, get_or_from_slice_get}
 use Rattle.std.proofs.lemmas.List.Sums.{sum_by-cons}
 use Rattle.block_bits.specs.Flags.{is_marked}
-use Rattle.block_bits.specs.Blocks.{documents_of}
-use Rattle.segment.specs.Agree.{HaveOneScope, AreColumns}
+use Rattle.block_bits.specs.Places.{next_place}
+use Rattle.block_bits.specs.Blocks.{HaveOneScope, documents_of}
+use Rattle.segment.specs.Agree.{AreColumns}
 use Rattle.segment.specs.declared.columns.Columns.{Columns}
 use Rattle.segment.specs.Live.{root_of, block_start, block_end}
 use Rattle.std.proofs.lemmas.Bool.{cases_lt}
@@ -58,10 +59,65 @@ marks_before start (false ∷ flags) root (suc place) h =
       λ few. omega (arith, rest.1 (omega (arith, few, count-mark false (take place flags)))),
     )
 
--- the same of a segment's roots
+-- ---- the first mark of the flags from place `start` on
+
+-- the next mark: the places are that one and those after it
+pub marked_places-next : (start : ℕ) (flags : List Bool) (place : ℕ) → position_from is_marked start flags ≡ Some place
+    → (start ≤ place) × (marked_places start flags ≡ place ∷ marked_places (place + 1) (drop (place + 1 - start) flags))
+marked_places-next start [] place e = absurd (let no : ⊥ = cc in no)
+marked_places-next start (true ∷ flags) place e =
+    let here : start ≡ place = cc in
+    let one : place + 1 - start ≡ suc zero = omega (arith, here) in
+    (omega (arith, here), rw (one, here) refl)
+marked_places-next start (false ∷ flags) place e =
+    let rest = marked_places-next (start + 1) flags place e in
+    let less : place + 1 - start ≡ suc (place + 1 - (start + 1)) = omega (arith, rest.0) in
+    (omega (arith, rest.0), rw less rest.1)
+
+-- no next mark: there are no places
+pub marked_places-none : (start : ℕ) (flags : List Bool) → position_from is_marked start flags ≡ None → marked_places start flags ≡ []
+marked_places-none start [] e = refl
+marked_places-none start (true ∷ flags) e = absurd (let no : ⊥ = cc in no)
+marked_places-none start (false ∷ flags) e = marked_places-none (start + 1) flags e
+
+-- places listed so far, and those of the flags from `from` on
+pub record AreListed (places : List ℕ) (from : ℕ) (flags : List Bool) : Type 0 where
+  pub all : places ++ marked_places from (drop from flags) ≡ marked_places 0 flags
+
+pub listed-none : (flags : List Bool) → AreListed [] 0 flags
+listed-none flags = record { all = refl }
+
+pub listed-more : (places : List ℕ) (from place : ℕ) (flags : List Bool) → AreListed places from flags → next_place is_marked from flags ≡ Some place → AreListed (places ++ place ∷ []) (place + 1) flags
+listed-more places from place flags so_far e =
+    let next = marked_places-next from (drop from flags) place e in
+    let on : from + (place + 1 - from) ≡ place + 1 = omega (arith, next.0) in
+    record {
+      all = append_assoc places (place ∷ []) (marked_places (place + 1) (drop (place + 1) flags))
+          ∙ ap (λ rest. places ++ (place ∷ marked_places (place + 1) rest)) (ap (λ n. drop n flags) (sym on) ∙ sym (drop-drop (place + 1 - from) from flags))
+          ∙ ap (λ rest. places ++ rest) (sym next.1)
+          ∙ so_far.all;
+    }
+
+pub listed-all : (places : List ℕ) (from : ℕ) (flags : List Bool) → AreListed places from flags → next_place is_marked from flags ≡ None → places ≡ marked_places 0 flags
+listed-all places from flags so_far e =
+    sym (append-nil places) ∙ ap (λ rest. places ++ rest) (sym (marked_places-none from (drop from flags) e)) ∙ so_far.all
+
+-- ---- the same of a segment's roots
+
 pub length-root_documents : (scopes : List (List Bool)) → length (root_documents scopes) ≡ count_by is_marked (root_flags scopes)
 unfolding root_documents
 length-root_documents scopes = length-marked_places 0 (root_flags scopes)
+
+-- no scopes, no roots
+pub root_documents-none : (scopes : List (List Bool)) → length scopes < 1 → [] ≡ root_documents scopes
+unfolding root_documents
+root_documents-none [] h = refl
+root_documents-none (set ∷ sets) h = absurd (omega arith)
+
+-- the roots are the documents of the first scope
+pub root_documents-first : (scopes : List (List Bool)) (roots : List Bool) → 0 < length scopes → roots ≡ get_or scopes 0 roots → marked_places 0 roots ≡ root_documents scopes
+unfolding root_documents
+root_documents-first scopes roots h read = ap (marked_places 0) (read ∙ get_or_default scopes 0 roots [] h)
 
 pub root_documents-within : (scopes : List (List Bool)) (root : ℕ) → root < count_by is_marked (root_flags scopes) → get_or (root_documents scopes) root 0 < length (root_flags scopes)
 unfolding root_documents

@@ -3,7 +3,7 @@ use Rattle.std.specs.Prelude.{◌≡◌, ℕ, ℤ, ◌<◌, ◌≤◌, Bool, fal
 use Rattle.std.specs.List.{All}
 use Rattle.std.specs.List.Sorted.{IsStrictlyIncreasing}
 use Rattle.block_bits.specs.Flags.{is_marked}
-use Rattle.block_bits.specs.Blocks.{AreBits}
+use Rattle.block_bits.specs.Blocks.{HaveOneScope}
 use Rattle.postings.specs.Postings.{documents}
 use Rattle.doc_values.specs.Values.{values_of}
 use Rattle.segment.specs.Fields.{column_of, fields}
@@ -13,10 +13,6 @@ use Rattle.segment.specs.declared.columns.Columns.{Columns}
 use Rattle.segment.specs.declared.root.Join.{Join}
 use Rattle.segment.specs.declared.root.Join.TheVariants.{Unjoined, Named, Child}
 use Rattle.segment.specs.declared.root.Root.{Root}
-
--- so many documents, each of exactly one scope
-abbrev pub HaveOneScope : ℕ → List (List Bool) → Type 0
-HaveOneScope count sets = (scopes : List ℕ) × AreBits (length sets) sets scopes × (length scopes ≡ count)
 
 -- an id has 1 to 512 bytes
 abbrev pub IsId : List ℕ → Type 0
@@ -43,25 +39,25 @@ HasFlags count flags = (length flags ≡ count) × (1 ≤ count_by is_marked fla
 abbrev pub AreApart : {X Y : Type 0} → List (ℕ × X) → List (ℕ × Y) → Type 0
 AreApart {X} {Y} ones others = All (λ (one : ℕ × X). IsNone (column_of one.0 others)) ones
 
--- a word of a text field has one or more positions in each of its documents, and each is one that has a value of the field
-pub record IsWord (present : List Bool) (postings : List (ℕ × List ℕ)) : Type 0 where
-  pub positions : All (λ (posting : ℕ × List ℕ). 1 ≤ length posting.1) postings
-  pub valued : All (λ (posting : ℕ × List ℕ). IsTrue (slice_index_or present posting.0 false)) postings
+-- a word of a text field stands in a document at one or more positions, and the document has a value of the field
+pub record IsWordAt (present : List Bool) (posting : ℕ × List ℕ) : Type 0 where
+  pub positions : 1 ≤ length posting.1
+  pub valued : IsTrue (slice_index_or present posting.0 false)
 
 -- another term has no positions, and each of its documents has it in the field's column
-pub record IsKeyword (rows : List (ℕ × List ℕ)) (ordinal : ℕ) (postings : List (ℕ × List ℕ)) : Type 0 where
-  pub positions : All (λ (posting : ℕ × List ℕ). length posting.1 ≡ 0) postings
-  pub valued : All (λ (posting : ℕ × List ℕ). Contains (values_of posting.0 rows) ordinal) postings
+pub record IsKeywordAt (rows : List (ℕ × List ℕ)) (ordinal : ℕ) (posting : ℕ × List ℕ) : Type 0 where
+  pub positions : length posting.1 ≡ 0
+  pub valued : Contains (values_of posting.0 rows) ordinal
 
-pub record IsNumber (rows : List (ℕ × List ℤ)) (key : List ℕ) (postings : List (ℕ × List ℕ)) : Type 0 where
-  pub positions : All (λ (posting : ℕ × List ℕ). length posting.1 ≡ 0) postings
-  pub valued : All (λ (posting : ℕ × List ℕ). Contains (map number_key (values_of posting.0 rows)) key) postings
+pub record IsNumberAt (rows : List (ℕ × List ℤ)) (key : List ℕ) (posting : ℕ × List ℕ) : Type 0 where
+  pub positions : length posting.1 ≡ 0
+  pub valued : Contains (map number_key (values_of posting.0 rows)) key
 
 -- a term is a word, a keyword or a number, as its field's column is; a field without a column has no term
 abbrev pub IsTermOf : Option (List Bool) → Option (List (ℕ × List ℕ)) → Option (List (ℕ × List ℤ)) → ℕ → List ℕ → List (ℕ × List ℕ) → Type 0
-IsTermOf (Some present) rows numbers ordinal bytes postings = IsWord present postings
-IsTermOf None (Some rows) numbers ordinal bytes postings = IsKeyword rows ordinal postings
-IsTermOf None None (Some rows) ordinal bytes postings = IsNumber rows bytes postings
+IsTermOf (Some present) rows numbers ordinal bytes postings = All (IsWordAt present) postings
+IsTermOf None (Some rows) numbers ordinal bytes postings = All (IsKeywordAt rows ordinal) postings
+IsTermOf None None (Some rows) ordinal bytes postings = All (IsNumberAt rows bytes) postings
 IsTermOf None None None ordinal bytes postings = ⊥
 
 -- an ordinal in a column is the place of a term of that field, one of whose documents is the row's
@@ -112,10 +108,14 @@ pub record IsTermAt (columns : Columns) (ordinal : ℕ) (term : ℕ × List ℕ)
   pub short : length term.1 ≤ 32766
   pub is : IsTermOf (column_of term.0 columns.present) (column_of term.0 columns.ordinals) (column_of term.0 columns.numbers) ordinal term.1 (slice_index_or columns.postings ordinal [])
 
--- terms and the columns of fields say the same
-pub record HaveTerms (columns : Columns) : Type 0 where
+-- a list of postings for each term, and each term's documents are as its field's column says
+pub record AreTerms (columns : Columns) : Type 0 where
   pub lists : length columns.postings ≡ length columns.terms
   pub terms : (ordinal : ℕ) (term : ℕ × List ℕ) → slice_get columns.terms ordinal ≡ Some term → IsTermAt columns ordinal term
+
+-- terms and the columns of fields say the same
+pub record HaveTerms (columns : Columns) : Type 0 where
+  pub terms : AreTerms columns
   pub ordinals : All (HaveOrdinals columns.terms columns.postings) columns.ordinals
   pub numbers : All (HaveKeys columns.terms columns.postings) columns.numbers
 

@@ -5,3 +5,4 @@ pub mod Kept
 pub mod Keys
 pub mod Live
 pub mod Roots
+pub mod Rows

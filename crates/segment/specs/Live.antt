@@ -1,7 +1,7 @@
 -- Which documents of a segment are live.
-use Rattle.std.specs.Prelude.{◌≡◌, ℕ, ◌+◌, ◌-◌, ◌==◌, Bool, true, false, List, ◌++◌, length, map, take, drop, replicate, count_by, slice_index, slice_index_or, slice_set, if◌then◌else◌}
+use Rattle.std.specs.Prelude.{◌≡◌, ℕ, ◌+◌, ◌-◌, ◌==◌, Bool, true, false, List, length, map, take, count_by, slice_index, slice_index_or, slice_set, if◌then◌else◌}
 use Rattle.std.specs.List.{range_with_len}
-use Rattle.block_bits.specs.Flags.{is_marked}
+use Rattle.block_bits.specs.Flags.{is_marked, cleared}
 use Rattle.segment.specs.Roots.{root_flags, root_documents}
 use Rattle.segment.specs.declared.columns.Columns.{Columns}
 
@@ -21,6 +21,7 @@ live_docs flags roots = map (λ doc. slice_index_or roots (root_of flags doc) tr
 -- live bits of a segment's documents and roots
 pub record IsLiveOver (columns : Columns) (live : LiveState) : Type 0 where
   pub roots : length live.roots ≡ length columns.roots
+  pub documents : length live.docs ≡ columns.documents
   pub docs : live.docs ≡ live_docs (root_flags columns.scopes) live.roots
 
 -- where the block of a root begins: after the document of the root before it
@@ -30,10 +31,6 @@ block_start scopes root = if root == 0 then 0 else slice_index (root_documents s
 -- and ends: behind its own document
 abbrev pub block_end : List (List Bool) → ℕ → ℕ
 block_end scopes root = slice_index (root_documents scopes) root + 1
-
--- the flags from place `from` up to place `end` cleared
-abbrev pub cleared : ℕ → ℕ → List Bool → List Bool
-cleared from end flags = take from flags ++ (replicate (end - from) false ++ drop end flags)
 
 -- a root and the documents of its block are dead, and all else is as it was
 abbrev pub killed : Columns → ℕ → LiveState → LiveState

@@ -2,19 +2,30 @@
 //!
 //! A segment never changes; a delete clears live bits beside it (Lucene's `SegmentReader` and its live docs,
 //! package `org.apache.lucene.index`). The crate stands on the five kinds of columns. A segment is seen as the
-//! columns that it was made from. The call that makes one, and refuses columns that disagree, is to come.
+//! columns that it was made from: `Segment::of_columns` makes it, and refuses columns that disagree.
 #![tactic(auto)]
 
+mod agree;
+mod agree_columns;
+mod agree_terms;
 mod by_field;
 mod columns;
 mod live_bits;
+mod number_key;
 mod parts;
+mod refusal;
 mod root;
+mod root_docs;
+mod rows;
 mod segment;
+mod term_search;
+#[cfg(test)]
+mod tests;
 
 pub use by_field::ByField;
 pub use columns::Columns;
 pub use live_bits::LiveBits;
+pub use refusal::SegmentRefusal;
 pub use root::{Join, JoinValue, Root, RootList};
 pub use segment::Segment;
 use std::alloc::{AllocError, AllocFailed};

@@ -1,8 +1,8 @@
 //! Which documents of a segment are live.
 
-ghost use Rattle.std.specs.Prelude.{◌≡◌, ◌↔◌, ℕ, ◌<◌, ◌≤◌, length, replicate, true, false, slice_index_or, All, Contains, IfOk};
+ghost use Rattle.std.specs.Prelude.{◌≡◌, ◌↔◌, ℕ, ◌<◌, length, replicate, true, false, slice_index_or, All, Contains, IfOk};
 ghost use Rattle.std.specs.List.Sorted.{IsStrictlyIncreasing};
-ghost use Rattle.segment.specs.Live.{IsLiveOver, killed, cleared};
+ghost use Rattle.segment.specs.Live.{IsLiveOver, killed};
 
 use crate::{NoMemory, Segment};
 use block_bits::BitSet;
@@ -64,7 +64,7 @@ impl LiveBits {
         ensures over { IsLiveOver segment.now self.new }
     {
         let (from, end) = segment.block(root);
-        clear_range(&mut self.docs, from, end);
+        self.docs.clear_range(from, end);
         self.roots.clear(root);
     }
 
@@ -73,8 +73,8 @@ impl LiveBits {
         ensures over { IfOk result (λ live. IsLiveOver segment.now live) }
         ensures roots { IfOk result (λ live. live.roots ≡ replicate (length segment.now.roots) true) }
     {
-        let docs = full_set(alloc, segment.docs())?;
-        let roots = full_set(alloc, segment.roots())?;
+        let docs = BitSet::full(alloc, segment.docs())?;
+        let roots = BitSet::full(alloc, segment.roots())?;
         Ok(LiveBits { docs, roots })
     }
 
@@ -82,39 +82,8 @@ impl LiveBits {
     pub fn copy(&self, alloc: Global) -> Result<LiveBits, NoMemory>
         ensures { IfOk result (λ live. live ≡ self.now) }
     {
-        let docs = copy_of(alloc, &self.docs)?;
-        let roots = copy_of(alloc, &self.roots)?;
+        let docs = self.docs.copy(alloc)?;
+        let roots = self.roots.copy(alloc)?;
         Ok(LiveBits { docs, roots })
     }
-}
-
-/// The set of all of `len` documents.
-fn full_set(alloc: Global, len: u32) -> Result<BitSet, NoMemory>
-    ensures { IfOk result (λ set. set ≡ replicate len true) }
-{
-    let mut set = BitSet::empty(alloc, len)?;
-    'places: for at in 0..len {
-        set.set(at);
-    }
-    Ok(set)
-}
-
-/// Takes the places from `from` up to `end` out of a set.
-fn clear_range(set: &mut BitSet, from: u32, end: u32)
-    requires ordered { from ≤ end }
-    requires within { end ≤ length set.old }
-    ensures { set.new ≡ cleared from end set.old }
-{
-    'places: for at in from..end {
-        set.clear(at);
-    }
-}
-
-/// An equal set.
-fn copy_of(alloc: Global, set: &BitSet) -> Result<BitSet, NoMemory>
-    ensures { IfOk result (λ copy. copy ≡ set.now) }
-{
-    let mut copy = BitSet::empty(alloc, set.len())?;
-    copy.or(set);
-    Ok(copy)
 }

@@ -1,14 +1,16 @@
 //! The segment and its readers.
 
-ghost use Rattle.std.specs.Prelude.{◌≡◌, ℕ, ◌<◌, ◌≤◌, ◌^◌, length, slice_get, Some, IsSomeAnd};
+ghost use Rattle.std.specs.Prelude.{◌≡◌, ℕ, ◌<◌, ◌≤◌, ◌^◌, length, slice_get, Some, IsSomeAnd, IfOk, IsErrOf};
 ghost use Rattle.std.specs.Option.{option_map};
 ghost use Rattle.segment.specs.Agree.{AreColumns};
 ghost use Rattle.segment.specs.Fields.{column_of};
 ghost use Rattle.segment.specs.Live.{block_start, block_end};
 ghost use Rattle.segment.specs.Roots.{root_documents, lent_join};
 
+use crate::agree::are_columns;
 use crate::parts::Parts;
-use crate::{Join, JoinValue};
+use crate::root_docs::root_places;
+use crate::{Columns, Join, JoinValue, SegmentRefusal};
 use block_bits::{BitList, BitSet};
 use doc_values::{NumberColumn, OrdinalColumn};
 use postings::PostingsTable;
@@ -37,6 +39,26 @@ impl Model for Segment {
 }
 
 impl Segment {
+    /// The segment of these columns, if they agree.
+    ///
+    /// They disagree where a document has no scope or several; where roots, their sources and the documents of
+    /// scope 0 differ in number, or an id has 0 or more than 512 bytes; where fields don't ascend or a field has
+    /// columns of two kinds; where a list names no document or one that isn't there; or where a term is too long
+    /// or its documents differ from those of its field's column. Whether the documents are blocks, and what a
+    /// mapping says of the fields, isn't looked at.
+    pub fn of_columns(alloc: Global, columns: Columns) -> Result<Segment, SegmentRefusal>
+        ensures columns { IfOk result (λ segment. segment ≡ columns) }
+        ensures agree { IfOk result (λ segment. AreColumns columns) }
+        ensures disagree { IsErrOf result SegmentRefusal.NotASegment → ¬ AreColumns columns }
+    {
+        if !are_columns(&columns) {
+            return Err(SegmentRefusal::NotASegment);
+        }
+        let root_docs = root_places(alloc, &columns.scopes)?;
+        let parts = Parts::built(alloc, columns)?;
+        Ok(Segment { parts, root_docs })
+    }
+
     /// How many documents there are, one or more.
     pub fn docs(&self) -> u32
         ensures documents { result ≡ self.now.documents }
