@@ -7,3 +7,7 @@ pub mod Ties
 pub mod Single
 pub mod Numerals
 pub mod LookUps
+pub mod Above
+pub mod Nearest
+pub mod Founded
+pub mod BelowRoot

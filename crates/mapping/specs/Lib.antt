@@ -3,6 +3,7 @@ pub mod Names
 pub mod Body
 pub mod Relations
 pub mod Mapping
+pub mod IsMapping
 pub mod Outline
 pub mod Refusal
 pub mod Code
