@@ -11,3 +11,6 @@ pub mod Above
 pub mod Nearest
 pub mod Founded
 pub mod BelowRoot
+pub mod Order
+pub mod Ways
+pub mod Inside

@@ -148,7 +148,7 @@ after_root (p ∷ paths) all = (above_less [] p all.0, after_root paths all.1)
 
 -- ---- the order of numbers
 
-append_nil : {A : Type 0} (xs : List A) → xs ++ [] ≡ xs
+pub append_nil : {A : Type 0} (xs : List A) → xs ++ [] ≡ xs
 append_nil [] = refl
 append_nil {A} (x ∷ xs) = ap (λ (rest : List A). x ∷ rest) (append_nil xs)
 

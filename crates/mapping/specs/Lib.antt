@@ -10,5 +10,6 @@ pub mod Code
 pub mod Seen
 pub mod Stored
 pub mod Object
+pub mod Enclosing
 pub mod Values
 pub mod Fault

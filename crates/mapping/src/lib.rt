@@ -22,6 +22,6 @@ pub use convert::value_of;
 pub use fault::Fault;
 pub use field_value::{Bytes, FieldValue};
 pub use kind::Kind;
-pub use law::scopes_form_chains;
+pub use law::{objects_nest, scopes_form_chains};
 pub use mapping::Mapping;
 pub use refusal::{MappingRefusal, NoMemory, ValueRefusal};
