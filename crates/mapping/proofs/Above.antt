@@ -5,7 +5,7 @@ use Rattle.std.proofs.lemmas.Cmp.{nat_cmp_total, tied_itself}
 use Rattle.std.proofs.lemmas.List.{get_or_past}
 use Rattle.std.specs.Cmp.Lexicographic.{slice_cmp}
 use Rattle.mapping.specs.Names.{dot, goes_on, lies_above}
-use Rattle.mapping.specs.Mapping.{Mapping, root_scope, scope_at, outer, is_above, IsAbove}
+use Rattle.mapping.specs.Mapping.{Mapping, root_scope, scope_at, outer, is_above, IsAbove, home_of, reaches, included}
 use Rattle.mapping.specs.IsMapping.{IsMapping}
 
 pub both : (s t : Bool) → (s && t) ≡ true → (s ≡ true) × (t ≡ true)
@@ -126,9 +126,12 @@ above_in_range m a b h = elim (cases_lt b (length m.scopes)) [
       absurd (false≢true (sym (above_nothing (scope_at m a).path) ∙ k))
 ]
 
+root_path : (m : Mapping) → IsMapping m → (scope_at m 0).path ≡ []
+root_path m is = ap (λ s. s.path) is.root
+
 -- nothing lies above the root
 pub above_root : (m : Mapping) (a : ℕ) → IsMapping m → is_above m a 0 ≡ false
-above_root m a is = rw (is.root, above_nothing (scope_at m a).path) (and_false (nat_lt a (length m.scopes)))
+above_root m a is = rw (root_path m is, above_nothing (scope_at m a).path) (and_false (nat_lt a (length m.scopes)))
 
 pub is_above_through : (m : Mapping) (a b c : ℕ) → IsAbove m a b → IsAbove m b c → IsAbove m a c
 is_above_through m a b c h k =
@@ -196,7 +199,38 @@ pub root_above : (m : Mapping) (n : ℕ) → IsMapping m → 0 < n → n < lengt
 root_above m n is h k =
     elim (path_cases (scope_at m n).path) [
       | inl none ↦
-          let zero_is : n ≡ 0 = is.distinct n 0 k is.some (none ∙ sym is.root) in
+          let zero_is : n ≡ 0 = is.distinct n 0 k is.some (none ∙ sym (root_path m is)) in
           absurd (omega arith)
-      | inr some ↦ above_from m 0 n is.some (rw is.root some)
+      | inr some ↦ above_from m 0 n is.some (rw (root_path m is) some)
     ]
+
+-- ---- where values are included
+
+-- the values of a scope are included in it and in scopes above it alone
+reaches_up : (m : Mapping) (left n s : ℕ) → IsMapping m → n < length m.scopes → reaches m left n s ≡ true → (n ≡ s) ⊎ IsAbove m s n
+reaches_up m zero n s is h met = inl (eqb-true n s met)
+reaches_up m (suc left) zero s is h met = elim (or_cases (0 == s) (((scope_at m 0).in_parent && reaches m left (outer m 0) s) || ((scope_at m 0).in_root && s == 0)) met) [
+  | inl same ↦ inl (eqb-true 0 s same)
+  | inr further ↦
+      let never : false ≡ true = rw is.root at further in
+      absurd (false≢true never)
+]
+reaches_up m (suc left) (suc n) s is h met = elim (or_cases (suc n == s) (((scope_at m (suc n)).in_parent && reaches m left (outer m (suc n)) s) || ((scope_at m (suc n)).in_root && s == 0)) met) [
+  | inl same ↦ inl (eqb-true (suc n) s same)
+  | inr further ↦ elim (or_cases ((scope_at m (suc n)).in_parent && reaches m left (outer m (suc n)) s) ((scope_at m (suc n)).in_root && s == 0) further) [
+    | inl parent ↦
+        let near = is.around (suc n) (omega arith) h in
+        let over = outer_above m (suc n) is (omega arith) h in
+        elim (reaches_up m left (outer m (suc n)) s is near.in_range (both (scope_at m (suc n)).in_parent (reaches m left (outer m (suc n)) s) parent).1) [
+          | inl same ↦ inr (subst (λ (a : ℕ). IsAbove m a (suc n)) same over)
+          | inr above ↦ inr (is_above_through m s (outer m (suc n)) (suc n) above over)
+        ]
+    | inr top ↦
+        let least : s ≡ 0 = eqb-true s 0 (both (scope_at m (suc n)).in_root (s == 0) top).1 in
+        inr (subst (λ (a : ℕ). IsAbove m a (suc n)) (sym least) (root_above m (suc n) is (omega arith) h))
+  ]
+]
+
+pub included_up : (m : Mapping) (f s : ℕ) → IsMapping m → f < length m.fields → included m f s ≡ true → (home_of m f ≡ s) ⊎ IsAbove m s (home_of m f)
+unfolding included
+included_up m f s is h met = reaches_up m (home_of m f) (home_of m f) s is (is.home f h).in_range met

@@ -123,8 +123,8 @@ scattered = object (members_of ((
   list (elements_of (
       null
       ∷ list (elements_of (
-          list (elements_of (offered (codes "red") (stocked (codes "a") ∷ null ∷ list (elements_of (stocked (codes "b") ∷ [])) ∷ []) ∷ []))
-          ∷ null ∷ []))
+      list (elements_of (offered (codes "red") (stocked (codes "a") ∷ null ∷ list (elements_of (stocked (codes "b") ∷ [])) ∷ []) ∷ []))
+      ∷ null ∷ []))
       ∷ object (members_of ((codes "color", text (codes "blue")) ∷ (codes "stock", stocked (codes "b")) ∷ []))
       ∷ [])),
 ) ∷ []))

@@ -1,5 +1,5 @@
 -- The mapping of fields in byte order of their paths is one.
-use Rattle.std.proofs.Common.{◌≡◌, ℕ, zero, suc, ◌-◌, ◌<◌, inl, inr, true, List, [], ◌∷◌, length, map, get_or, refl, sym, ap, ◌∙◌, arith, Less}
+use Rattle.std.proofs.Common.{◌≡◌, ℕ, zero, suc, ◌-◌, ◌<◌, ◌≤◌, inl, inr, true, List, [], ◌∷◌, length, map, get_or, refl, sym, ap, ◌∙◌, arith, Less}
 use Rattle.std.proofs.lemmas.Bool.{cases_lt}
 use Rattle.std.proofs.lemmas.List.{get_or_past, length-map}
 use Rattle.std.proofs.lemmas.List.Sorted.{IsPermutation-refl}
@@ -14,7 +14,7 @@ use Rattle.mapping.proofs.Ranks.{compared}
 use Rattle.mapping.proofs.Walks.{split}
 use Rattle.mapping.proofs.Above.{above_less, above_parts, above_in_range}
 use Rattle.mapping.proofs.Single.{nested_ascend}
-use Rattle.mapping.proofs.Nearest.{nearest_last, place_by_less, place_by_same, paths_at, arounds_at, names_at, AreFirst, since_at, homes_at, field_paths_at, AreBelowRoot, below_root_at, after_root, ascending_order, by_numbers}
+use Rattle.mapping.proofs.Nearest.{nearest_last, place_by_less, place_by_same, paths_at, arounds_at, names_at, AreFirst, since_at, homes_at, field_paths_at, field_since_at, AreBelowRoot, below_root_at, after_root, ascending_order, by_numbers}
 
 map_same : {A B : Type 0} (f g : A → B) → ((x : A) → f x ≡ g x) → (xs : List A) → map f xs ≡ map g xs
 map_same f g same [] = refl
@@ -111,6 +111,11 @@ module _ (bodies : List JsonValue) (ds : List Draft) (up : AreAscending (draft_p
       let within : f < length (draft_paths ds) = rw (length-map ds (λ d. d.path)) inside in
       rw (homes_at (scope_paths ds) ds f inside) (near (field_at made f).path (rw (field_paths_at (scope_paths ds) ds f) (below_root_at (draft_paths ds) f within all)))
 
+  known : (f : ℕ) → f < length made.fields → (scope_at made (home_of made f)).since ≤ (field_at made f).since
+  known f h =
+      let inside : f < length ds = rw (sym (length-map ds (field_by (scope_paths ds)))) h in
+      rw (since_is (home_of made f), field_since_at (scope_paths ds) ds f inside first) (omega arith)
+
   names_by_number : map (λ n. get_or (scope_paths ds) n []) (range_with_len 1 (length nested)) ≡ nested
   names_by_number = by_numbers (scope_paths ds) [] 1 nested refl
 
@@ -136,6 +141,7 @@ module _ (bodies : List JsonValue) (ds : List Draft) (up : AreAscending (draft_p
     behind = behind;
     since = λ n h k. rw (since_is (outer made n), since_is n) (omega arith);
     names = names_are;
+    known = known;
     home = home;
     numbers = numbers;
     ascending = ascending;

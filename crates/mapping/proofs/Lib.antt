@@ -14,3 +14,4 @@ pub mod BelowRoot
 pub mod Order
 pub mod Ways
 pub mod Inside
+pub mod Places

@@ -128,6 +128,11 @@ homes_at paths [] k h = absurd (omega arith)
 homes_at paths (d ∷ ds) zero h = refl
 homes_at paths (d ∷ ds) (suc k) h = let more : k < length ds = omega arith in homes_at paths ds k more
 
+pub field_since_at : (paths : List (List ℕ)) (ds : List Draft) (k : ℕ) → k < length ds → AreFirst ds → (get_or (map (field_by paths) ds) k no_field).since ≡ 1
+field_since_at paths [] k h first = absurd (omega arith)
+field_since_at paths (d ∷ ds) zero h first = first.0
+field_since_at paths (d ∷ ds) (suc k) h first = let more : k < length ds = omega arith in field_since_at paths ds k more first.1
+
 pub field_paths_at : (paths : List (List ℕ)) (ds : List Draft) (k : ℕ) → (get_or (map (field_by paths) ds) k no_field).path ≡ get_or (draft_paths ds) k []
 field_paths_at paths [] k = refl
 field_paths_at paths (d ∷ ds) zero = refl

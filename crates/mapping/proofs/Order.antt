@@ -46,20 +46,20 @@ each_kid m s is = kid_from m s (kids m s) (each_filtered (λ (n : ℕ). (0 < n) 
 
 -- ---- once
 
-pub times : ℕ → List ℕ → ℕ
+unfoldable pub times : ℕ → List ℕ → ℕ
 times n [] = 0
 times n (k ∷ ks) = cond (k == n) (1 + times n ks) (times n ks)
 
-times_counted : (n : ℕ) (ks : List ℕ) → times n ks ≡ count_by (λ k. k == n) ks
+pub times_counted : (n : ℕ) (ks : List ℕ) → times n ks ≡ count_by (λ k. k == n) ks
 unfolding times
 times_counted n ks = is_count_by (times n) (λ k. k == n) refl (λ _ _. refl) ks
 
-times_before : (n a len : ℕ) → n < a → times n (range_with_len a len) ≡ 0
+pub times_before : (n a len : ℕ) → n < a → times n (range_with_len a len) ≡ 0
 unfolding times
 times_before n a zero h = refl
 times_before n a (suc len) h = rw (ne_eqb a n (λ e. omega arith)) (times_before n (a + 1) len (omega arith))
 
-times_within : (n a len : ℕ) → a ≤ n → n < a + len → times n (range_with_len a len) ≡ 1
+pub times_within : (n a len : ℕ) → a ≤ n → n < a + len → times n (range_with_len a len) ≡ 1
 unfolding times
 times_within n a zero h k = absurd (omega arith)
 times_within n a (suc len) h k =

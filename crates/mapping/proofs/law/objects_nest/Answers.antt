@@ -2,7 +2,11 @@ use Rattle.std.proofs.Common.{◌≡◌, ◌<◌, length, subst, refl, ℕ}
 use Rattle.std.proofs.lemmas.List.Elements.{All-contains, All-from_recursion}
 use Rattle.mapping.specs.Object.{Object, scope, around, children, block_objects}
 use Rattle.mapping.proofs.Inside.{tree_in_range, root_found, found_in_tree, found_below, enclosing, around_child}
+use Rattle.mapping.proofs.Places.{places_differ}
 use Rattle.mapping.proofs.law.objects_nest.Goals as goal
+
+pub returns-clause-places : goal.returns-clause-places
+returns-clause-places c = places_differ
 
 pub returns-clause-in_range : goal.returns-clause-in_range
 returns-clause-in_range c m tree o is of =
