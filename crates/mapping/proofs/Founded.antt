@@ -34,7 +34,7 @@ nested_below_root (d ∷ ds) all =
     (λ nested. rw nested (all.0, nested_below_root ds all.1))
     (λ other. rw other (nested_below_root ds all.1))
 
-module _ (bodies : List JsonValue) (ds : List Draft) (up : AreAscending (draft_paths ds)) (all : AreBelowRoot (draft_paths ds)) (first : AreFirst ds) where
+module _ (bodies : List JsonValue) (ds : List Draft) (up : AreAscending (draft_paths ds)) (all : AreBelowRoot (draft_paths ds)) (first : AreFirst ds) (by_some : 0 < length bodies) where
   abbrev nested : List (List ℕ)
   nested = draft_paths (nested_among ds)
 
@@ -116,6 +116,14 @@ module _ (bodies : List JsonValue) (ds : List Draft) (up : AreAscending (draft_p
       let inside : f < length ds = rw (sym (length-map ds (field_by (scope_paths ds)))) h in
       rw (since_is (home_of made f), field_since_at (scope_paths ds) ds f inside first) (omega arith)
 
+  scope_added : (n : ℕ) → n < length made.scopes → (scope_at made n).since ≤ length made.bodies
+  scope_added n h = rw (since_is n) (omega (arith, by_some))
+
+  field_added : (f : ℕ) → f < length made.fields → (field_at made f).since ≤ length made.bodies
+  field_added f h =
+      let inside : f < length ds = rw (sym (length-map ds (field_by (scope_paths ds)))) h in
+      rw (field_since_at (scope_paths ds) ds f inside first) (omega (arith, by_some))
+
   names_by_number : map (λ n. get_or (scope_paths ds) n []) (range_with_len 1 (length nested)) ≡ nested
   names_by_number = by_numbers (scope_paths ds) [] 1 nested refl
 
@@ -128,6 +136,11 @@ module _ (bodies : List JsonValue) (ds : List Draft) (up : AreAscending (draft_p
   numbers =
       let less : length made.scopes - 1 ≡ length nested = omega (arith, count_is) in
       rw (order_is, less) (IsPermutation-refl (range_with_len 1 (length nested)))
+
+  pub by_number : made.order ≡ range_with_len 1 (length made.scopes - 1)
+  by_number =
+      let less : length made.scopes - 1 ≡ length nested = omega (arith, count_is) in
+      order_is ∙ ap (range_with_len 1) (sym less)
 
   ascending : AreAscending (map (λ n. (scope_at made n).path) made.order)
   ascending = rw (order_is, map_same (λ n. (scope_at made n).path) (λ n. get_or (scope_paths ds) n []) path_is (range_with_len 1 (length nested)), names_by_number) (nested_ascend ds up)
@@ -142,6 +155,8 @@ module _ (bodies : List JsonValue) (ds : List Draft) (up : AreAscending (draft_p
     since = λ n h k. rw (since_is (outer made n), since_is n) (omega arith);
     names = names_are;
     known = known;
+    scope_added = scope_added;
+    field_added = field_added;
     home = home;
     numbers = numbers;
     ascending = ascending;

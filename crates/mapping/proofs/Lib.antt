@@ -10,7 +10,7 @@ pub mod LookUps
 pub mod Above
 pub mod Nearest
 pub mod Founded
-pub mod BelowRoot
+pub mod OfBody
 pub mod Order
 pub mod Ways
 pub mod Inside

@@ -23,9 +23,11 @@ pub record IsMapping (m : Mapping) : Type 0 where
   pub names : (n : ℕ) → n < length m.scopes → (scope_at m n).names ≡ names_between (scope_at m (outer m n)).path (scope_at m n).path
   -- the home of a field is the nearest scope above it
   pub home : (f : ℕ) → f < length m.fields → IsNearestAbove m (field_at m f).path (home_of m f)
-  -- no scope and no field was added before the scope around it
+  -- no scope and no field was added before the scope around it, nor after the last body
   pub since : (n : ℕ) → 0 < n → n < length m.scopes → (scope_at m (outer m n)).since ≤ (scope_at m n).since
   pub known : (f : ℕ) → f < length m.fields → (scope_at m (home_of m f)).since ≤ (field_at m f).since
+  pub scope_added : (n : ℕ) → n < length m.scopes → (scope_at m n).since ≤ length m.bodies
+  pub field_added : (f : ℕ) → f < length m.fields → (field_at m f).since ≤ length m.bodies
   -- the order has the number of each nested path once, by the byte order of the paths
   pub numbers : IsPermutation (range_with_len 1 (length m.scopes - 1)) m.order
   pub ascending : AreAscending (map (λ n. (scope_at m n).path) m.order)

@@ -1,5 +1,6 @@
 -- What a mapping keeps beside its body, as the definitions see it.
-use Rattle.std.specs.Prelude.{◌≡◌, ℕ, zero, suc, ◌<◌, ◌^◌, ◌==◌, Bool, false, ◌&&◌, ◌||◌, get_or, if◌then◌else◌, List, [], ◌∷◌, length, map, drop}
+use Rattle.std.specs.Prelude.{◌≡◌, ℕ, zero, suc, ◌-◌, ◌<◌, ◌^◌, ◌==◌, Bool, false, ◌&&◌, ◌||◌, get_or, if◌then◌else◌, List, [], ◌∷◌, length, map, drop}
+use Rattle.std.specs.List.{range_with_len}
 use Rattle.mapping.specs.declared.scope.Field.{Field as Kept}
 use Rattle.mapping.specs.declared.scope.Scope.{Scope as Part}
 use Rattle.mapping.specs.declared.scope.ScopePath.{ScopePath}
@@ -48,6 +49,7 @@ pub record IsKept (m : Mapping) (fs : List Kept) (ps : List ScopePath) (ss : Lis
   pub few_scopes : length ps < 2 ^ 32
   pub few_relations : length rs < 2 ^ 32
   pub is_mapping : IsMapping m
+  pub by_number : m.order ≡ range_with_len 1 (length m.scopes - 1)
 
 -- ---- how far values are included, said of the kept parts
 

@@ -1,5 +1,6 @@
 //! A mapping, read from a body, and its look-ups.
-ghost use Rattle.std.specs.Prelude.{◌≡◌, ℕ, List, [], ◌∷◌, ◌<◌, ◌≤◌, ◌^◌, map, length, drop, ◌==◌, ◌&&◌, ◌||◌, IfOk, IfErr, IsOk, IsErrOf, IsTrue, ◌↔◌, Some, None, Option, option_map};
+ghost use Rattle.std.specs.Prelude.{◌≡◌, ℕ, List, [], ◌∷◌, ◌-◌, ◌<◌, ◌≤◌, ◌^◌, map, length, drop, ◌==◌, ◌&&◌, ◌||◌, IfOk, IfErr, IsOk, IsErrOf, IsTrue, ◌↔◌, Some, None, Option, option_map};
+ghost use Rattle.std.specs.List.{range_with_len};
 ghost use Rattle.tree_json.specs.View.{view};
 ghost use Rattle.mapping.specs.IsMapping.{IsMapping};
 ghost use Rattle.mapping.specs.Mapping.{Mapping, mapping_of, field_at, relation_at, kind_at, home_of, around_of, field_named, scope_named, relation_named, scope_field_of, reaches, included};
@@ -175,10 +176,12 @@ impl Mapping {
     }
 
     /// How many scopes there are, the root among them. What `is_mapping` says holds of every mapping that was read:
-    /// proofs about scopes and objects ask for it, and find it here.
+    /// proofs about scopes and objects ask for it, and find it here. A mapping of one body has its nested paths numbered
+    /// in byte order, which is what `by_number` says.
     pub fn scope_count(&self) -> u32
         ensures count { result ≡ length self.now.scopes }
         ensures is_mapping { IsMapping self.now }
+        ensures by_number { self.now.order ≡ range_with_len 1 (length self.now.scopes - 1) }
     {
         self.paths.len() as u32
     }

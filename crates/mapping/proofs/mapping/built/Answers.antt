@@ -8,7 +8,7 @@ use Rattle.mapping.specs.Outline.{made_of}
 use Rattle.mapping.specs.Stored.{field_of, scope_seen, scope_parts}
 use Rattle.mapping.proofs.Puts.{ascending_none}
 use Rattle.mapping.proofs.Single.{drafts_single, scopes_paths, fields_paths, made_paths, fields_by_paths, nested_ascend, drop_first}
-use Rattle.mapping.proofs.BelowRoot.{founded, kept}
+use Rattle.mapping.proofs.OfBody.{founded, founded_order, kept}
 use Rattle.mapping.proofs.mapping.built.Goals as goal
 
 pub draft_below-requires : goal.draft_below-requires
@@ -35,6 +35,7 @@ invariant_of-result c =
     sym (length-map c.in_ok-fields.fields.items (λ f. f.path.items)) ∙ sym (ap length names) ∙ length-map c.draft_below.new.found.items (λ d. d.path.items) in
     rw c.in_ok-body.ensures (kept (view c.args.body.now) c.in_ok-fields.fields.items c.in_ok-paths.paths.items c.in_ok-scopes.scopes.items c.args.relations.items
     (founded (view c.args.body.now) c.requires.accepted)
+    (founded_order (view c.args.body.now) c.requires.accepted)
     fields
     (paths ∙ sym (scopes_paths (drafts_from 1 [] (view c.args.body.now ∷ []))))
     scopes

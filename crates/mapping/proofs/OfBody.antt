@@ -1,7 +1,7 @@
--- The properties of a body that has the form of a mapping lie below the root: none has the empty path.
-use Rattle.std.proofs.Common.{◌≡◌, ℕ, List as Seq, [], ◌∷◌, ◌++◌, map, length, drop, ◌<◌, ◌^◌, refl, sym, subst, true, false, ◌||◌, codes, Some, None, bytes_eq, inl, inr, ◌==◌}
+-- The mapping of a body that no refusal holds for: its properties lie below the root, and it has what `IsMapping` asks.
+use Rattle.std.proofs.Common.{arith, ◌-◌, ◌≡◌, ℕ, List as Seq, [], ◌∷◌, ◌++◌, map, length, drop, ◌<◌, ◌^◌, refl, sym, subst, true, false, ◌||◌, codes, Some, None, bytes_eq, inl, inr, ◌==◌}
 use Rattle.std.proofs.lemmas.Bool.{false≢true, or_cases, eqb-true}
-use Rattle.std.specs.List.{list_all}
+use Rattle.std.specs.List.{list_all, range_with_len}
 use Rattle.tree_json.specs.Value.{JsonValue, null, bool, whole, text, list, object, Members, no_members, member}
 use Rattle.mapping.specs.declared.refusal.MappingRefusal.TheVariants.{BadRequest}
 use Rattle.mapping.specs.declared.scope.Field.{Field as Kept}
@@ -24,7 +24,7 @@ use Rattle.mapping.proofs.Ties.{drafts_tied}
 use Rattle.mapping.proofs.Walks.{split}
 use Rattle.mapping.proofs.Above.{both}
 use Rattle.mapping.proofs.Nearest.{AreFirst, AreBelowRoot}
-use Rattle.mapping.proofs.Founded.{is_mapping}
+use Rattle.mapping.proofs.Founded.{is_mapping, by_number as by_number_of}
 
 accepted_body : (v : JsonValue) → first_refusal v ≡ None → is_body v ≡ true
 unfolding first_refusal
@@ -169,15 +169,19 @@ drafts_ascend v =
 
 pub founded : (v : JsonValue) → first_refusal v ≡ None → IsMapping (mapping_of (v ∷ []))
 unfolding mapping_of
-founded v accepted = is_mapping (v ∷ []) (drafts_from 1 [] (v ∷ [])) (drafts_ascend v) (drafts_below_root v (accepted_body v accepted)) (drafts_first v)
+founded v accepted = is_mapping (v ∷ []) (drafts_from 1 [] (v ∷ [])) (drafts_ascend v) (drafts_below_root v (accepted_body v accepted)) (drafts_first v) (omega arith)
 
-pub kept : (v : JsonValue) (fs : Seq Kept) (ps : Seq ScopePath) (ss : Seq Part) (rs : Seq Tied) → IsMapping (mapping_of (v ∷ []))
+pub founded_order : (v : JsonValue) → first_refusal v ≡ None → (mapping_of (v ∷ [])).order ≡ range_with_len 1 (length (mapping_of (v ∷ [])).scopes - 1)
+unfolding mapping_of
+founded_order v accepted = by_number_of (v ∷ []) (drafts_from 1 [] (v ∷ [])) (drafts_ascend v) (drafts_below_root v (accepted_body v accepted)) (drafts_first v) (omega arith)
+
+pub kept : (v : JsonValue) (fs : Seq Kept) (ps : Seq ScopePath) (ss : Seq Part) (rs : Seq Tied) → IsMapping (mapping_of (v ∷ [])) → (mapping_of (v ∷ [])).order ≡ range_with_len 1 (length (mapping_of (v ∷ [])).scopes - 1)
     → map field_of fs ≡ fields_by (drafts_from 1 [] (v ∷ [])) → map (λ p. p.bytes.items) ps ≡ map (λ s. s.path) (scopes_by (drafts_from 1 [] (v ∷ [])))
     → map scope_seen ss ≡ map scope_parts (scopes_by (drafts_from 1 [] (v ∷ []))) → map relation_of rs ≡ relations_of (v ∷ [])
     → AreAscending (map (λ f. f.path.items) fs) → AreAscending (map (λ p. p.bytes.items) (drop 1 ps)) → AreAscending (map (λ r. r.name.items) rs)
     → length fs < 2 ^ 32 → length ps < 2 ^ 32 → length rs < 2 ^ 32 → IsKept (mapping_of (v ∷ [])) fs ps ss rs
 unfolding mapping_of
-kept v fs ps ss rs is fields paths scopes relations fields_ascend nested_ascend relations_ascend few_fields few_scopes few_relations = record {
+kept v fs ps ss rs is by_number fields paths scopes relations fields_ascend nested_ascend relations_ascend few_fields few_scopes few_relations = record {
   fields = fields;
   paths = paths;
   scopes = scopes;
@@ -189,4 +193,5 @@ kept v fs ps ss rs is fields paths scopes relations fields_ascend nested_ascend 
   few_scopes = few_scopes;
   few_relations = few_relations;
   is_mapping = is;
+  by_number = by_number;
 }
