@@ -7,3 +7,11 @@ pub mod Ties
 pub mod Single
 pub mod Numerals
 pub mod LookUps
+pub mod Above
+pub mod Nearest
+pub mod Founded
+pub mod OfBody
+pub mod Order
+pub mod Ways
+pub mod Inside
+pub mod Places

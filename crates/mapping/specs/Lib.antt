@@ -3,11 +3,13 @@ pub mod Names
 pub mod Body
 pub mod Relations
 pub mod Mapping
+pub mod IsMapping
 pub mod Outline
 pub mod Refusal
 pub mod Code
 pub mod Seen
 pub mod Stored
 pub mod Object
+pub mod Enclosing
 pub mod Values
 pub mod Fault

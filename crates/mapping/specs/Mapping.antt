@@ -1,5 +1,5 @@
 -- What the bodies of a mapping say together: numbered fields, scopes and relations.
-use Rattle.std.specs.Prelude.{ℕ, zero, suc, ◌+◌, ◌-◌, ◌≡◌, ◌==◌, Bool, true, false, ◌&&◌, ◌||◌, not, if◌then◌else◌, nat_le, List, [], ◌∷◌, ◌++◌, length, map, filter, codes, Option, Some, None, is_some, get_or}
+use Rattle.std.specs.Prelude.{ℕ, zero, suc, ◌+◌, ◌-◌, ◌≡◌, ◌==◌, Bool, true, false, ◌&&◌, ◌||◌, not, if◌then◌else◌, nat_le, nat_lt, List, [], ◌∷◌, ◌++◌, length, map, filter, codes, Option, Some, None, is_some, get_or}
 use Rattle.std.specs.List.{range_with_len}
 use Rattle.tree_json.specs.Value.{JsonValue}
 use Rattle.mapping.specs.declared.kind.Kind.{Kind}
@@ -182,7 +182,7 @@ names_to m f = names_between (scope_at m (home_of m f)).path (field_at m f).path
 
 -- scope a lies above scope b: the names of a are a proper prefix of the names of b
 abbrev pub is_above : Mapping → ℕ → ℕ → Bool
-is_above m a b = lies_above (scope_at m a).path (scope_at m b).path
+is_above m a b = nat_lt a (length m.scopes) && lies_above (scope_at m a).path (scope_at m b).path
 
 abbrev pub IsAbove : Mapping → ℕ → ℕ → Type 0
 IsAbove m a b = is_above m a b ≡ true

@@ -27,6 +27,7 @@ abbrev mutual
 
   pub items_in : Elements → List (List ℕ) → List JsonValue
   items_in no_elements names = []
+  -- a list within a list is walked as its elements are
   items_in (element d ds) names = items d names ++ items_in ds names
 
   pub items_at : Members → List ℕ → List (List ℕ) → List JsonValue

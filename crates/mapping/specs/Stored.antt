@@ -1,10 +1,12 @@
 -- What a mapping keeps beside its body, as the definitions see it.
-use Rattle.std.specs.Prelude.{◌≡◌, ℕ, zero, suc, ◌<◌, ◌^◌, ◌==◌, Bool, false, ◌&&◌, ◌||◌, get_or, if◌then◌else◌, List, [], ◌∷◌, length, map, drop}
+use Rattle.std.specs.Prelude.{◌≡◌, ℕ, zero, suc, ◌-◌, ◌<◌, ◌^◌, ◌==◌, Bool, false, ◌&&◌, ◌||◌, get_or, if◌then◌else◌, List, [], ◌∷◌, length, map, drop}
+use Rattle.std.specs.List.{range_with_len}
 use Rattle.mapping.specs.declared.scope.Field.{Field as Kept}
 use Rattle.mapping.specs.declared.scope.Scope.{Scope as Part}
 use Rattle.mapping.specs.declared.scope.ScopePath.{ScopePath}
 use Rattle.mapping.specs.declared.relation.Relation.{Relation as Tied}
 use Rattle.mapping.specs.Body.{is_nested}
+use Rattle.mapping.specs.IsMapping.{IsMapping}
 use Rattle.mapping.specs.Mapping.{Draft, Field, Scope, Mapping, nearest}
 use Rattle.mapping.specs.Names.{AreAscending}
 use Rattle.mapping.specs.Seen.{relation_of}
@@ -34,7 +36,7 @@ nested_scope paths d =
     then record { around = nearest paths d.path; in_parent = d.in_parent; in_root = d.in_root } ∷ []
     else []
 
--- what is kept beside the body is what the mapping of the body says
+-- what is kept beside the body is what the mapping of the body says, and that is a mapping
 pub record IsKept (m : Mapping) (fs : List Kept) (ps : List ScopePath) (ss : List Part) (rs : List Tied) : Type 0 where
   pub fields : map field_of fs ≡ m.fields
   pub paths : map (λ p. p.bytes.items) ps ≡ map (λ s. s.path) m.scopes
@@ -46,6 +48,8 @@ pub record IsKept (m : Mapping) (fs : List Kept) (ps : List ScopePath) (ss : Lis
   pub few_fields : length fs < 2 ^ 32
   pub few_scopes : length ps < 2 ^ 32
   pub few_relations : length rs < 2 ^ 32
+  pub is_mapping : IsMapping m
+  pub by_number : m.order ≡ range_with_len 1 (length m.scopes - 1)
 
 -- ---- how far values are included, said of the kept parts
 

@@ -1,6 +1,8 @@
 //! A mapping, read from a body, and its look-ups.
-ghost use Rattle.std.specs.Prelude.{◌≡◌, ℕ, List, [], ◌∷◌, ◌<◌, ◌≤◌, ◌^◌, map, length, drop, ◌==◌, ◌&&◌, ◌||◌, IfOk, IfErr, IsOk, IsErrOf, IsTrue, ◌↔◌, Some, None, Option, option_map};
+ghost use Rattle.std.specs.Prelude.{◌≡◌, ℕ, List, [], ◌∷◌, ◌-◌, ◌<◌, ◌≤◌, ◌^◌, map, length, drop, ◌==◌, ◌&&◌, ◌||◌, IfOk, IfErr, IsOk, IsErrOf, IsTrue, ◌↔◌, Some, None, Option, option_map};
+ghost use Rattle.std.specs.List.{range_with_len};
 ghost use Rattle.tree_json.specs.View.{view};
+ghost use Rattle.mapping.specs.IsMapping.{IsMapping};
 ghost use Rattle.mapping.specs.Mapping.{Mapping, mapping_of, field_at, relation_at, kind_at, home_of, around_of, field_named, scope_named, relation_named, scope_field_of, reaches, included};
 ghost use Rattle.mapping.specs.Names.{AreAscending, place_of};
 ghost use Rattle.mapping.specs.Refusal.{first_refusal, IsFirst};
@@ -52,6 +54,7 @@ impl Mapping {
     /// first that holds is the answer.
     pub fn read(alloc: Global, body: &Json) -> Result<Mapping, MappingRefusal>
         ensures mapping { IfOk result (λ m. m ≡ mapping_of (view body.now ∷ [])) }
+        ensures is_mapping { IfOk result IsMapping }
         ensures accepted { IsOk result → first_refusal (view body.now) ≡ None }
         ensures bad_request { IsErrOf result MappingRefusal.BadRequest → first_refusal (view body.now) ≡ Some MappingRefusal.BadRequest }
         ensures too_many_fields { IsErrOf result MappingRefusal.TooManyFields → first_refusal (view body.now) ≡ Some MappingRefusal.TooManyFields }
@@ -172,9 +175,13 @@ impl Mapping {
         self.fields.len() as u32
     }
 
-    /// How many scopes there are, the root among them.
+    /// How many scopes there are, the root among them. What `is_mapping` says holds of every mapping that was read:
+    /// proofs about scopes and objects ask for it, and find it here. A mapping of one body has its nested paths numbered
+    /// in byte order, which is what `by_number` says.
     pub fn scope_count(&self) -> u32
-        ensures { result ≡ length self.now.scopes }
+        ensures count { result ≡ length self.now.scopes }
+        ensures is_mapping { IsMapping self.now }
+        ensures by_number { self.now.order ≡ range_with_len 1 (length self.now.scopes - 1) }
     {
         self.paths.len() as u32
     }
@@ -262,6 +269,7 @@ fn judged_relations(alloc: Global, body: &Json) -> Result<Vec<Relation>, Mapping
 
 /// The mapping of a body, with its relations.
 fn built(alloc: Global, body: &Json, relations: Vec<Relation>) -> Result<Mapping, NoMemory>
+    requires accepted { first_refusal (view body.now) ≡ None }
     requires relations { map relation_of relations.items ≡ relations_in (view body.now ∷ []) }
     requires ascending { AreAscending (map (λ r. r.name.items) relations.items) }
     ensures { IfOk result (λ m. m ≡ mapping_of (view body.now ∷ [])) }
