@@ -1,4 +1,5 @@
 pub mod Examples
+pub mod Orders
 pub mod Ranks
 pub mod Puts
 pub mod Pairs
@@ -7,3 +8,5 @@ pub mod Ties
 pub mod Single
 pub mod Numerals
 pub mod LookUps
+pub mod Fields
+pub mod Terms

@@ -6,6 +6,7 @@ mod convert;
 mod copy;
 mod fault;
 mod field_value;
+mod join;
 mod judge;
 mod kind;
 mod mapping;
@@ -18,7 +19,7 @@ mod scope;
 mod tests;
 
 pub use convert::value_of;
-pub use fault::Fault;
+pub use fault::{Fault, first_fault};
 pub use field_value::{Bytes, FieldValue};
 pub use kind::Kind;
 pub use mapping::Mapping;

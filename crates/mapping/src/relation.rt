@@ -10,7 +10,7 @@ ghost use Rattle.mapping.specs.Seen.{pair_of, relation_of};
 
 use crate::body::{kind_of, member_named};
 use crate::kind::Kind;
-use crate::names::{Named, place_of, put};
+use crate::names::{Named, Whole, place_of, put};
 use crate::property::Outline;
 use crate::refusal::NoMemory;
 use std::alloc::Global;
@@ -144,7 +144,7 @@ fn parent_number(pairs: &[Pair<'_>], names: &[RelationName<'_>], name: &[u8]) ->
 {
     'pairs: for pair in pairs {
         if pair.child == name {
-            return place_of(names, pair.parent);
+            return place_of(names, &Whole { name: pair.parent });
         }
     }
     None
