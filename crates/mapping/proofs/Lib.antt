@@ -2,6 +2,9 @@ pub mod Examples
 pub mod Orders
 pub mod Ranks
 pub mod Puts
+pub mod Merges
+pub mod Parents
+pub mod Climbs
 pub mod Pairs
 pub mod Walks
 pub mod Ties

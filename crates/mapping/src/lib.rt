@@ -11,6 +11,7 @@ mod judge;
 mod kind;
 mod mapping;
 mod names;
+mod order;
 mod property;
 mod refusal;
 mod relation;

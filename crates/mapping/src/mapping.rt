@@ -269,11 +269,12 @@ fn judged_relations(alloc: Global, body: &Json) -> Result<Vec<Relation>, Mapping
     let pairs = pairs_of(alloc, outlines.as_slice())?;
     let relations = relations_of(alloc, pairs.as_slice())?;
     if let Some(refusal) = refusal_of_rest(
+        alloc,
         body,
         outlines.as_slice(),
         pairs.as_slice(),
         relations.as_slice(),
-    ) {
+    )? {
         return Err(refusal);
     }
     Ok(relations)
