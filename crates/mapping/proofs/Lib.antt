@@ -1,6 +1,10 @@
 pub mod Examples
+pub mod Orders
 pub mod Ranks
 pub mod Puts
+pub mod Merges
+pub mod Parents
+pub mod Climbs
 pub mod Pairs
 pub mod Walks
 pub mod Ties
@@ -15,3 +19,5 @@ pub mod Order
 pub mod Ways
 pub mod Inside
 pub mod Places
+pub mod Fields
+pub mod Terms

@@ -66,7 +66,7 @@ put_after name k x (z ∷ items) less all =
     (λ equal. rw equal all)
     (λ greater. rw greater (less, all))
 
-all_beyond : (k n : List ℕ) (names : List (List ℕ)) → compared n k ≡ Less → AllAfter k names → AllAfter n names
+pub all_beyond : (k n : List ℕ) (names : List (List ℕ)) → compared n k ≡ Less → AllAfter k names → AllAfter n names
 all_beyond k n [] less all = tt
 all_beyond k n (y ∷ names) less all = (nat_list_cmp_total.trans n k y less all.0, all_beyond k n names less all.1)
 

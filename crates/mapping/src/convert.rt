@@ -75,7 +75,7 @@ fn decimal(alloc: Global, number: i64) -> Result<Bytes, NoMemory>
     }
 }
 
-fn long_of(value: &Json) -> Option<i64>
+pub(crate) fn long_of(value: &Json) -> Option<i64>
     ensures { option_map (λ z. FieldValue.Number z) result ≡ long_of (view value.now) }
 {
     match value {
@@ -85,7 +85,7 @@ fn long_of(value: &Json) -> Option<i64>
     }
 }
 
-fn boolean_of(value: &Json) -> Option<i64>
+pub(crate) fn boolean_of(value: &Json) -> Option<i64>
     ensures { option_map (λ z. FieldValue.Number z) result ≡ boolean_of (view value.now) }
 {
     match value {
@@ -110,7 +110,7 @@ fn bool_number_written(text: &[u8]) -> Option<i64>
     }
 }
 
-fn date_of(value: &Json) -> Option<i64>
+pub(crate) fn date_of(value: &Json) -> Option<i64>
     ensures { option_map (λ z. FieldValue.Number z) result ≡ date_of (view value.now) }
 {
     match value {

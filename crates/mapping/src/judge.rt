@@ -1,5 +1,5 @@
 //! What is refused of a body.
-ghost use Rattle.std.specs.Prelude.{◌≡◌, ℕ, List, map, length, min, nat_lt, ◌&&◌, ◌||◌, ◌∷◌, [], codes};
+ghost use Rattle.std.specs.Prelude.{◌≡◌, ℕ, List, map, length, min, nat_lt, ◌&&◌, ◌||◌, ◌∷◌, [], codes, IfOk};
 ghost use Rattle.std.specs.List.{list_any, list_all, count_by};
 ghost use Rattle.tree_json.specs.Value.{object, members_of};
 ghost use Rattle.tree_json.specs.View.{view, entries};
@@ -12,8 +12,9 @@ ghost use Rattle.mapping.specs.Seen.{pair_of, relation_of};
 use crate::body::{is_body_alone, is_property, kind_of, member_named};
 use crate::kind::Kind;
 use crate::property::Outline;
-use crate::refusal::MappingRefusal;
+use crate::refusal::{MappingRefusal, NoMemory};
 use crate::relation::{Pair, Relation, has_two_parents, turns_back};
+use std::alloc::Global;
 use tree_json::{Json, JsonText, compact_len};
 
 const MOST_FIELDS: usize = 1_000;
@@ -136,38 +137,51 @@ pub(crate) fn refusal_of_forms(body: &Json, outlines: &[Outline<'_>]) -> Option<
 
 /// Whether the join fields or their relations are bad.
 fn has_bad_relations(
+    alloc: Global,
     body: &Json,
     outlines: &[Outline<'_>],
     pairs: &[Pair<'_>],
     relations: &[Relation],
-) -> bool
+) -> Result<bool, NoMemory>
     requires outlines { map outline_of outlines.now ≡ outlines_below 0 (view body.now) }
     requires pairs { map pair_of pairs.now ≡ pairs_of (view body.now) }
     requires relations { map relation_of relations.now ≡ relations_of (view body.now ∷ []) }
-    ensures { result ≡ has_bad_relations (view body.now) }
+    ensures { IfOk result (λ bad. bad ≡ has_bad_relations (view body.now)) }
 {
-    join_count(outlines) > 1
-        || (has_deep_join(outlines)
-            || (has_empty_join(outlines) || (has_two_parents(pairs) || turns_back(relations))))
+    if join_count(outlines) > 1 {
+        return Ok(true);
+    }
+    if has_deep_join(outlines) {
+        return Ok(true);
+    }
+    if has_empty_join(outlines) {
+        return Ok(true);
+    }
+    let two_parents = has_two_parents(alloc, pairs)?;
+    if two_parents {
+        return Ok(true);
+    }
+    Ok(turns_back(alloc, relations)?)
 }
 
 /// The first refusal of those that are looked for after the forms.
 pub(crate) fn refusal_of_rest(
+    alloc: Global,
     body: &Json,
     outlines: &[Outline<'_>],
     pairs: &[Pair<'_>],
     relations: &[Relation],
-) -> Option<MappingRefusal>
+) -> Result<Option<MappingRefusal>, NoMemory>
     requires outlines { map outline_of outlines.now ≡ outlines_below 0 (view body.now) }
     requires pairs { map pair_of pairs.now ≡ pairs_of (view body.now) }
     requires relations { map relation_of relations.now ≡ relations_of (view body.now ∷ []) }
-    ensures { result ≡ refusal_of_rest (view body.now) }
+    ensures { IfOk result (λ refusal. refusal ≡ refusal_of_rest (view body.now)) }
 {
-    if has_bad_relations(body, outlines, pairs, relations) {
-        Some(MappingRefusal::BadRelations)
+    if has_bad_relations(alloc, body, outlines, pairs, relations)? {
+        Ok(Some(MappingRefusal::BadRelations))
     } else if compact_len(body) > MOST_BYTES {
-        Some(MappingRefusal::TooLarge)
+        Ok(Some(MappingRefusal::TooLarge))
     } else {
-        None
+        Ok(None)
     }
 }

@@ -1,10 +1,11 @@
 //! A mapping, read from a body, and its look-ups.
-ghost use Rattle.std.specs.Prelude.{◌≡◌, ℕ, List, [], ◌∷◌, ◌-◌, ◌<◌, ◌≤◌, ◌^◌, map, length, drop, ◌==◌, ◌&&◌, ◌||◌, IfOk, IfErr, IsOk, IsErrOf, IsTrue, ◌↔◌, Some, None, Option, option_map};
+ghost use Rattle.std.specs.Prelude.{◌≡◌, ℕ, List, [], ◌∷◌, ◌-◌, ◌<◌, ◌≤◌, ◌^◌, map, length, drop, ◌==◌, ◌&&◌, ◌||◌, IfOk, IfErr, IfSome, IsOk, IsErrOf, IsTrue, ◌↔◌, Some, None, Option, option_map};
 ghost use Rattle.std.specs.List.{range_with_len};
 ghost use Rattle.tree_json.specs.View.{view};
 ghost use Rattle.mapping.specs.IsMapping.{IsMapping};
 ghost use Rattle.mapping.specs.Mapping.{Mapping, mapping_of, field_at, relation_at, kind_at, home_of, around_of, field_named, scope_named, relation_named, scope_field_of, reaches, included};
-ghost use Rattle.mapping.specs.Names.{AreAscending, place_of};
+ghost use Rattle.mapping.specs.Fault.{field_below};
+ghost use Rattle.mapping.specs.Names.{AreAscending, joined, place_of};
 ghost use Rattle.mapping.specs.Refusal.{first_refusal, IsFirst};
 ghost use Rattle.mapping.specs.Relations.{relations_of as relations_in};
 ghost use Rattle.mapping.specs.Seen.{relation_of};
@@ -14,7 +15,7 @@ use crate::body::index_of;
 use crate::copy::copied;
 use crate::judge::{refusal_of_forms, refusal_of_rest};
 use crate::kind::Kind;
-use crate::names::number_of;
+use crate::names::{Below, Whole, has_dot, number_of};
 use crate::property::{draft_below, outline_below};
 use crate::refusal::{MappingRefusal, NoMemory};
 use crate::relation::{Relation, pairs_of, relations_of};
@@ -69,9 +70,23 @@ impl Mapping {
 
     /// The number of the field at a path, whose names are joined by dots.
     pub fn field(&self, path: &[u8]) -> Option<u32>
-        ensures { result ≡ field_named self.now path.now }
+        ensures number { result ≡ field_named self.now path.now }
+        ensures bound { IfSome result (λ field. field < length self.now.fields) }
     {
-        number_of(self.fields.as_slice(), path)
+        number_of(self.fields.as_slice(), &Whole { name: path })
+    }
+
+    /// The field of a name below the path of a field, or below the root's, which is empty. A name with a dot has none.
+    pub(crate) fn field_below(&self, path: &[u8], name: &[u8]) -> Option<u32>
+        ensures field { result ≡ field_below self.now path.now name.now }
+        ensures bound { IfSome result (λ field. field < length self.now.fields) }
+        ensures path { IfSome result (λ field. (field_at self.now field).path ≡ joined path.now name.now) }
+    {
+        if has_dot(name) {
+            None
+        } else {
+            number_of(self.fields.as_slice(), &Below { path, name })
+        }
     }
 
     pub fn kind(&self, field: u32) -> Kind
@@ -99,7 +114,8 @@ impl Mapping {
 
     /// The number of the scope at a path; the empty path is the root's, which is 0.
     pub fn scope(&self, path: &[u8]) -> Option<u32>
-        ensures { result ≡ scope_named self.now path.now }
+        ensures number { result ≡ scope_named self.now path.now }
+        ensures bound { IfSome result (λ scope. scope < length self.now.scopes) }
     {
         scope_number(self.paths.as_slice(), path)
     }
@@ -126,7 +142,9 @@ impl Mapping {
         } else {
             number_of(
                 self.fields.as_slice(),
-                self.paths[scope as usize].bytes.as_slice(),
+                &Whole {
+                    name: self.paths[scope as usize].bytes.as_slice(),
+                },
             )
         }
     }
@@ -143,9 +161,10 @@ impl Mapping {
 
     /// The number of a relation, by its name.
     pub fn relation(&self, name: &[u8]) -> Option<u32>
-        ensures { result ≡ relation_named self.now name.now }
+        ensures number { result ≡ relation_named self.now name.now }
+        ensures bound { IfSome result (λ relation. relation < length self.now.relations) }
     {
-        number_of(self.relations.as_slice(), name)
+        number_of(self.relations.as_slice(), &Whole { name })
     }
 
     /// The relation that is the parent of a relation, and none for a root relation.
@@ -199,7 +218,7 @@ fn scope_number(paths: &[ScopePath], path: &[u8]) -> Option<u32>
     if paths[0].bytes.as_slice() == path {
         return Some(0);
     }
-    match number_of(paths.split_at(1).1, path) {
+    match number_of(paths.split_at(1).1, &Whole { name: path }) {
         Some(number) => Some(number + 1),
         None => None,
     }
@@ -257,11 +276,12 @@ fn judged_relations(alloc: Global, body: &Json) -> Result<Vec<Relation>, Mapping
     let pairs = pairs_of(alloc, outlines.as_slice())?;
     let relations = relations_of(alloc, pairs.as_slice())?;
     if let Some(refusal) = refusal_of_rest(
+        alloc,
         body,
         outlines.as_slice(),
         pairs.as_slice(),
         relations.as_slice(),
-    ) {
+    )? {
         return Err(refusal);
     }
     Ok(relations)

@@ -1,9 +1,12 @@
 //! Names in byte order, and the paths that names make.
-ghost use Rattle.std.specs.Prelude.{◌≡◌, ℕ, List, ◌<◌, ◌≤◌, ◌^◌, length, map, codes, IfOk, OnOk, IfSome, ◌||◌};
-ghost use Rattle.mapping.specs.Names.{AreAscending, rank, joined, lies_above, goes_on, has_dot, is_name, is_property_name, place_of, put};
+ghost use Rattle.std.specs.Prelude.{◌≡◌, ℕ, List, ◌<◌, ◌≤◌, ◌^◌, ◌++◌, ◌∷◌, length, map, codes, IfOk, OnOk, IfSome, ◌||◌};
+ghost use Rattle.std.specs.Cmp.Lexicographic.{slice_cmp};
+ghost use Rattle.std.specs.Ordering.{nat_cmp};
+ghost use Rattle.mapping.specs.Names.{AreAscending, rank, dot, joined, lies_above, goes_on, has_dot, is_name, is_property_name, place_of, put};
 
 use crate::refusal::NoMemory;
 use std::alloc::Global;
+use std::cmp::Ordering;
 
 const DOT: u8 = b'.';
 
@@ -15,17 +18,84 @@ pub(crate) trait Named {
         ensures { result.now ≡ name self.now };
 }
 
-/// How many items at the front have a name before this one. It takes about log2 of their number comparisons.
+/// A name that is looked for among items.
+pub(crate) trait Sought {
+    ghost sought: { Self → List ℕ };
+
+    /// How another name stands to this one in byte order.
+    fn order_of(&self, other: &[u8]) -> Ordering
+        ensures { result ≡ slice_cmp nat_cmp other.now (sought self.now) };
+}
+
+/// A name that is looked for as it is.
+#[derive(Clone, Copy)]
+pub(crate) struct Whole<'a> {
+    pub name: &'a [u8],
+}
+
+impl Sought for Whole<'_> {
+    ghost sought = { λ s. s.name.now };
+
+    fn order_of(&self, other: &[u8]) -> Ordering {
+        other.cmp(self.name)
+    }
+}
+
+/// The path of a name below a path, looked for without being joined.
+#[derive(Clone, Copy)]
+pub(crate) struct Below<'a> {
+    pub path: &'a [u8],
+    pub name: &'a [u8],
+}
+
+impl Sought for Below<'_> {
+    ghost use Rattle.mapping.specs.Names.{joined};
+
+    ghost sought = { λ s. joined s.path.now s.name.now };
+
+    fn order_of(&self, other: &[u8]) -> Ordering {
+        if self.path.is_empty() {
+            other.cmp(self.name)
+        } else {
+            order_below(other, self.path, self.name)
+        }
+    }
+}
+
+/// How a path stands to a name below another path, in byte order.
+#[tactic(auto, using(crate::proofs::Orders::orders))]
+fn order_below(other: &[u8], path: &[u8], name: &[u8]) -> Ordering
+    ensures { result ≡ slice_cmp nat_cmp other.now (path.now ++ (dot ∷ name.now)) }
+{
+    if other.len() <= path.len() {
+        other.cmp(path.split_at(other.len()).0).then(Ordering::Less)
+    } else {
+        let (front, back) = other.split_at(path.len());
+        front.cmp(path).then(order_behind(back, name))
+    }
+}
+
+/// How the rest of a path stands to a dot and a name, in byte order.
+fn order_behind(rest: &[u8], name: &[u8]) -> Ordering
+    ensures { result ≡ slice_cmp nat_cmp rest.now (dot ∷ name.now) }
+{
+    match rest {
+        [] => Ordering::Less,
+        [byte, more @ ..] => byte.cmp(&DOT).then(more.cmp(name)),
+    }
+}
+
+/// How many items at the front have a name before the one looked for. It takes about log2 of their number comparisons.
 #[tactic(auto, using(crate::proofs::Ranks::ranks))]
-pub(crate) fn rank_of<T: Named>(items: &[T], name: &[u8]) -> usize
+pub(crate) fn rank_of<T: Named, S: Sought>(items: &[T], sought: &S) -> usize
     requires { AreAscending (map T.name items.now) }
-    ensures { result ≡ rank name.now (map T.name items.now) }
+    ensures { result ≡ rank (S.sought sought.now) (map T.name items.now) }
 {
     let mut low = 0;
     let mut left = items;
     'halves: while !left.is_empty() {
         let middle = left.len() / 2;
-        if left[middle].name().cmp(name).is_lt() {
+        if sought.order_of(left[middle].name()).is_lt() {
             low += middle + 1;
             left = left.split_at(middle + 1).1;
         } else {
@@ -36,13 +106,13 @@ pub(crate) fn rank_of<T: Named>(items: &[T], name: &[u8]) -> usize
 }
 
 /// The place of a name.
-pub(crate) fn place_of<T: Named>(items: &[T], name: &[u8]) -> Option<usize>
+pub(crate) fn place_of<T: Named, S: Sought>(items: &[T], sought: &S) -> Option<usize>
     requires { AreAscending (map T.name items.now) }
-    ensures place { result ≡ place_of name.now (map T.name items.now) }
+    ensures place { result ≡ place_of (S.sought sought.now) (map T.name items.now) }
     ensures bound { IfSome result (λ place. place < length items.now) }
 {
-    let place = rank_of(items, name);
-    if place < items.len() && items[place].name() == name {
+    let place = rank_of(items, sought);
+    if place < items.len() && sought.order_of(items[place].name()).is_eq() {
         Some(place)
     } else {
         None
@@ -50,13 +120,13 @@ pub(crate) fn place_of<T: Named>(items: &[T], name: &[u8]) -> Option<usize>
 }
 
 /// The place of a name, as a number of 32 bits.
-pub(crate) fn number_of<T: Named>(items: &[T], name: &[u8]) -> Option<u32>
+pub(crate) fn number_of<T: Named, S: Sought>(items: &[T], sought: &S) -> Option<u32>
     requires ascending { AreAscending (map T.name items.now) }
     requires short { length items.now < 2 ^ 32 }
-    ensures place { result ≡ place_of name.now (map T.name items.now) }
+    ensures place { result ≡ place_of (S.sought sought.now) (map T.name items.now) }
     ensures bound { IfSome result (λ number. number < length items.now) }
 {
-    match place_of(items, name) {
+    match place_of(items, sought) {
         Some(place) => Some(place as u32),
         None => None,
     }
@@ -68,7 +138,7 @@ pub(crate) fn put<T: Named + Drop>(items: &mut Vec<T>, item: T) -> Result<(), No
     ensures put { OnOk result (items.new.items ≡ put T.name item items.old.items) }
     ensures ascending { OnOk result (AreAscending (map T.name items.new.items)) }
 {
-    let place = rank_of(items.as_slice(), item.name());
+    let place = rank_of(items.as_slice(), &Whole { name: item.name() });
     if place < items.len() && items[place].name() == item.name() {
         return Ok(());
     }

@@ -3,21 +3,22 @@ ghost use Rattle.std.specs.Prelude.{◌≡◌, ℕ, List, ◌++◌, map, length,
 ghost use Rattle.tree_json.specs.Value.{members_of, elements_of};
 ghost use Rattle.tree_json.specs.View.{view, values, entries};
 ghost use Rattle.mapping.specs.Names.{AreAscending, in_byte_order, place_of};
-ghost use Rattle.std.specs.List.{flat_map};
+ghost use Rattle.std.specs.List.{flat_map, list_any};
 ghost use Rattle.mapping.specs.Outline.{outline_of, pairs_of_outlined};
 ghost use Rattle.mapping.specs.Relations.{pair_of_element, pairs_in_list, pairs_of_parent, pairs_in, pairs_of_form, names_in_pairs, parent_among, parent_of, is_other, climbed, turns_back, has_two_parents, relations_by, with_parent, first_added};
-ghost use Rattle.mapping.specs.Seen.{pair_of, relation_of};
+ghost use Rattle.mapping.specs.Seen.{pair_of, relation_of, told};
 
 use crate::body::{kind_of, member_named};
 use crate::kind::Kind;
-use crate::names::{Named, place_of, put};
+use crate::names::{Named, Whole, place_of};
+use crate::order::in_byte_order;
 use crate::property::Outline;
 use crate::refusal::NoMemory;
 use std::alloc::Global;
 use tree_json::{Json, JsonText};
 
 /// A parent's name with one child's.
-#[derive(Drop)]
+#[derive(Clone, Copy, Drop)]
 pub(crate) struct Pair<'a> {
     pub parent: &'a [u8],
     pub child: &'a [u8],
@@ -32,7 +33,7 @@ impl Named for Pair<'_> {
 }
 
 /// A name of a relation.
-#[derive(Drop)]
+#[derive(Clone, Copy, Drop)]
 pub(crate) struct RelationName<'a> {
     pub text: &'a [u8],
 }
@@ -131,46 +132,44 @@ fn names_in<'a>(alloc: Global, pairs: &[Pair<'a>]) -> Result<Vec<RelationName<'a
 {
     let mut names = Vec::new(alloc);
     'pairs: for pair in pairs {
-        put(&mut names, RelationName { text: pair.parent })?;
-        put(&mut names, RelationName { text: pair.child })?;
+        names.push(RelationName { text: pair.parent })?;
+        names.push(RelationName { text: pair.child })?;
     }
-    Ok(names)
+    Ok(in_byte_order(alloc, names.as_slice())?)
 }
 
-/// The number of a name's parent: the parent of the first pair that has the name as its child.
-fn parent_number(pairs: &[Pair<'_>], names: &[RelationName<'_>], name: &[u8]) -> Option<usize>
-    requires { AreAscending (map (λ n. n.text.now) names.now) }
-    ensures { result ≡ option_and_then (λ parent. place_of parent (map (λ n. n.text.now) names.now)) (parent_among (map pair_of pairs.now) name.now) }
+/// The parent of a name, among the first pairs of each child.
+fn parent_in<'a>(firsts: &[Pair<'a>], name: &[u8]) -> Option<&'a [u8]>
+    requires { AreAscending (map (λ p. p.child.now) firsts.now) }
+    ensures { option_map (λ parent. parent.now) result ≡ parent_among (map pair_of firsts.now) name.now }
 {
-    'pairs: for pair in pairs {
-        if pair.child == name {
-            return place_of(names, pair.parent);
-        }
+    match place_of(firsts, &Whole { name }) {
+        Some(place) => Some(firsts[place].parent),
+        None => None,
     }
-    None
 }
 
-/// Whether the first pair with the same child has another parent.
-fn has_other_parent(pairs: &[Pair<'_>], parent: &[u8], child: &[u8]) -> bool
-    ensures { result ≡ is_other (parent_among (map pair_of pairs.now) child.now) parent.now }
+/// The number of a name's parent.
+fn parent_number(firsts: &[Pair<'_>], names: &[RelationName<'_>], name: &[u8]) -> Option<usize>
+    requires firsts { AreAscending (map (λ p. p.child.now) firsts.now) }
+    requires names { AreAscending (map (λ n. n.text.now) names.now) }
+    ensures { result ≡ option_and_then (λ parent. place_of parent (map (λ n. n.text.now) names.now)) (parent_among (map pair_of firsts.now) name.now) }
 {
-    'pairs: for pair in pairs {
-        if pair.child == child {
-            return pair.parent != parent;
-        }
+    match parent_in(firsts, name) {
+        Some(parent) => place_of(names, &Whole { name: parent }),
+        None => None,
     }
-    false
 }
 
-/// The relation so many parents up.
-fn climbed(relations: &[Relation], from: Option<u32>) -> Option<u32>
-    ensures { result ≡ climbed (length relations.now) (map relation_of relations.now) from }
+/// Whether a child has another parent.
+fn has_other_parent(firsts: &[Pair<'_>], parent: &[u8], child: &[u8]) -> bool
+    requires { AreAscending (map (λ p. p.child.now) firsts.now) }
+    ensures { result ≡ is_other (parent_among (map pair_of firsts.now) child.now) parent.now }
 {
-    let mut at = from;
-    'steps: for _step in 0..relations.len() {
-        at = parent_of(relations, at);
+    match parent_in(firsts, child) {
+        Some(other) => other != parent,
+        None => false,
     }
-    at
 }
 
 fn parent_of(relations: &[Relation], at: Option<u32>) -> Option<u32>
@@ -182,28 +181,101 @@ fn parent_of(relations: &[Relation], at: Option<u32>) -> Option<u32>
     }
 }
 
-/// Whether some name is its own ancestor.
-pub(crate) fn turns_back(relations: &[Relation]) -> bool
-    ensures { result ≡ turns_back (map relation_of relations.now) }
+fn parents(alloc: Global, relations: &[Relation]) -> Result<Vec<Option<u32>>, NoMemory>
+    ensures { IfOk result (λ table. table.items ≡ map (λ r. r.parent) relations.now) }
 {
+    let mut table = Vec::with_capacity(alloc, relations.len())?;
     'relations: for relation in relations {
-        if climbed(relations, relation.parent).is_some() {
-            return true;
-        }
+        table.push(relation.parent)?;
     }
-    false
+    Ok(table)
+}
+
+/// What a table says of a relation.
+fn told(table: &[Option<u32>], at: Option<u32>) -> Option<u32>
+    ensures { result ≡ told table.now at }
+{
+    match table.get(at? as usize) {
+        Some(further) => *further,
+        None => None,
+    }
+}
+
+/// The table of one step more than two times the steps of a table.
+fn twice(alloc: Global, table: &[Option<u32>]) -> Result<Vec<Option<u32>>, NoMemory>
+    ensures { IfOk result (λ further. further.items ≡ map (told table.now) table.now) }
+{
+    let mut further = Vec::with_capacity(alloc, table.len())?;
+    'places: for at in table {
+        further.push(told(table, *at))?;
+    }
+    Ok(further)
+}
+
+/// The table of one step more.
+fn one_more(
+    alloc: Global,
+    relations: &[Relation],
+    table: &[Option<u32>],
+) -> Result<Vec<Option<u32>>, NoMemory>
+    ensures { IfOk result (λ further. further.items ≡ map (parent_of (map relation_of relations.now)) table.now) }
+{
+    let mut further = Vec::with_capacity(alloc, table.len())?;
+    'places: for at in table {
+        further.push(parent_of(relations, *at))?;
+    }
+    Ok(further)
+}
+
+/// For each relation the one that stands so many parents above its parent, found in about log2 of these steps tables.
+fn climbed(
+    alloc: Global,
+    relations: &[Relation],
+    steps: usize,
+) -> Result<Vec<Option<u32>>, NoMemory>
+    ensures { IfOk result (λ table. table.items ≡ map (λ r. climbed steps (map relation_of relations.now) r.parent) relations.now) }
+{
+    if steps == 0 {
+        return Ok(parents(alloc, relations)?);
+    }
+    let half = climbed(alloc, relations, (steps - 1) / 2)?;
+    let odd = twice(alloc, half.as_slice())?;
+    if steps % 2 == 1 {
+        Ok(odd)
+    } else {
+        Ok(one_more(alloc, relations, odd.as_slice())?)
+    }
+}
+
+/// Whether some name is its own ancestor.
+pub(crate) fn turns_back(alloc: Global, relations: &[Relation]) -> Result<bool, NoMemory>
+    ensures { IfOk result (λ turns. turns ≡ turns_back (map relation_of relations.now)) }
+{
+    let table = climbed(alloc, relations, relations.len())?;
+    Ok(tells_of_some(table.as_slice()))
+}
+
+fn tells_of_some(table: &[Option<u32>]) -> bool
+    ensures { result ≡ list_any is_some table.now }
+{
+    table.iter().any(|at| at.is_some())
 }
 
 /// Whether some name stands below two different names.
-pub(crate) fn has_two_parents(pairs: &[Pair<'_>]) -> bool
-    ensures { result ≡ has_two_parents (map pair_of pairs.now) }
+pub(crate) fn has_two_parents(alloc: Global, pairs: &[Pair<'_>]) -> Result<bool, NoMemory>
+    ensures { IfOk result (λ two. two ≡ has_two_parents (map pair_of pairs.now)) }
 {
-    'pairs: for pair in pairs {
-        if has_other_parent(pairs, pair.parent, pair.child) {
-            return true;
-        }
-    }
-    false
+    let firsts = in_byte_order(alloc, pairs)?;
+    Ok(some_has_other_parent(firsts.as_slice(), pairs))
+}
+
+fn some_has_other_parent(firsts: &[Pair<'_>], pairs: &[Pair<'_>]) -> bool
+    requires { AreAscending (map (λ p. p.child.now) firsts.now) }
+    ensures { result ≡ list_any (λ p. is_other (parent_among (map pair_of firsts.now) p.child.now) p.parent.now) pairs.now }
+{
+    pairs
+        .iter()
+        .any(|pair| has_other_parent(firsts, pair.parent, pair.child))
 }
 
 /// The relations that pairs name, in byte order of the names.
@@ -212,9 +284,10 @@ pub(crate) fn relations_of(alloc: Global, pairs: &[Pair<'_>]) -> Result<Vec<Rela
     ensures ascending { IfOk result (λ rs. AreAscending (map (λ r. r.name.items) rs.items)) }
 {
     let names = names_in(alloc, pairs)?;
+    let firsts = in_byte_order(alloc, pairs)?;
     let mut relations = Vec::with_capacity(alloc, names.len())?;
     'names: for name in &names {
-        relations.push(relation_named(alloc, pairs, names.as_slice(), name.text)?)?;
+        relations.push(relation_named(alloc, firsts.as_slice(), names.as_slice(), name.text)?)?;
     }
     Ok(relations)
 }
@@ -222,14 +295,15 @@ pub(crate) fn relations_of(alloc: Global, pairs: &[Pair<'_>]) -> Result<Vec<Rela
 /// The relation of a name, if its parent's number is one of 32 bits: 2^32 names find no memory here.
 fn relation_named(
     alloc: Global,
-    pairs: &[Pair<'_>],
+    firsts: &[Pair<'_>],
     names: &[RelationName<'_>],
     name: &[u8],
 ) -> Result<Relation, NoMemory>
-    requires { AreAscending (map (λ n. n.text.now) names.now) }
-    ensures { IfOk result (λ r. relation_of r ≡ with_parent (map pair_of pairs.now) (map (λ n. n.text.now) names.now) (first_added name.now)) }
+    requires firsts { AreAscending (map (λ p. p.child.now) firsts.now) }
+    requires names { AreAscending (map (λ n. n.text.now) names.now) }
+    ensures { IfOk result (λ r. relation_of r ≡ with_parent (map pair_of firsts.now) (map (λ n. n.text.now) names.now) (first_added name.now)) }
 {
-    let parent = match parent_number(pairs, names, name) {
+    let parent = match parent_number(firsts, names, name) {
         Some(place) => match u32::try_from(place) {
             Ok(number) => Some(number),
             Err(_) => return Err(NoMemory),

@@ -9,10 +9,9 @@ use Rattle.mapping.proofs.judge.has_bad_relations.Goals as goal
 
 pub returns-then-join_count-gt1 : goal.returns-then-join_count-gt1
 returns-then-join_count-gt1 c =
-    let here : nat_lt 1 c.join_count.result ≡ true = past 1 _ _ refl c.if-join_count-gt1.true in
     let two : nat_lt 1 (count_by (λ p. is_join (kind_of p.form)) (properties_of (view c.args.body.now))) ≡ true =
     past 1 _ _ (c.join_count.ensures ∙ joins_tied c.args.outlines.now (view c.args.body.now) c.requires.outlines) c.if-join_count-gt1.true in
-    rw (here, two) refl
+    rw two refl
 
 pub returns-then-has_deep_join : goal.returns-then-has_deep_join
 returns-then-has_deep_join c =
@@ -20,7 +19,7 @@ returns-then-has_deep_join c =
     within 1 _ _ (c.join_count.ensures ∙ joins_tied c.args.outlines.now (view c.args.body.now) c.requires.outlines) c.if-join_count-gt1.false in
     let deep : list_any (λ p. is_join (kind_of p.form) && nat_lt 1 p.depth) (properties_of (view c.args.body.now)) ≡ true =
     sym (c.has_deep_join.ensures ∙ deep_joins_tied c.args.outlines.now (view c.args.body.now) c.requires.outlines) ∙ c.if-has_deep_join.true in
-    rw (c.if-has_deep_join.true, one, deep) refl
+    rw (one, deep) refl
 
 pub returns-then-has_empty_join : goal.returns-then-has_empty_join
 returns-then-has_empty_join c =
@@ -30,10 +29,10 @@ returns-then-has_empty_join c =
     sym (c.has_deep_join.ensures ∙ deep_joins_tied c.args.outlines.now (view c.args.body.now) c.requires.outlines) ∙ c.if-has_deep_join.false in
     let none : list_any (λ p. lacks_relations p.form) (properties_of (view c.args.body.now)) ≡ true =
     sym (c.has_empty_join.ensures ∙ lacks_tied c.args.outlines.now (view c.args.body.now) c.requires.outlines) ∙ c.if-has_empty_join.true in
-    rw (c.if-has_empty_join.true, one, top, none) refl
+    rw (one, top, none) refl
 
-pub returns-then-has_two_parents : goal.returns-then-has_two_parents
-returns-then-has_two_parents c =
+pub returns-then-two_parents : goal.returns-then-two_parents
+returns-then-two_parents c =
     let one : nat_lt 1 (count_by (λ p. is_join (kind_of p.form)) (properties_of (view c.args.body.now))) ≡ false =
     within 1 _ _ (c.join_count.ensures ∙ joins_tied c.args.outlines.now (view c.args.body.now) c.requires.outlines) c.if-join_count-gt1.false in
     let top : list_any (λ p. is_join (kind_of p.form) && nat_lt 1 p.depth) (properties_of (view c.args.body.now)) ≡ false =
@@ -41,11 +40,11 @@ returns-then-has_two_parents c =
     let some : list_any (λ p. lacks_relations p.form) (properties_of (view c.args.body.now)) ≡ false =
     sym (c.has_empty_join.ensures ∙ lacks_tied c.args.outlines.now (view c.args.body.now) c.requires.outlines) ∙ c.if-has_empty_join.false in
     let two : has_two_parents (pairs_of (view c.args.body.now)) ≡ true =
-    sym (c.has_two_parents.ensures ∙ ap has_two_parents c.requires.pairs) ∙ c.if-has_two_parents.true in
-    rw (c.if-has_two_parents.true, one, top, some, two) refl
+    sym (c.in_ok-two_parents.ensures ∙ ap has_two_parents c.requires.pairs) ∙ c.if-two_parents.true in
+    rw (one, top, some, two) refl
 
-pub returns-else-has_two_parents : goal.returns-else-has_two_parents
-returns-else-has_two_parents c =
+pub returns : goal.returns
+returns c =
     let one : nat_lt 1 (count_by (λ p. is_join (kind_of p.form)) (properties_of (view c.args.body.now))) ≡ false =
     within 1 _ _ (c.join_count.ensures ∙ joins_tied c.args.outlines.now (view c.args.body.now) c.requires.outlines) c.if-join_count-gt1.false in
     let top : list_any (λ p. is_join (kind_of p.form) && nat_lt 1 p.depth) (properties_of (view c.args.body.now)) ≡ false =
@@ -53,5 +52,5 @@ returns-else-has_two_parents c =
     let some : list_any (λ p. lacks_relations p.form) (properties_of (view c.args.body.now)) ≡ false =
     sym (c.has_empty_join.ensures ∙ lacks_tied c.args.outlines.now (view c.args.body.now) c.requires.outlines) ∙ c.if-has_empty_join.false in
     let single : has_two_parents (pairs_of (view c.args.body.now)) ≡ false =
-    sym (c.has_two_parents.ensures ∙ ap has_two_parents c.requires.pairs) ∙ c.if-has_two_parents.false in
-    rw (one, top, some, single) (c.turns_back.ensures ∙ ap turns_back c.requires.relations)
+    sym (c.in_ok-two_parents.ensures ∙ ap has_two_parents c.requires.pairs) ∙ c.if-two_parents.false in
+    rw (one, top, some, single) (c.in_ok-turns_back.ensures ∙ ap turns_back c.requires.relations)

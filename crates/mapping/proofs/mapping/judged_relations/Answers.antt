@@ -32,10 +32,10 @@ refusal_of_rest-requires-clause-pairs c = rw c.as_slice-5.ensures.value (pairs_a
 pub refusal_of_rest-requires-clause-relations : goal.refusal_of_rest-requires-clause-relations
 refusal_of_rest-requires-clause-relations c = rw c.as_slice-6.ensures.value (relations_are c)
 
-pub returns-in-Some-refusal_of_rest-clause-refused : goal.returns-in-Some-refusal_of_rest-clause-refused
+pub returns-in-Some-2-clause-refused : goal.returns-in-Some-2-clause-refused
 unfolding first_refusal
-returns-in-Some-refusal_of_rest-clause-refused c =
-    is_first c.in-Some-refusal_of_rest.refusal (first_refusal (view c.args.body.now)) (rw (sym c.in_default.ensures, sym c.in-Some-refusal_of_rest.ensures) refl)
+returns-in-Some-2-clause-refused c =
+    is_first c.in-Some-2.refusal (first_refusal (view c.args.body.now)) (rw (sym c.in_default.ensures, sym c.in_ok-refusal.ensures ∙ c.in-Some-2.is) refl)
 
 pub returns-clause-relations : goal.returns-clause-relations
 returns-clause-relations c =
@@ -47,4 +47,4 @@ returns-clause-relations c =
 
 pub returns-clause-accepted : goal.returns-clause-accepted
 unfolding first_refusal
-returns-clause-accepted c _ = rw (sym c.in_default.ensures, sym c.in_default-refusal_of_rest.ensures) refl
+returns-clause-accepted c _ = rw (sym c.in_default.ensures, sym c.in_ok-refusal.ensures ∙ c.in_default-2.is) refl

@@ -7,7 +7,7 @@ abbrev pub invariant-halves : goal.invariant-halves
 invariant-halves g l =
     (l.low + length l.left ≤ length l.items)
     × AreAscending (map g.T.Named.name l.left)
-    × (l.low + rank l.name (map g.T.Named.name l.left) ≡ rank l.name (map g.T.Named.name l.items))
+    × (l.low + rank (g.S.Sought.sought l.sought) (map g.T.Named.name l.left) ≡ rank (g.S.Sought.sought l.sought) (map g.T.Named.name l.items))
 
 abbrev pub decreases-halves : goal.decreases-halves
 decreases-halves g l = length l.left

@@ -1,16 +1,15 @@
-use Rattle.std.proofs.Common.{refl, arith, ap, map, ◌∙◌}
-use Rattle.mapping.proofs.Puts.{ascending_none, map-put}
-use Rattle.mapping.proofs.Pairs.{names_step}
+use Rattle.std.proofs.Common.{◌≡◌, [], map, drop, append-nil, arith, ap, sym, ◌∙◌}
+use Rattle.std.proofs.lemmas.Grind.{common_steps}
+use Rattle.mapping.specs.Names.{in_byte_order}
+use Rattle.mapping.specs.Relations.{names_in_pairs}
+use Rattle.mapping.specs.Seen.{pair_of}
+use Rattle.mapping.proofs.Merges.{map-put_all}
 use Rattle.mapping.proofs.relation.names_in.Goals as goal
 
-pub pairs-init : goal.pairs-init
-pairs-init c = (ascending_none (λ n. n.text.now) _ c.new-names.ensures.items, rw c.new-names.ensures.items refl)
-
-pub pairs-preserved : goal.pairs-preserved
-pairs-preserved c = (
-  c.in_ok-put-2.ensures.ascending,
-  names_step c.args.pairs.now c.pairs.pair-index _ (map (λ n. n.text.now) c.pairs.names.items) (map (λ n. n.text.now) c.put.new.items.items) (map (λ n. n.text.now) c.put-in-pairs.new.items.items) (omega arith)
-      (ap (map (λ n. n.text.now)) c.in_ok-put.ensures.put ∙ map-put (λ n. n.text.now) (λ name. name) _ c.pairs.names.items)
-      (ap (map (λ n. n.text.now)) c.in_ok-put-2.ensures.put ∙ map-put (λ n. n.text.now) (λ name. name) _ c.put.new.items.items)
-      ∙ c.pairs.invariant.1,
-)
+pub returns-clause-names : goal.returns-clause-names
+returns-clause-names c =
+    let none : drop c.pairs.pair-index c.args.pairs.now ≡ [] = grind (arith, common_steps) in
+    let made : map (λ n. n.text.now) c.pairs.names.items ≡ names_in_pairs (map pair_of c.args.pairs.now) = sym (append-nil (map (λ n. n.text.now) c.pairs.names.items)) ∙ rw none at c.pairs.invariant in
+    ap (map (λ n. n.text.now)) (rw c.as_slice.ensures.value at c.in_ok-in_byte_order.ensures.items)
+    ∙ map-put_all (λ n. n.text.now) (λ name. name) [] c.pairs.names.items
+    ∙ ap (in_byte_order (λ name. name)) made

@@ -3,6 +3,7 @@ use Rattle.std.proofs.lemmas.Grind.{common_steps}
 use Rattle.mapping.specs.Names.{AreAscending}
 use Rattle.mapping.specs.Relations.{with_parent, first_added}
 use Rattle.mapping.specs.Seen.{pair_of, relation_of}
+use Rattle.mapping.proofs.Parents.{relations_of_firsts}
 use Rattle.mapping.proofs.Pairs.{relations_seen, names_kept, names_seen}
 use Rattle.mapping.proofs.relation.relations_of.Goals as goal
 
@@ -12,6 +13,7 @@ made : (c : goal.After-drop-names-2) → map relation_of c.names.relations.items
 made c =
     let whole : take c.names.name-index c.deref-name-items.result.now ≡ c.deref-name-items.result.now = grind (arith, common_steps) in
     rw c.deref-name-items.ensures.value at (rw whole at c.names.invariant)
+    ∙ relations_of_firsts c.args.pairs.now c.in_ok-firsts.firsts.items (map (λ n. n.text.now) c.in_ok-names.names.items) (map (λ n. n.text.now) c.in_ok-names.names.items) c.in_ok-firsts.ensures.items
 
 pub returns-clause-relations : goal.returns-clause-relations
 returns-clause-relations c =

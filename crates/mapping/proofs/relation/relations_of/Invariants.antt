@@ -6,4 +6,4 @@ use Rattle.mapping.proofs.relation.relations_of.Given as goal
 abbrev pub invariant-names : goal.invariant-names
 invariant-names l =
     map relation_of l.relations.items
-    ≡ map (λ name. with_parent (map pair_of l.pairs) (map (λ n. n.text.now) l.name-items) (first_added name)) (map (λ n. n.text.now) (take l.name-index l.name-items))
+    ≡ map (λ name. with_parent (map pair_of l.firsts.items) (map (λ n. n.text.now) l.name-items) (first_added name)) (map (λ n. n.text.now) (take l.name-index l.name-items))
