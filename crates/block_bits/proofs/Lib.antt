@@ -1,5 +1,6 @@
 pub mod Marks
 pub mod Combined
+pub mod Ranges
 pub mod Counts
 pub mod Places
 pub mod Search

@@ -26,6 +26,10 @@ pub record AreBits (count : ℕ) (bits : List (List Bool)) (scopes : List ℕ) :
   pub sets : bits ≡ map (documents_of scopes) (range_with_len 0 count)
   pub in_range : All (λ scope. scope < count) scopes
 
+-- so many documents, each of exactly one scope
+abbrev pub HaveOneScope : ℕ → List (List Bool) → Type 0
+HaveOneScope count bits = (scopes : List ℕ) × AreBits (length bits) bits scopes × (length scopes ≡ count)
+
 -- a later document of the scope `outer`, with no document of a scope above `outer` on the way
 pub record EnclosesAt (parents : List (Option ℕ)) (scopes : List ℕ) (doc outer at : ℕ) : Type 0 where
   pub later : doc < at

@@ -1,5 +1,5 @@
 -- The documents of a bit set: one flag a document, kept 64 to a word.
-use Rattle.std.specs.Prelude.{◌≡◌, ◌==◌, ℕ, ◌+◌, ◌/◌, ◌%◌, ◌^◌, ◌<◌, ◌≤◌, Bool, false, List, length, map, slice_index}
+use Rattle.std.specs.Prelude.{◌≡◌, ◌==◌, ℕ, ◌+◌, ◌-◌, ◌/◌, ◌%◌, ◌^◌, ◌<◌, ◌≤◌, nat_lt, Bool, false, List, ◌++◌, length, map, take, drop, replicate, slice_index}
 use Rattle.std.specs.Prelude.{◌&&◌, ◌||◌, not}
 use Rattle.std.specs.Int.{bit_at}
 use Rattle.std.specs.List.{range_with_len, zip}
@@ -21,6 +21,14 @@ pub record IsTight (words : List ℕ) (len : ℕ) : Type 0 where
   pub small : len < 2 ^ 32
   pub long : length words ≡ (len + 63) / 64
   pub clear : (at : ℕ) → len ≤ at → is_set words at ≡ false
+
+-- whether a document is one of those from `from` up to `end`
+abbrev pub is_between : ℕ → ℕ → ℕ → Bool
+is_between from end at = nat_lt at end && not (nat_lt at from)
+
+-- the flags from place `from` up to place `end` cleared
+abbrev pub cleared : ℕ → ℕ → List Bool → List Bool
+cleared from end flags = take from flags ++ (replicate (end - from) false ++ drop end flags)
 
 -- the documents in both sets, in either, and in the first without the second
 abbrev pub intersection : List Bool → List Bool → List Bool

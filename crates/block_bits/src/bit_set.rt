@@ -1,6 +1,6 @@
-ghost use Rattle.std.specs.Prelude.{◌≡◌, ◌==◌, ◌+◌, ◌*◌, ◌^◌, ℕ, ◌<◌, ◌≤◌, Bool, true, false, List, length, replicate, take, slice_index_or, slice_set, count_by, IfOk, IfSome};
+ghost use Rattle.std.specs.Prelude.{◌≡◌, ◌==◌, ◌+◌, ◌*◌, ◌^◌, ℕ, ◌<◌, ◌≤◌, ◌&&◌, not, nat_lt, Bool, true, false, List, length, replicate, take, slice_index_or, slice_set, count_by, IfOk, IfSome, if◌then◌else◌};
 ghost use Rattle.std.specs.Int.{bit_at};
-ghost use Rattle.block_bits.specs.Flags.{is_marked, intersection, union, difference};
+ghost use Rattle.block_bits.specs.Flags.{is_marked, is_between, cleared, intersection, union, difference};
 ghost use Rattle.block_bits.specs.Places.{next_place, previous_place};
 
 use crate::NoMemory;
@@ -39,6 +39,29 @@ impl BitSet {
         Ok(BitSet { words, len })
     }
 
+    /// The set of all of `len` documents.
+    pub fn full(alloc: Global, len: u32) -> Result<BitSet, NoMemory>
+        ensures { IfOk result (λ set. set ≡ replicate len true) }
+    {
+        let count = len.div_ceil(WORD);
+        let mut words = Vec::with_capacity(alloc, count as usize)?;
+        'words: for place in 0..count {
+            words.push(full_word(len - place * WORD))?;
+        }
+        Ok(BitSet { words, len })
+    }
+
+    /// An equal set.
+    pub fn copy(&self, alloc: Global) -> Result<BitSet, NoMemory>
+        ensures { IfOk result (λ copy. copy ≡ self.now) }
+    {
+        let words = Vec::from_slice(alloc, self.words.as_slice())?;
+        Ok(BitSet {
+            words,
+            len: self.len,
+        })
+    }
+
     /// How many documents there are, in the set or not.
     pub fn len(&self) -> u32
         ensures { result ≡ length self.now }
@@ -60,6 +83,18 @@ impl BitSet {
         ensures { self.new ≡ slice_set self.old at false }
     {
         self.words[(at / WORD) as usize] &= !(1 << (at % WORD));
+    }
+
+    /// Takes the documents from `from` up to `end` out of the set. Writes the words between the two and no others.
+    pub fn clear_range(&mut self, from: u32, end: u32)
+        requires ordered { from ≤ end }
+        requires within { end ≤ length self.old }
+        ensures { self.new ≡ cleared from end self.old }
+    {
+        'words: for place in from / WORD..end.div_ceil(WORD) {
+            let taken = range_word(place * WORD, from, end);
+            self.words[place as usize] &= !taken;
+        }
     }
 
     /// Whether a document is in the set.
@@ -186,4 +221,22 @@ fn zero_words(alloc: Global, count: usize) -> Result<Vec<u64>, NoMemory>
     ensures { IfOk result (λ words. words.items ≡ replicate count 0) }
 {
     Ok(vec![in alloc; 0; count]?)
+}
+
+/// The word of so many documents, or of 64 where there are more.
+pub(crate) fn full_word(count: u32) -> u64
+    ensures { (i : ℕ) → i < 64 → bit_at result i ≡ (if nat_lt i count then 1 else 0) }
+{
+    if count < WORD {
+        (1 << count) - 1
+    } else {
+        u64::MAX
+    }
+}
+
+/// The word of 64 documents, the first of them `start`: those from `from` up to `end`.
+fn range_word(start: u32, from: u32, end: u32) -> u64
+    ensures { (i : ℕ) → i < 64 → (bit_at result i == 1) ≡ is_between from end (start + i) }
+{
+    full_word(end.saturating_sub(start)) & !full_word(from.saturating_sub(start))
 }

@@ -1,6 +1,8 @@
-ghost use Rattle.std.specs.Prelude.{◌≡◌};
+ghost use Rattle.std.specs.Prelude.{◌≡◌, ◌↔◌, IsTrue};
+ghost use Rattle.block_bits.specs.Blocks.{HaveOneScope};
 
 use crate::BitSet;
+use crate::partition::{count_documents, give_one_scope};
 use std::marker::Model;
 
 /// The scope around each scope, by number; the root, scope 0, has none.
@@ -60,5 +62,14 @@ impl BitList {
         ensures { result.now ≡ self.now }
     {
         self.sets.as_slice()
+    }
+
+    /// Whether each of so many documents is in exactly one of the sets, as it is where a set has the documents of
+    /// a scope.
+    pub fn give_one_scope(&self, count: u32) -> bool
+        ensures { IsTrue result ↔ HaveOneScope count self.now }
+    {
+        let sets = self.as_slice();
+        count_documents(sets) == count && give_one_scope(sets.len(), sets)
     }
 }

@@ -1,11 +1,20 @@
-ghost use Rattle.std.specs.Prelude.{◌≡◌, ℕ, ◌*◌, ◌+◌, ◌^◌, ◌<◌, ◌↔◌, Bool, false, List, [], length, slice_index_or, All, IsTrue, nat_lt, if◌then◌else◌};
-ghost use Rattle.std.specs.Int.{bit_at};
+ghost use Rattle.std.specs.Prelude.{◌≡◌, ℕ, ◌*◌, ◌^◌, ◌<◌, ◌↔◌, Bool, List, [], length, slice_index_or, All, IsTrue};
 ghost use Rattle.block_bits.specs.Blocks.{AreBits};
 ghost use Rattle.block_bits.specs.Seen.{scopes_seen};
 ghost use Rattle.block_bits.specs.OneScope.{set_count, HasOneIn, IsPartition};
 
 use crate::BitSet;
-use crate::bit_set::WORD;
+use crate::bit_set::{WORD, full_word};
+
+/// How many documents the sets are of, where each is of as many.
+pub(crate) fn count_documents(sets: &[BitSet]) -> u32
+    ensures { result ≡ length (slice_index_or sets.now 0 []) }
+{
+    match sets {
+        [] => 0,
+        [first, ..] => first.len(),
+    }
+}
 
 /// Whether the sets are those of so many scopes: each document is in exactly one of them.
 pub(crate) fn give_one_scope(count: usize, sets: &[BitSet]) -> bool
@@ -23,10 +32,8 @@ fn is_partition(sets: &[BitSet]) -> bool
     ensures partition { IsTrue result ↔ IsPartition sets.now (length (slice_index_or sets.now 0 [])) }
     ensures numbered { length (slice_index_or sets.now 0 []) < 2 ^ 32 }
 {
-    match sets {
-        [] => true,
-        [first, ..] => have_length(sets, first.len()) && are_apart(sets, first.len()),
-    }
+    let len = count_documents(sets);
+    have_length(sets, len) && are_apart(sets, len)
 }
 
 fn have_length(sets: &[BitSet], len: u32) -> bool
@@ -62,15 +69,4 @@ fn is_word_apart(sets: &[BitSet], len: u32, place: u32) -> bool
         seen |= word;
     }
     seen == full_word(len - place * WORD)
-}
-
-/// The word of so many documents, or of 64 where there are more.
-fn full_word(count: u32) -> u64
-    ensures { (i : ℕ) → i < 64 → bit_at result i ≡ (if nat_lt i count then 1 else 0) }
-{
-    if count < WORD {
-        (1 << count) - 1
-    } else {
-        u64::MAX
-    }
 }

@@ -3,7 +3,7 @@ ghost use Rattle.block_bits.specs.Scopes.{IsScopeTree, is_above};
 ghost use Rattle.block_bits.specs.Blocks.{AreBits, IsBlocks, scope_at, documents_of, enclosing_document, child_start};
 
 use crate::blocks::{are_blocks, lies_above, scope_of};
-use crate::partition::give_one_scope;
+use crate::partition::{count_documents, give_one_scope};
 use crate::{BitList, BitSet, ScopeList};
 use std::marker::Model;
 
@@ -67,10 +67,7 @@ impl<'a> ScopeBits<'a> {
     pub fn len(&self) -> u32
         ensures { result ≡ length self.now.scopes }
     {
-        match self.bits.as_slice() {
-            [] => 0,
-            [first, ..] => first.len(),
-        }
+        count_documents(self.bits.as_slice())
     }
 
     /// The documents of a scope.

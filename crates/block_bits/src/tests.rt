@@ -180,6 +180,29 @@ fn sets_of_several_words(rt: HostRuntime) -> Result<(), Fail> {
     Ok(())
 }
 
+#[test]
+fn one_scope_each(rt: HostRuntime) -> Result<(), Fail> {
+    let none: &[u32] = &[];
+    let rows: [(u32, u32, &[&[u32]], bool); 7] = [
+        (3, 3, &[&[2], &[0, 1]], true),
+        (3, 2, &[&[2], &[0, 1]], false),
+        (3, 4, &[&[2], &[0, 1]], false),
+        // Document 1 is in no set, then in both.
+        (3, 3, &[&[2], &[0]], false),
+        (3, 3, &[&[1, 2], &[0, 1]], false),
+        (0, 0, &[none, none], true),
+        // No sets.
+        (0, 0, &[], true),
+    ];
+    'rows: for (row, (len, count, sets, answer)) in rows.iter().enumerate() {
+        let bits = bits_of(&rt, rt.alloc(), *len, sets)?;
+        assert_eq!(rt; bits.give_one_scope(*count), *answer, "row {row}");
+    }
+    let bits = bits_of(&rt, rt.alloc(), 0, &[])?;
+    assert!(rt; !bits.give_one_scope(1));
+    Ok(())
+}
+
 /// Whether these, in order, are the documents of the set.
 fn is_set_of(set: &BitSet, docs: &[u32]) -> bool {
     let mut from = 0;
@@ -210,5 +233,33 @@ fn two_sets(rt: HostRuntime) -> Result<(), Fail> {
     assert_eq!(rt; rest.len(), other.len());
     rest.and_not(&other);
     assert!(rt; is_set_of(&rest, &[2]));
+    Ok(())
+}
+
+#[test]
+fn ranges(rt: HostRuntime) -> Result<(), Fail> {
+    let rows: [(u32, u32, u32, Option<u32>, Option<u32>, u32); 8] = [
+        (65, 0, 0, Some(0), Some(64), 65),
+        (65, 0, 65, None, None, 0),
+        (65, 0, 64, Some(64), Some(64), 1),
+        (65, 64, 65, Some(0), Some(63), 64),
+        (64, 63, 64, Some(0), Some(62), 63),
+        (64, 64, 64, Some(0), Some(63), 64),
+        (200, 1, 199, Some(0), Some(199), 2),
+        (0, 0, 0, None, None, 0),
+    ];
+    'rows: for (row, (len, from, end, first, last, count)) in rows.iter().enumerate() {
+        let full = BitSet::full(rt.alloc(), *len)?;
+        assert_eq!(rt; (full.len(), full.count()), (*len, *len), "row {row}");
+        let mut rest = full.copy(rt.alloc())?;
+        assert!(rt; *from <= *end && *end <= rest.len());
+        rest.clear_range(*from, *end);
+        assert_eq!(rt;
+            (rest.next_set(0), rest.prev_set(*len)),
+            (*first, *last),
+            "row {row}"
+        );
+        assert_eq!(rt; (rest.count(), full.count()), (*count, *len), "row {row}");
+    }
     Ok(())
 }
