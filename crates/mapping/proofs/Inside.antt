@@ -4,8 +4,7 @@ use Rattle.std.proofs.lemmas.Bool.{cases_lt, eqb-true, eq-eqb, ne_eqb}
 use Rattle.std.proofs.lemmas.List.Elements.{filter-append, Contains-append_cases, All-contains, All-from_recursion}
 use Rattle.std.proofs.lemmas.List.Concat.{flat_map-append}
 use Rattle.std.specs.List.{AllByRecursion, Contains, flat_map}
-use Rattle.tree_json.specs.Value.{JsonValue}
-use Rattle.mapping.specs.Body.{is_object}
+use Rattle.tree_json.specs.Value.{JsonValue, is_object}
 use Rattle.mapping.specs.Mapping.{Mapping, scope_at, outer, IsAbove}
 use Rattle.mapping.specs.IsMapping.{IsMapping}
 use Rattle.mapping.specs.Tree.{Tree}
@@ -14,7 +13,7 @@ use Rattle.mapping.specs.Enclosing.{stands_at, IsEnclosing}
 use Rattle.mapping.proofs.Walks.{split}
 use Rattle.mapping.proofs.Above.{above_lt, above_in_range, is_above_through, outer_above, root_above}
 use Rattle.mapping.proofs.Nearest.{append_nil}
-use Rattle.mapping.proofs.Order.{IsKid, each_kid, one_kid}
+use Rattle.mapping.proofs.Numbering.{IsKid, each_kid, one_kid}
 use Rattle.mapping.proofs.Ways.{IsUpTo, toward, toward_alone, way_none, two_parts, downwards}
 
 -- ---- what holds of each

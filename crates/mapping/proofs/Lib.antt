@@ -15,7 +15,7 @@ pub mod Above
 pub mod Nearest
 pub mod Founded
 pub mod OfBody
-pub mod Order
+pub mod Numbering
 pub mod Ways
 pub mod Inside
 pub mod Places

@@ -3,14 +3,13 @@ use Rattle.std.proofs.Common.{◌≡◌, ℕ, zero, suc, ◌+◌, ◌-◌, ◌<�
 use Rattle.std.proofs.lemmas.Bool.{eqb-true, eqb-false, eq-eqb}
 use Rattle.std.proofs.lemmas.List.Sorted.{sum_by-IsPermutation}
 use Rattle.std.specs.List.{AllByRecursion, flat_map, range_with_len}
-use Rattle.tree_json.specs.Value.{JsonValue}
-use Rattle.mapping.specs.Body.{is_object}
+use Rattle.tree_json.specs.Value.{JsonValue, is_object}
 use Rattle.mapping.specs.Mapping.{Mapping, scope_at, outer}
 use Rattle.mapping.specs.IsMapping.{IsMapping}
 use Rattle.mapping.specs.Tree.{Tree}
 use Rattle.mapping.specs.Object.{Object, root, inside, scope, place, content, items, numbered, given, children, kids, objects, block_objects}
 use Rattle.mapping.proofs.Walks.{split}
-use Rattle.mapping.proofs.Order.{times, times_counted, times_before}
+use Rattle.mapping.proofs.Numbering.{times, times_counted, times_before}
 use Rattle.mapping.proofs.Inside.{children_each, each_from, each_flat, each_append}
 
 -- ---- lists whose elements have different places

@@ -7,7 +7,7 @@ use Rattle.mapping.specs.IsMapping.{IsMapping}
 use Rattle.mapping.specs.Object.{climb, way}
 use Rattle.mapping.proofs.Walks.{split}
 use Rattle.mapping.proofs.Above.{above_root, above_in_range, above_lt, above_step, chain, is_above_through, outer_above}
-use Rattle.mapping.proofs.Order.{IsKid}
+use Rattle.mapping.proofs.Numbering.{IsKid}
 
 -- a scope is another or lies above it
 abbrev pub IsUpTo : Mapping → ℕ → ℕ → Type 0

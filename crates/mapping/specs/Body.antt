@@ -7,10 +7,6 @@ use Rattle.mapping.specs.declared.kind.Kind.{Kind}
 use Rattle.mapping.specs.declared.kind.Kind.TheVariants.{Text, Keyword, Long, Boolean, Date, Object, Nested, Join}
 use Rattle.mapping.specs.Names.{is_name, is_property_name, joined}
 
-abbrev pub is_object : JsonValue → Bool
-is_object (object ms) = true
-is_object v = false
-
 abbrev pub is_flag : JsonValue → Bool
 is_flag (bool b) = true
 is_flag v = false

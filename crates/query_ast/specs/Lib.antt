@@ -1,5 +1,3 @@
-pub mod Tree
-pub mod Object
 pub mod Clause
 pub mod Hit
 pub mod Page
