@@ -1,14 +1,13 @@
 -- How long a word may become when it is folded.
-use Rattle.std.proofs.Common.{◌≡◌, ℕ, zero, suc, ◌+◌, ◌-◌, ◌*◌, ◌≤◌, nat_le, List, [], ◌∷◌, ◌++◌, map, filter, length, IsUtf8, length-append, refl, sym, ap, ◌∙◌, arith, true, Bool, ◌&&◌, IsTrue}
+use Rattle.std.proofs.Common.{◌≡◌, ℕ, zero, suc, ◌+◌, ◌-◌, ◌*◌, ◌≤◌, nat_le, List, [], ◌∷◌, map, length, IsUtf8, length-append, refl, sym, ap, ◌∙◌, arith, true}
 use Rattle.std.proofs.lemmas.Bool.{le-leb}
-use Rattle.std.proofs.lemmas.Str.{length-encode, len_utf8_bounds, encodes-append}
+use Rattle.std.proofs.lemmas.Str.{length-encode, len_utf8_bounds}
 use Rattle.std.specs.Prelude.{encode_utf8_all, encode_utf8}
 use Rattle.std.specs.List.{list_all, flat_map}
 use Rattle.std.specs.Str.{chars, chars_after, continuation_len, lead_bits}
 use Rattle.caseless.specs.Caseless.{default_case_fold}
 use Rattle.ucd_case.specs.CaseFolding.{full_fold, full_folding, or_itself}
 use Rattle.ucd_case.proofs.BoundLemmas.{length-full_folding}
-use Rattle.unicode_segmentation.specs.Word.{words as unfolded_words}
 use Rattle.analysis.specs.Words.{folded, words}
 use Rattle.analysis.proofs.Placed.{StandBetween, placed_words, placed_words_stand, second-placed_words, within}
 

@@ -1,4 +1,4 @@
-use Rattle.std.proofs.Common.{◌*◌, ◌/◌, ◌≤◌, length, arith}
+use Rattle.std.proofs.Common.{◌/◌, ◌≤◌, length, arith}
 use Rattle.std.proofs.lemmas.Bool.{leb-true}
 use Rattle.analysis.proofs.Lengths.{short_words}
 use Rattle.analysis.proofs.analyzer.has_short_tokens.Goals as goal
