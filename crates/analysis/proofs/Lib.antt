@@ -1,4 +1,5 @@
 mod Examples
+pub mod Lengths
 pub mod Placed
 pub mod TokenLemmas
 pub mod Walk

@@ -1,6 +1,6 @@
 //! From a text to its tokens.
-ghost use Rattle.std.specs.Prelude.{◌≡◌, ◌+◌, ◌≤◌, ◌<◌, ◌^◌, length, map, slice_range, IfOk};
-ghost use Rattle.std.specs.List.{range_with_len};
+ghost use Rattle.std.specs.Prelude.{◌≡◌, ◌+◌, ◌≤◌, ◌<◌, ◌^◌, length, map, slice_range, IfOk, IsTrue, nat_le};
+ghost use Rattle.std.specs.List.{list_all, range_with_len};
 ghost use Rattle.unicode_segmentation.specs.Word.{words as unfolded_words};
 ghost use Rattle.analysis.specs.Tokens.{AreApart};
 ghost use Rattle.analysis.specs.Words.{words, folded};
@@ -34,6 +34,14 @@ pub fn tokens(alloc: Global, text: &str) -> Result<TokenList, NoMemory>
         position += 1;
     }
     Ok(TokenList::of(tokens))
+}
+
+/// Whether the length of a text alone tells that each of its tokens has at most so many bytes: a word of the text is no
+/// longer than the text, and full case folding makes at most three characters of one, with at most four bytes each.
+pub fn has_short_tokens(text: &str, most: u64) -> bool
+    ensures { IsTrue result → IsTrue (list_all (λ w. nat_le (length w) most) (words text.now)) }
+{
+    text.len() as u64 <= most / 12
 }
 
 /// The word with full case folding.

@@ -11,6 +11,6 @@ mod no_memory;
 mod tests;
 mod token_list;
 
-pub use analyzer::tokens;
+pub use analyzer::{has_short_tokens, tokens};
 pub use no_memory::NoMemory;
 pub use token_list::{Bytes, Token, TokenList};

@@ -1,6 +1,6 @@
 //! Texts and their words, by the rules and the examples of Unicode Standard Annex #29 (section 4) and
 //! the full mappings of the Unicode file `CaseFolding.txt`.
-use crate::tokens;
+use crate::{has_short_tokens, tokens};
 use std::test::Fail;
 
 /// Each expected word stands after a `|`, which is in no text.
@@ -54,6 +54,9 @@ fn words_of_texts(rt: HostRuntime) -> Result<(), Fail> {
         }
         assert_eq!(rt; found.as_slice(), words.as_bytes(), "{text}");
     }
+    // seven bytes
+    assert!(rt; has_short_tokens("Straße", 84));
+    assert!(rt; !has_short_tokens("Straße", 83));
     Ok(())
 }
 

@@ -15,12 +15,12 @@ use crate::join::fault_of_join;
 use crate::kind::Kind;
 use crate::mapping::Mapping;
 use crate::refusal::NoMemory;
-use analysis::{Token, tokens};
+use analysis::{Token, has_short_tokens, tokens};
 use itoa::Buffer;
 use std::alloc::Global;
 use tree_json::{Json, JsonText};
 
-const MOST_TERM_BYTES: usize = 32_766;
+const MOST_TERM_BYTES: u64 = 32_766;
 
 /// The first fault of a source, with the number of the field where it stands.
 #[derive(Clone, Copy, Debug, PartialEq, Eq)]
@@ -224,9 +224,13 @@ fn fault_of_text(alloc: Global, field: u32, value: &Json) -> Result<Option<Fault
     }
 }
 
+#[tactic(auto, using(crate::proofs::Terms::short))]
 fn fault_of_words(alloc: Global, field: u32, text: &str) -> Result<Option<Fault>, NoMemory>
     ensures { IfOk result (λ fault. fault ≡ (if list_any is_long_term (words text.now) then Some (Fault.TermTooLong field) else None)) }
 {
+    if has_short_tokens(text, MOST_TERM_BYTES) {
+        return Ok(None);
+    }
     match tokens(alloc, text) {
         Ok(tokens) => Ok(fault_of_tokens(field, tokens.as_slice())),
         Err(_) => Err(NoMemory),
@@ -256,5 +260,5 @@ fn has_long_term(tokens: &[Token]) -> bool
 fn is_long_term(term: &[u8]) -> bool
     ensures { result ≡ is_long_term term.now }
 {
-    term.len() > MOST_TERM_BYTES
+    term.len() as u64 > MOST_TERM_BYTES
 }
