@@ -4,7 +4,7 @@ ghost use Rattle.segment.specs.Live.{IsLiveOver};
 
 use crate::{ByField, Columns, Join, JoinValue, LiveBits, Root, RootList, Segment, SegmentRefusal};
 use block_bits::{BitList, BitSet};
-use doc_values::{RowList, ValueList};
+use doc_values::{NumberRows, OrdinalRows, RowList, ValueList};
 use postings::{PositionList, PostingList, PostingLists};
 use std::alloc::Global;
 use std::process::Abort;
@@ -17,6 +17,9 @@ type Range = (u32, u32);
 /// A document and its values or positions.
 type Row<'a, T> = (u32, &'a [T]);
 
+/// A column for each of some fields.
+type Fields<'a, T> = &'a [(u32, &'a [Row<'a, T>])];
+
 /// Columns, written down: a set by its length and the ranges in it.
 #[derive(Clone, Copy, Drop)]
 struct Written<'a> {
@@ -26,23 +29,58 @@ struct Written<'a> {
     sources: &'a [&'a [u8]],
     terms: &'a [(u32, &'a [u8])],
     postings: &'a [&'a [Row<'a, u32>]],
-    ordinals: &'a [(u32, &'a [Row<'a, u64>])],
-    numbers: &'a [(u32, &'a [Row<'a, i64>])],
+    ordinals: Fields<'a, u64>,
+    numbers: Fields<'a, i64>,
     present: &'a [(u32, u32, &'a [Range])],
 }
 
 fn columns_of(rt: &impl Abort, alloc: Global, written: &Written) -> Result<Columns, Fail> {
+    let (scopes, roots, sources) = blocks_of(rt, alloc, written)?;
+    let (terms, postings) = words_of(rt, alloc, written)?;
+    let (ordinals, numbers, present) = fields_of(rt, alloc, written)?;
     Ok(Columns {
         documents: written.documents,
-        scopes: scopes_of(rt, alloc, written.scopes)?,
-        roots: roots_of(alloc, written.roots)?,
-        sources: sources_of(rt, alloc, written.sources)?,
-        terms: terms_of(rt, alloc, written.terms)?,
-        postings: postings_of(rt, alloc, written.postings)?,
-        ordinals: rows_of(rt, alloc, written.ordinals)?,
-        numbers: rows_of(rt, alloc, written.numbers)?,
-        present: present_of(rt, alloc, written.present)?,
+        scopes,
+        roots,
+        sources,
+        terms,
+        postings,
+        ordinals,
+        numbers,
+        present,
     })
+}
+
+fn blocks_of(
+    rt: &impl Abort,
+    alloc: Global,
+    written: &Written,
+) -> Result<(BitList, RootList, stored_sources::BytesList), Fail> {
+    let scopes = scopes_of(rt, alloc, written.scopes)?;
+    let roots = roots_of(alloc, written.roots)?;
+    let sources = sources_of(rt, alloc, written.sources)?;
+    Ok((scopes, roots, sources))
+}
+
+fn words_of(
+    rt: &impl Abort,
+    alloc: Global,
+    written: &Written,
+) -> Result<(TermList, PostingLists), Fail> {
+    let terms = terms_of(rt, alloc, written.terms)?;
+    let postings = postings_of(rt, alloc, written.postings)?;
+    Ok((terms, postings))
+}
+
+fn fields_of(
+    rt: &impl Abort,
+    alloc: Global,
+    written: &Written,
+) -> Result<(ByField<OrdinalRows>, ByField<NumberRows>, ByField<BitSet>), Fail> {
+    let ordinals = rows_of(rt, alloc, written.ordinals)?;
+    let numbers = rows_of(rt, alloc, written.numbers)?;
+    let present = present_of(rt, alloc, written.present)?;
+    Ok((ordinals, numbers, present))
 }
 
 fn set_of(rt: &impl Abort, alloc: Global, len: u32, ranges: &[Range]) -> Result<BitSet, Fail> {
@@ -142,7 +180,7 @@ fn posting_list_of(
 fn rows_of<T: Ord + Copy>(
     rt: &impl Abort,
     alloc: Global,
-    columns: &[(u32, &[Row<T>])],
+    columns: Fields<T>,
 ) -> Result<ByField<RowList<T>>, Fail> {
     let mut all = Vec::new(alloc);
     for (field, rows) in columns {
@@ -271,9 +309,11 @@ fn read_postings(rt: &impl Abort, segment: &Segment) {
 }
 
 fn read_columns(rt: &impl Abort, segment: &Segment) {
-    assert!(rt; segment.ordinals(1).is_none() && segment.ordinals(2).is_none());
-    assert!(rt; segment.numbers(0).is_none() && segment.numbers(2).is_none());
-    assert!(rt; segment.present(0).is_none() && segment.present(3).is_none());
+    for field in 0..4 {
+        assert!(rt; segment.ordinals(field).is_some() == (field == 0));
+        assert!(rt; segment.numbers(field).is_some() == (field == 1));
+        assert!(rt; segment.present(field).is_some() == (field == 2));
+    }
     let keywords = segment.ordinals(0).expect(rt, "field 0 has keywords");
     let numbers = segment.numbers(1).expect(rt, "field 1 has numbers");
     let present = segment.present(2).expect(rt, "field 2 has texts");
@@ -398,8 +438,7 @@ fn refuses(rt: &impl Abort, alloc: Global, columns: Columns, fault: &str) {
 }
 
 fn refuses_scopes(rt: &impl Abort, alloc: Global) -> Result<(), Fail> {
-    let faults: [(&str, u32, &[(u32, &[Range])]); 6] = [
-        ("no document", 0, &[(0, &[]), (0, &[])]),
+    let faults: [(&str, u32, &[(u32, &[Range])]); 5] = [
         ("a document more", 4, &[(3, &[(1, 3)]), (3, &[(0, 1)])]),
         ("no scope", 3, &[]),
         ("a set too long", 3, &[(3, &[(1, 3)]), (4, &[(0, 1)])]),
@@ -415,112 +454,137 @@ fn refuses_scopes(rt: &impl Abort, alloc: Global) -> Result<(), Fail> {
     Ok(())
 }
 
-fn refuses_no_document(rt: &impl Abort, alloc: Global) -> Result<(), Fail> {
-    let columns = columns_of(
-        rt,
-        alloc,
-        &Written {
-            documents: 0,
-            scopes: &[(0, &[])],
-            roots: &[],
-            sources: &[],
-            terms: &[],
-            postings: &[],
-            ordinals: &[],
-            numbers: &[],
-            present: &[],
-        },
-    )?;
-    refuses(rt, alloc, columns, "nothing at all");
+/// No document, and nothing else.
+const NOTHING: Written<'static> = Written {
+    documents: 0,
+    scopes: &[(0, &[])],
+    roots: &[],
+    sources: &[],
+    terms: &[],
+    postings: &[],
+    ordinals: &[],
+    numbers: &[],
+    present: &[],
+};
+
+/// A root whose id and whose parent's id have so many bytes.
+fn root_of(alloc: Global, id: usize, parent: usize) -> Result<Root, Fail> {
+    let id = stored_sources::Bytes::of(vec![in alloc; b'a'; id]?);
+    let parent = stored_sources::Bytes::of(vec![in alloc; b'b'; parent]?);
+    Ok(Root {
+        id,
+        number: 2,
+        join: Join::Child(0, parent),
+    })
+}
+
+fn refuses_ids(rt: &impl Abort, alloc: Global) -> Result<(), Fail> {
+    let rows: [(usize, usize, bool); 6] = [
+        (1, 1, true),
+        (512, 512, true),
+        (0, 1, false),
+        (513, 1, false),
+        (1, 0, false),
+        (1, 513, false),
+    ];
+    for (id, parent, agree) in rows {
+        let mut columns = small(rt, alloc)?;
+        let mut roots = Vec::new(alloc);
+        roots.push(root_of(alloc, 1, 1)?)?;
+        roots.push(root_of(alloc, id, parent)?)?;
+        columns.roots = RootList::of(roots);
+        assert!(rt; Segment::of_columns(alloc, columns).is_ok() == agree);
+    }
     Ok(())
 }
 
-fn refuses_roots(rt: &impl Abort, alloc: Global) -> Result<(), Fail> {
-    let long: &[u8] = &[b'a'; 513];
-    let faults: [(&str, &[u8], JoinValue); 4] = [
-        ("an empty id", b"", JoinValue::Unjoined),
-        ("an id of 513 bytes", long, JoinValue::Unjoined),
-        ("an empty parent's id", b"b", JoinValue::Child(0, b"")),
-        ("a parent's of 513", b"b", JoinValue::Child(0, long)),
-    ];
-    for (fault, id, join) in faults {
-        let mut columns = small(rt, alloc)?;
-        columns.roots = roots_of(alloc, &[(b"a", 1, JoinValue::Unjoined), (id, 2, join)])?;
-        refuses(rt, alloc, columns, fault);
-    }
-    let mut columns = small(rt, alloc)?;
-    columns.roots = roots_of(alloc, &[(b"a", 1, JoinValue::Unjoined)])?;
-    columns.sources = sources_of(rt, alloc, &[b"{}"])?;
-    refuses(rt, alloc, columns, "a root too few");
+/// As many roots and sources as scope 0 has documents, but for one.
+fn refuses_counts(rt: &impl Abort, alloc: Global) -> Result<(), Fail> {
     let mut columns = small(rt, alloc)?;
     columns.sources = sources_of(rt, alloc, &[b"{}"])?;
     refuses(rt, alloc, columns, "a source too few");
+    let mut columns = small(rt, alloc)?;
+    columns.sources = sources_of(rt, alloc, &[b"{}"])?;
+    columns.roots = roots_of(alloc, &[(b"a", 1, JoinValue::Unjoined)])?;
+    refuses(rt, alloc, columns, "a root too few");
     Ok(())
 }
 
-fn refuses_keywords(rt: &impl Abort, alloc: Global) -> Result<(), Fail> {
-    let faults: [(&str, &[(u32, &[Row<u64>])]); 9] = [
-        (
-            "two columns of a field",
-            &[
-                (0, &[(0, &[0]), (1, &[0]), (2, &[1])]),
-                (0, &[(0, &[0]), (1, &[0]), (2, &[1])]),
-            ],
-        ),
-        (
-            "a field of two kinds",
-            &[(0, &[(0, &[0]), (1, &[0]), (2, &[1])]), (1, &[(2, &[2])])],
-        ),
-        (
-            "a word's field",
-            &[(0, &[(0, &[0]), (1, &[0]), (2, &[1])]), (2, &[(1, &[3])])],
-        ),
-        (
-            "a column without rows",
-            &[(0, &[(0, &[0]), (1, &[0]), (2, &[1])]), (3, &[])],
-        ),
-        ("no column of the field", &[]),
-        (
-            "another document",
-            &[(0, &[(0, &[0, 1]), (1, &[0]), (2, &[1])])],
-        ),
-        ("a document too few", &[(0, &[(0, &[0]), (2, &[1])])]),
-        (
-            "another field's term",
-            &[(0, &[(0, &[0]), (1, &[0]), (2, &[1, 2])])],
-        ),
-        (
-            "past the last term",
-            &[(0, &[(0, &[0]), (1, &[0]), (2, &[1, 4])])],
-        ),
-    ];
-    for (fault, ordinals) in faults {
+/// Columns of keyword fields, each with its fault.
+const KEYWORD_FAULTS: &[(&str, Fields<'static, u64>)] = &[
+    (
+        "two columns of a field",
+        &[
+            (0, &[(0, &[0]), (1, &[0]), (2, &[1])]),
+            (0, &[(0, &[0]), (1, &[0]), (2, &[1])]),
+        ],
+    ),
+    (
+        "a field of two kinds",
+        &[(0, &[(0, &[0]), (1, &[0]), (2, &[1])]), (1, &[(2, &[2])])],
+    ),
+    (
+        "a word's field",
+        &[(0, &[(0, &[0]), (1, &[0]), (2, &[1])]), (2, &[(1, &[3])])],
+    ),
+    (
+        "a column without rows",
+        &[(0, &[(0, &[0]), (1, &[0]), (2, &[1])]), (3, &[])],
+    ),
+    ("no column of the field", &[]),
+    (
+        "another document",
+        &[(0, &[(0, &[0, 1]), (1, &[0]), (2, &[1])])],
+    ),
+    ("a document too few", &[(0, &[(0, &[0]), (2, &[1])])]),
+    (
+        "another field's term",
+        &[(0, &[(0, &[0]), (1, &[0]), (2, &[1, 2])])],
+    ),
+    (
+        "past the last term",
+        &[(0, &[(0, &[0]), (1, &[0]), (2, &[1, 4])])],
+    ),
+];
+
+fn refuses_keywords(
+    rt: &impl Abort,
+    alloc: Global,
+    faults: &[(&str, Fields<u64>)],
+) -> Result<(), Fail> {
+    for (fault, fields) in faults {
         let mut columns = small(rt, alloc)?;
-        columns.ordinals = rows_of(rt, alloc, ordinals)?;
+        columns.ordinals = rows_of(rt, alloc, fields)?;
         refuses(rt, alloc, columns, fault);
     }
     Ok(())
 }
 
-fn refuses_numbers(rt: &impl Abort, alloc: Global) -> Result<(), Fail> {
-    let faults: [(&str, &[(u32, &[Row<i64>])]); 7] = [
-        (
-            "two columns of a field",
-            &[(1, &[(2, &[5])]), (1, &[(2, &[5])])],
-        ),
-        (
-            "a field of two kinds",
-            &[(0, &[(2, &[5])]), (1, &[(2, &[5])])],
-        ),
-        ("a column without rows", &[(1, &[(2, &[5])]), (3, &[])]),
-        ("no column of the field", &[]),
-        ("another document", &[(1, &[(1, &[5]), (2, &[5])])]),
-        ("no term", &[(1, &[(2, &[5, 6])])]),
-        ("another number", &[(1, &[(2, &[4])])]),
-    ];
-    for (fault, numbers) in faults {
+/// Columns of number fields, each with its fault.
+const NUMBER_FAULTS: &[(&str, Fields<'static, i64>)] = &[
+    (
+        "two columns of a field",
+        &[(1, &[(2, &[5])]), (1, &[(2, &[5])])],
+    ),
+    (
+        "a field of two kinds",
+        &[(0, &[(2, &[5])]), (1, &[(2, &[5])])],
+    ),
+    ("a column without rows", &[(1, &[(2, &[5])]), (3, &[])]),
+    ("no column of the field", &[]),
+    ("another document", &[(1, &[(1, &[5]), (2, &[5])])]),
+    ("no term", &[(1, &[(2, &[5, 6])])]),
+    ("another number", &[(1, &[(2, &[4])])]),
+];
+
+fn refuses_numbers(
+    rt: &impl Abort,
+    alloc: Global,
+    faults: &[(&str, Fields<i64>)],
+) -> Result<(), Fail> {
+    for (fault, fields) in faults {
         let mut columns = small(rt, alloc)?;
-        columns.numbers = rows_of(rt, alloc, numbers)?;
+        columns.numbers = rows_of(rt, alloc, fields)?;
         refuses(rt, alloc, columns, fault);
     }
     Ok(())
@@ -555,8 +619,11 @@ fn postings_with(
 ) -> Result<PostingLists, Fail> {
     let mut all = Vec::new(alloc);
     for (at, own) in SMALL.postings.iter().enumerate() {
-        let list = if at == place { list } else { *own };
-        all.push(posting_list_of(rt, alloc, list)?)?;
+        if at == place {
+            all.push(posting_list_of(rt, alloc, list)?)?;
+        } else {
+            all.push(posting_list_of(rt, alloc, own)?)?;
+        }
     }
     Ok(PostingLists::of(all))
 }
@@ -588,20 +655,13 @@ fn refuses_lists(rt: &impl Abort, alloc: Global) -> Result<(), Fail> {
     Ok(())
 }
 
-/// A keyword and a number of document 3, where there are documents 0 to 2.
+/// A keyword of document 3, where there are documents 0 to 2.
 fn refuses_documents(rt: &impl Abort, alloc: Global) -> Result<(), Fail> {
+    let rows: Fields<u64> = &[(0, &[(0, &[0]), (1, &[0]), (2, &[1]), (3, &[1])])];
     let mut columns = small(rt, alloc)?;
     columns.postings = postings_with(rt, alloc, 1, &[(2, &[]), (3, &[])])?;
-    columns.ordinals = rows_of(
-        rt,
-        alloc,
-        &[(0, &[(0, &[0]), (1, &[0]), (2, &[1]), (3, &[1])])],
-    )?;
+    columns.ordinals = rows_of(rt, alloc, rows)?;
     refuses(rt, alloc, columns, "a keyword of no document");
-    let mut columns = small(rt, alloc)?;
-    columns.postings = postings_with(rt, alloc, 2, &[(2, &[]), (3, &[])])?;
-    columns.numbers = rows_of(rt, alloc, &[(1, &[(2, &[5]), (3, &[5])])])?;
-    refuses(rt, alloc, columns, "a number of no document");
     Ok(())
 }
 
@@ -631,10 +691,12 @@ fn columns_that_disagree(rt: HostRuntime) -> Result<(), Fail> {
     let columns = small(&rt, rt.alloc())?;
     assert!(rt; Segment::of_columns(rt.alloc(), columns).is_ok());
     refuses_scopes(&rt, rt.alloc())?;
-    refuses_no_document(&rt, rt.alloc())?;
-    refuses_roots(&rt, rt.alloc())?;
-    refuses_keywords(&rt, rt.alloc())?;
-    refuses_numbers(&rt, rt.alloc())?;
+    let nothing = columns_of(&rt, rt.alloc(), &NOTHING)?;
+    refuses(&rt, rt.alloc(), nothing, "no document");
+    refuses_ids(&rt, rt.alloc())?;
+    refuses_counts(&rt, rt.alloc())?;
+    refuses_keywords(&rt, rt.alloc(), KEYWORD_FAULTS)?;
+    refuses_numbers(&rt, rt.alloc(), NUMBER_FAULTS)?;
     refuses_presence(&rt, rt.alloc())?;
     refuses_postings(&rt, rt.alloc())?;
     refuses_lists(&rt, rt.alloc())?;
