@@ -144,6 +144,7 @@ fn has_key(numbers: &[i64], key: &[u8]) -> bool
 fn has_number(numbers: &[i64], number: i64) -> bool
     requires { IsSorted int_cmp numbers.now }
     ensures contained { IsTrue result ↔ Contains numbers.now number }
+    // they fit their type, so that each has a key of its own
     ensures fit { All (FitsSigned w64) numbers.now }
 {
     lies_between(numbers, number) && numbers.binary_search(&number).is_ok()
@@ -153,6 +154,7 @@ fn has_number(numbers: &[i64], number: i64) -> bool
 fn lies_between(numbers: &[i64], number: i64) -> bool
     requires { IsSorted int_cmp numbers.now }
     ensures contained { Contains numbers.now number → IsTrue result }
+    // since the first and the last do
     ensures fit { All (FitsSigned w64) numbers.now }
 {
     if numbers.is_empty() {

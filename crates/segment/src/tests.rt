@@ -17,6 +17,9 @@ type Range = (u32, u32);
 /// A document and its values or positions.
 type Row<'a, T> = (u32, &'a [T]);
 
+/// A root's id and number, and its join value: the relation, and a child's parent.
+type RootRow<'a> = (&'a [u8], u64, Option<u32>, &'a [u8]);
+
 /// A column for each of some fields.
 type Fields<'a, T> = &'a [(u32, &'a [Row<'a, T>])];
 
@@ -25,7 +28,7 @@ type Fields<'a, T> = &'a [(u32, &'a [Row<'a, T>])];
 struct Written<'a> {
     documents: u32,
     scopes: &'a [(u32, &'a [Range])],
-    roots: &'a [(&'a [u8], u64, JoinValue<'a>)],
+    roots: &'a [RootRow<'a>],
     sources: &'a [&'a [u8]],
     terms: &'a [(u32, &'a [u8])],
     postings: &'a [&'a [Row<'a, u32>]],
@@ -106,26 +109,27 @@ fn scopes_of(rt: &impl Abort, alloc: Global, scopes: &[(u32, &[Range])]) -> Resu
     Ok(BitList::of(list))
 }
 
-fn roots_of(alloc: Global, roots: &[(&[u8], u64, JoinValue)]) -> Result<RootList, Fail> {
+fn roots_of(alloc: Global, roots: &[RootRow]) -> Result<RootList, Fail> {
     let mut list = Vec::new(alloc);
-    for (id, number, join) in roots {
+    for (id, number, relation, parent) in roots {
         list.push(Root {
             id: stored_sources::Bytes::of(id.to_vec(alloc)?),
             number: *number,
-            join: join_of(alloc, *join)?,
+            join: join_of(alloc, *relation, parent)?,
         })?;
     }
     Ok(RootList::of(list))
 }
 
-fn join_of(alloc: Global, join: JoinValue) -> Result<Join, Fail> {
-    Ok(match join {
-        JoinValue::Unjoined => Join::Unjoined,
-        JoinValue::Named(relation) => Join::Named(relation),
-        JoinValue::Child(relation, parent) => {
-            Join::Child(relation, stored_sources::Bytes::of(parent.to_vec(alloc)?))
-        }
-    })
+fn join_of(alloc: Global, relation: Option<u32>, parent: &[u8]) -> Result<Join, Fail> {
+    let Some(relation) = relation else {
+        return Ok(Join::Unjoined);
+    };
+    if parent.is_empty() {
+        return Ok(Join::Named(relation));
+    }
+    let parent = parent.to_vec(alloc)?;
+    Ok(Join::Child(relation, stored_sources::Bytes::of(parent)))
 }
 
 fn sources_of(
@@ -221,7 +225,7 @@ fn present_of(
 const SINGLE: Written<'static> = Written {
     documents: 1,
     scopes: &[(1, &[(0, 1)])],
-    roots: &[(b"1", 0, JoinValue::Unjoined)],
+    roots: &[(b"1", 0, None, b"")],
     sources: &[b"{\"k\":\"a\"}"],
     terms: &[(0, b"a")],
     postings: &[&[(0, &[])]],
@@ -246,9 +250,9 @@ const BLOCKS: Written<'static> = Written {
         (67, &[(0, 1)]),
     ],
     roots: &[
-        (b"x", 7, JoinValue::Unjoined),
-        (b"yy", 9, JoinValue::Named(1)),
-        (b"z", 12, JoinValue::Child(0, b"yy")),
+        (b"x", 7, None, b""),
+        (b"yy", 9, Some(1), b""),
+        (b"z", 12, Some(0), b"yy"),
     ],
     sources: &[b"{}", b"{\"k\":\"ab\"}", b"{\"t\":\"\"}"],
     terms: &[
@@ -407,10 +411,7 @@ fn look_ups(rt: HostRuntime) -> Result<(), Fail> {
 const SMALL: Written<'static> = Written {
     documents: 3,
     scopes: &[(3, &[(1, 3)]), (3, &[(0, 1)])],
-    roots: &[
-        (b"a", 1, JoinValue::Unjoined),
-        (b"b", 2, JoinValue::Child(0, b"a")),
-    ],
+    roots: &[(b"a", 1, None, b""), (b"b", 2, Some(0), b"a")],
     sources: &[b"{}", b"{}"],
     terms: &[(0, b"x"), (0, b"y"), (1, FIVE), (2, b"w")],
     postings: &[
@@ -505,7 +506,7 @@ fn refuses_counts(rt: &impl Abort, alloc: Global) -> Result<(), Fail> {
     refuses(rt, alloc, columns, "a source too few");
     let mut columns = small(rt, alloc)?;
     columns.sources = sources_of(rt, alloc, &[b"{}"])?;
-    columns.roots = roots_of(alloc, &[(b"a", 1, JoinValue::Unjoined)])?;
+    columns.roots = roots_of(alloc, &[(b"a", 1, None, b"")])?;
     refuses(rt, alloc, columns, "a root too few");
     Ok(())
 }
