@@ -2,7 +2,9 @@
 ghost use Rattle.std.specs.Prelude.{◌≡◌, length, IfOk};
 ghost use Rattle.segment.specs.Live.{IsLiveOver};
 
-use crate::{ByField, Columns, Join, JoinValue, LiveBits, Root, RootList, Segment, SegmentRefusal};
+use crate::{
+    ByField, Columns, Join, JoinValue, LiveBits, NoMemory, Root, RootList, Segment, SegmentRefusal,
+};
 use block_bits::{BitList, BitSet};
 use doc_values::{NumberRows, OrdinalRows, RowList, ValueList};
 use postings::{PositionList, PostingList, PostingLists};
@@ -17,8 +19,8 @@ type Range = (u32, u32);
 /// A document and its values or positions.
 type Row<'a, T> = (u32, &'a [T]);
 
-/// A root's id and number, and its join value: the relation, and a child's parent.
-type RootRow<'a> = (&'a [u8], u64, Option<u32>, &'a [u8]);
+/// A root's id and number, and its join value: 0 for none, 1 and a relation, or 2, a relation and a parent.
+type RootRow<'a> = (&'a [u8], u64, u8, u32, &'a [u8]);
 
 /// A column for each of some fields.
 type Fields<'a, T> = &'a [(u32, &'a [Row<'a, T>])];
@@ -28,7 +30,6 @@ type Fields<'a, T> = &'a [(u32, &'a [Row<'a, T>])];
 struct Written<'a> {
     documents: u32,
     scopes: &'a [(u32, &'a [Range])],
-    roots: &'a [RootRow<'a>],
     sources: &'a [&'a [u8]],
     terms: &'a [(u32, &'a [u8])],
     postings: &'a [&'a [Row<'a, u32>]],
@@ -37,39 +38,38 @@ struct Written<'a> {
     present: &'a [(u32, u32, &'a [Range])],
 }
 
-fn columns_of(rt: &impl Abort, alloc: Global, written: &Written) -> Result<Columns, Fail> {
-    let (scopes, roots, sources) = blocks_of(rt, alloc, written)?;
-    let (terms, postings) = words_of(rt, alloc, written)?;
-    let (ordinals, numbers, present) = fields_of(rt, alloc, written)?;
-    Ok(Columns {
+fn columns_of(rt: &impl Abort, alloc: Global, written: &Written, roots: &[RootRow]) -> Columns {
+    let (scopes, sources) = blocks_of(rt, alloc, written).expect(rt, "memory");
+    let (terms, postings) = words_of(rt, alloc, written).expect(rt, "memory");
+    let (ordinals, numbers, present) = fields_of(rt, alloc, written).expect(rt, "memory");
+    Columns {
         documents: written.documents,
         scopes,
-        roots,
+        roots: roots_of(rt, alloc, roots),
         sources,
         terms,
         postings,
         ordinals,
         numbers,
         present,
-    })
+    }
 }
 
 fn blocks_of(
     rt: &impl Abort,
     alloc: Global,
     written: &Written,
-) -> Result<(BitList, RootList, stored_sources::BytesList), Fail> {
+) -> Result<(BitList, stored_sources::BytesList), NoMemory> {
     let scopes = scopes_of(rt, alloc, written.scopes)?;
-    let roots = roots_of(alloc, written.roots)?;
     let sources = sources_of(rt, alloc, written.sources)?;
-    Ok((scopes, roots, sources))
+    Ok((scopes, sources))
 }
 
 fn words_of(
     rt: &impl Abort,
     alloc: Global,
     written: &Written,
-) -> Result<(TermList, PostingLists), Fail> {
+) -> Result<(TermList, PostingLists), NoMemory> {
     let terms = terms_of(rt, alloc, written.terms)?;
     let postings = postings_of(rt, alloc, written.postings)?;
     Ok((terms, postings))
@@ -79,14 +79,14 @@ fn fields_of(
     rt: &impl Abort,
     alloc: Global,
     written: &Written,
-) -> Result<(ByField<OrdinalRows>, ByField<NumberRows>, ByField<BitSet>), Fail> {
+) -> Result<(ByField<OrdinalRows>, ByField<NumberRows>, ByField<BitSet>), NoMemory> {
     let ordinals = rows_of(rt, alloc, written.ordinals)?;
     let numbers = rows_of(rt, alloc, written.numbers)?;
     let present = present_of(rt, alloc, written.present)?;
     Ok((ordinals, numbers, present))
 }
 
-fn set_of(rt: &impl Abort, alloc: Global, len: u32, ranges: &[Range]) -> Result<BitSet, Fail> {
+fn set_of(rt: &impl Abort, alloc: Global, len: u32, ranges: &[Range]) -> Result<BitSet, NoMemory> {
     let mut set = BitSet::empty(alloc, len)?;
     for (from, end) in ranges {
         put_range(rt, &mut set, *from, *end);
@@ -101,7 +101,11 @@ fn put_range(rt: &impl Abort, set: &mut BitSet, from: u32, end: u32) {
     }
 }
 
-fn scopes_of(rt: &impl Abort, alloc: Global, scopes: &[(u32, &[Range])]) -> Result<BitList, Fail> {
+fn scopes_of(
+    rt: &impl Abort,
+    alloc: Global,
+    scopes: &[(u32, &[Range])],
+) -> Result<BitList, NoMemory> {
     let mut list = Vec::new(alloc);
     for (len, ranges) in scopes {
         list.push(set_of(rt, alloc, *len, ranges)?)?;
@@ -109,34 +113,34 @@ fn scopes_of(rt: &impl Abort, alloc: Global, scopes: &[(u32, &[Range])]) -> Resu
     Ok(BitList::of(list))
 }
 
-fn roots_of(alloc: Global, roots: &[RootRow]) -> Result<RootList, Fail> {
+fn roots_of(rt: &impl Abort, alloc: Global, roots: &[RootRow]) -> RootList {
     let mut list = Vec::new(alloc);
-    for (id, number, relation, parent) in roots {
-        list.push(Root {
-            id: stored_sources::Bytes::of(id.to_vec(alloc)?),
+    for (id, number, kind, relation, parent) in roots {
+        let id = id.to_vec(alloc).expect(rt, "memory");
+        let parent = parent.to_vec(alloc).expect(rt, "memory");
+        let root = Root {
+            id: stored_sources::Bytes::of(id),
             number: *number,
-            join: join_of(alloc, *relation, parent)?,
-        })?;
+            join: join_of(*kind, *relation, parent),
+        };
+        assert!(rt; list.push(root).is_ok());
     }
-    Ok(RootList::of(list))
+    RootList::of(list)
 }
 
-fn join_of(alloc: Global, relation: Option<u32>, parent: &[u8]) -> Result<Join, Fail> {
-    let Some(relation) = relation else {
-        return Ok(Join::Unjoined);
-    };
-    if parent.is_empty() {
-        return Ok(Join::Named(relation));
+fn join_of(kind: u8, relation: u32, parent: Vec<u8>) -> Join {
+    match kind {
+        0 => Join::Unjoined,
+        1 => Join::Named(relation),
+        _ => Join::Child(relation, stored_sources::Bytes::of(parent)),
     }
-    let parent = parent.to_vec(alloc)?;
-    Ok(Join::Child(relation, stored_sources::Bytes::of(parent)))
 }
 
 fn sources_of(
     rt: &impl Abort,
     alloc: Global,
     sources: &[&[u8]],
-) -> Result<stored_sources::BytesList, Fail> {
+) -> Result<stored_sources::BytesList, NoMemory> {
     let mut list = Vec::new(alloc);
     for source in sources {
         list.push(stored_sources::Bytes::of(source.to_vec(alloc)?))?;
@@ -145,7 +149,7 @@ fn sources_of(
     Ok(stored_sources::BytesList::of(list))
 }
 
-fn terms_of(rt: &impl Abort, alloc: Global, terms: &[(u32, &[u8])]) -> Result<TermList, Fail> {
+fn terms_of(rt: &impl Abort, alloc: Global, terms: &[(u32, &[u8])]) -> Result<TermList, NoMemory> {
     let mut list = Vec::new(alloc);
     for (field, bytes) in terms {
         list.push((*field, term_table::Bytes::of(bytes.to_vec(alloc)?)))?;
@@ -158,7 +162,7 @@ fn postings_of(
     rt: &impl Abort,
     alloc: Global,
     lists: &[&[Row<u32>]],
-) -> Result<PostingLists, Fail> {
+) -> Result<PostingLists, NoMemory> {
     let mut all = Vec::new(alloc);
     for list in lists {
         all.push(posting_list_of(rt, alloc, list)?)?;
@@ -170,7 +174,7 @@ fn posting_list_of(
     rt: &impl Abort,
     alloc: Global,
     postings: &[Row<u32>],
-) -> Result<PostingList, Fail> {
+) -> Result<PostingList, NoMemory> {
     let mut list = Vec::new(alloc);
     for (doc, positions) in postings {
         let positions = positions.to_vec(alloc)?;
@@ -185,7 +189,7 @@ fn rows_of<T: Ord + Copy>(
     rt: &impl Abort,
     alloc: Global,
     columns: Fields<T>,
-) -> Result<ByField<RowList<T>>, Fail> {
+) -> Result<ByField<RowList<T>>, NoMemory> {
     let mut all = Vec::new(alloc);
     for (field, rows) in columns {
         all.push((*field, row_list_of(rt, alloc, rows)?))?;
@@ -197,7 +201,7 @@ fn row_list_of<T: Ord + Copy>(
     rt: &impl Abort,
     alloc: Global,
     rows: &[Row<T>],
-) -> Result<RowList<T>, Fail> {
+) -> Result<RowList<T>, NoMemory> {
     let mut list = Vec::new(alloc);
     for (doc, values) in rows {
         let values = values.to_vec(alloc)?;
@@ -213,7 +217,7 @@ fn present_of(
     rt: &impl Abort,
     alloc: Global,
     columns: &[(u32, u32, &[Range])],
-) -> Result<ByField<BitSet>, Fail> {
+) -> Result<ByField<BitSet>, NoMemory> {
     let mut all = Vec::new(alloc);
     for (field, len, ranges) in columns {
         all.push((*field, set_of(rt, alloc, *len, ranges)?))?;
@@ -225,7 +229,6 @@ fn present_of(
 const SINGLE: Written<'static> = Written {
     documents: 1,
     scopes: &[(1, &[(0, 1)])],
-    roots: &[(b"1", 0, None, b"")],
     sources: &[b"{\"k\":\"a\"}"],
     terms: &[(0, b"a")],
     postings: &[&[(0, &[])]],
@@ -233,6 +236,8 @@ const SINGLE: Written<'static> = Written {
     numbers: &[],
     present: &[],
 };
+
+const SINGLE_ROOT: &[RootRow<'static>] = &[(b"1", 0, 0, 0, b"")];
 
 /// The key of -1: 8 bytes of 2^63 - 1.
 const MINUS_ONE: &[u8] = b"\x7f\xff\xff\xff\xff\xff\xff\xff";
@@ -248,11 +253,6 @@ const BLOCKS: Written<'static> = Written {
         (67, &[(63, 64), (65, 67)]),
         (67, &[(1, 63), (64, 65)]),
         (67, &[(0, 1)]),
-    ],
-    roots: &[
-        (b"x", 7, None, b""),
-        (b"yy", 9, Some(1), b""),
-        (b"z", 12, Some(0), b"yy"),
     ],
     sources: &[b"{}", b"{\"k\":\"ab\"}", b"{\"t\":\"\"}"],
     terms: &[
@@ -276,11 +276,11 @@ const BLOCKS: Written<'static> = Written {
     present: &[(2, 67, &[(63, 64), (65, 67)])],
 };
 
-/// The segment of columns that agree.
-fn segment_of(rt: &impl Abort, alloc: Global, written: &Written) -> Result<Segment, Fail> {
-    let columns = columns_of(rt, alloc, written)?;
-    Ok(Segment::of_columns(alloc, columns)?)
-}
+const BLOCK_ROOTS: &[RootRow<'static>] = &[
+    (b"x", 7, 0, 0, b""),
+    (b"yy", 9, 1, 1, b""),
+    (b"z", 12, 2, 0, b"yy"),
+];
 
 fn read_terms(rt: &impl Abort, segment: &Segment) {
     let terms: [(u32, &[u8], Option<u64>); 6] = [
@@ -390,28 +390,35 @@ fn kill_the_rest(rt: &impl Abort, alloc: Global, segment: &Segment) -> Result<()
     Ok(())
 }
 
-#[test]
-fn look_ups(rt: HostRuntime) -> Result<(), Fail> {
-    let segment = segment_of(&rt, rt.alloc(), &BLOCKS)?;
+fn kill(rt: &impl Abort, alloc: Global, segment: &Segment) -> Result<(), Fail> {
+    kill_each(rt, alloc, segment)?;
+    kill_the_rest(rt, alloc, segment)
+}
+
+/// Reads the segment of three blocks, and kills them.
+fn read(rt: &impl Abort, alloc: Global, segment: &Segment) -> Result<(), Fail> {
     assert!(rt; segment.docs() == 67 && segment.roots() == 3);
     assert!(rt; segment.scopes().as_slice().len() == 3 && segment.sources().count() == 3);
-    read_terms(&rt, &segment);
-    read_postings(&rt, &segment);
-    read_columns(&rt, &segment);
-    read_roots(&rt, &segment);
-    kill_each(&rt, rt.alloc(), &segment)?;
-    kill_the_rest(&rt, rt.alloc(), &segment)?;
-    let single = segment_of(&rt, rt.alloc(), &SINGLE)?;
-    assert!(rt; single.docs() == 1 && single.roots() == 1);
-    assert!(rt; single.root_doc(0) == 0);
-    Ok(())
+    read_terms(rt, segment);
+    read_postings(rt, segment);
+    read_columns(rt, segment);
+    read_roots(rt, segment);
+    kill(rt, alloc, segment)
+}
+
+#[test]
+fn look_ups(rt: HostRuntime) -> Result<(), Fail> {
+    let columns = columns_of(&rt, rt.alloc(), &BLOCKS, BLOCK_ROOTS);
+    match Segment::of_columns(rt.alloc(), columns) {
+        Ok(segment) => read(&rt, rt.alloc(), &segment),
+        Err(refusal) => Err(Fail::from(refusal)),
+    }
 }
 
 /// Two blocks: documents 0 and 1, and 2 alone. Field 0 is a keyword, field 1 a number, field 2 a text.
 const SMALL: Written<'static> = Written {
     documents: 3,
     scopes: &[(3, &[(1, 3)]), (3, &[(0, 1)])],
-    roots: &[(b"a", 1, None, b""), (b"b", 2, Some(0), b"a")],
     sources: &[b"{}", b"{}"],
     terms: &[(0, b"x"), (0, b"y"), (1, FIVE), (2, b"w")],
     postings: &[
@@ -425,8 +432,10 @@ const SMALL: Written<'static> = Written {
     present: &[(2, 3, &[(1, 2)])],
 };
 
-fn small(rt: &impl Abort, alloc: Global) -> Result<Columns, Fail> {
-    columns_of(rt, alloc, &SMALL)
+const SMALL_ROOTS: &[RootRow<'static>] = &[(b"a", 1, 0, 0, b""), (b"b", 2, 2, 0, b"a")];
+
+fn small(rt: &impl Abort, alloc: Global) -> Columns {
+    columns_of(rt, alloc, &SMALL, SMALL_ROOTS)
 }
 
 /// Wants columns to be refused for their fault.
@@ -447,9 +456,12 @@ fn refuses_scopes(rt: &impl Abort, alloc: Global) -> Result<(), Fail> {
         ("one in two scopes", 3, &[(3, &[(1, 3)]), (3, &[(0, 2)])]),
     ];
     for (fault, documents, scopes) in faults {
-        let mut columns = small(rt, alloc)?;
-        columns.documents = documents;
-        columns.scopes = scopes_of(rt, alloc, scopes)?;
+        let scopes = scopes_of(rt, alloc, scopes)?;
+        let columns = Columns {
+            documents,
+            scopes,
+            ..small(rt, alloc)
+        };
         refuses(rt, alloc, columns, fault);
     }
     Ok(())
@@ -459,7 +471,6 @@ fn refuses_scopes(rt: &impl Abort, alloc: Global) -> Result<(), Fail> {
 const NOTHING: Written<'static> = Written {
     documents: 0,
     scopes: &[(0, &[])],
-    roots: &[],
     sources: &[],
     terms: &[],
     postings: &[],
@@ -468,15 +479,16 @@ const NOTHING: Written<'static> = Written {
     present: &[],
 };
 
-/// A root whose id and whose parent's id have so many bytes.
-fn root_of(alloc: Global, id: usize, parent: usize) -> Result<Root, Fail> {
-    let id = stored_sources::Bytes::of(vec![in alloc; b'a'; id]?);
-    let parent = stored_sources::Bytes::of(vec![in alloc; b'b'; parent]?);
-    Ok(Root {
-        id,
-        number: 2,
-        join: Join::Child(0, parent),
-    })
+/// Whether columns agree whose second root has an id and a parent's id of so many bytes.
+fn takes_ids(rt: &impl Abort, alloc: Global, id: usize, parent: usize) -> Result<bool, Fail> {
+    let id = vec![in alloc; b'a'; id]?;
+    let parent = vec![in alloc; b'b'; parent]?;
+    let roots: [RootRow; 2] = [
+        (b"a", 1, 0, 0, b""),
+        (id.as_slice(), 2, 2, 0, parent.as_slice()),
+    ];
+    let columns = columns_of(rt, alloc, &SMALL, &roots);
+    Ok(Segment::of_columns(alloc, columns).is_ok())
 }
 
 fn refuses_ids(rt: &impl Abort, alloc: Global) -> Result<(), Fail> {
@@ -489,25 +501,21 @@ fn refuses_ids(rt: &impl Abort, alloc: Global) -> Result<(), Fail> {
         (1, 513, false),
     ];
     for (id, parent, agree) in rows {
-        let mut columns = small(rt, alloc)?;
-        let mut roots = Vec::new(alloc);
-        roots.push(root_of(alloc, 1, 1)?)?;
-        roots.push(root_of(alloc, id, parent)?)?;
-        columns.roots = RootList::of(roots);
-        assert!(rt; Segment::of_columns(alloc, columns).is_ok() == agree);
+        assert!(rt; takes_ids(rt, alloc, id, parent)? == agree);
     }
     Ok(())
 }
 
-/// As many roots and sources as scope 0 has documents, but for one.
+/// As many roots or sources as scope 0 has documents, but for one.
 fn refuses_counts(rt: &impl Abort, alloc: Global) -> Result<(), Fail> {
-    let mut columns = small(rt, alloc)?;
-    columns.sources = sources_of(rt, alloc, &[b"{}"])?;
-    refuses(rt, alloc, columns, "a source too few");
-    let mut columns = small(rt, alloc)?;
-    columns.sources = sources_of(rt, alloc, &[b"{}"])?;
-    columns.roots = roots_of(alloc, &[(b"a", 1, None, b"")])?;
+    let columns = columns_of(rt, alloc, &SMALL, &[(b"a", 1, 0, 0, b"")]);
     refuses(rt, alloc, columns, "a root too few");
+    let sources = sources_of(rt, alloc, &[b"{}"])?;
+    let columns = Columns {
+        sources,
+        ..small(rt, alloc)
+    };
+    refuses(rt, alloc, columns, "a source too few");
     Ok(())
 }
 
@@ -554,8 +562,11 @@ fn refuses_keywords(
     faults: &[(&str, Fields<u64>)],
 ) -> Result<(), Fail> {
     for (fault, fields) in faults {
-        let mut columns = small(rt, alloc)?;
-        columns.ordinals = rows_of(rt, alloc, fields)?;
+        let ordinals = rows_of(rt, alloc, fields)?;
+        let columns = Columns {
+            ordinals,
+            ..small(rt, alloc)
+        };
         refuses(rt, alloc, columns, fault);
     }
     Ok(())
@@ -584,8 +595,11 @@ fn refuses_numbers(
     faults: &[(&str, Fields<i64>)],
 ) -> Result<(), Fail> {
     for (fault, fields) in faults {
-        let mut columns = small(rt, alloc)?;
-        columns.numbers = rows_of(rt, alloc, fields)?;
+        let numbers = rows_of(rt, alloc, fields)?;
+        let columns = Columns {
+            numbers,
+            ..small(rt, alloc)
+        };
         refuses(rt, alloc, columns, fault);
     }
     Ok(())
@@ -604,8 +618,11 @@ fn refuses_presence(rt: &impl Abort, alloc: Global) -> Result<(), Fail> {
         ("a word's document left out", &[(2, 3, &[(0, 1)])]),
     ];
     for (fault, present) in faults {
-        let mut columns = small(rt, alloc)?;
-        columns.present = present_of(rt, alloc, present)?;
+        let present = present_of(rt, alloc, present)?;
+        let columns = Columns {
+            present,
+            ..small(rt, alloc)
+        };
         refuses(rt, alloc, columns, fault);
     }
     Ok(())
@@ -617,7 +634,7 @@ fn postings_with(
     alloc: Global,
     place: usize,
     list: &[Row<u32>],
-) -> Result<PostingLists, Fail> {
+) -> Result<PostingLists, NoMemory> {
     let mut all = Vec::new(alloc);
     for (at, own) in SMALL.postings.iter().enumerate() {
         if at == place {
@@ -640,8 +657,11 @@ fn refuses_postings(rt: &impl Abort, alloc: Global) -> Result<(), Fail> {
         ("a word where no text is", 3, &[(1, &[0]), (2, &[0])]),
     ];
     for (fault, place, list) in faults {
-        let mut columns = small(rt, alloc)?;
-        columns.postings = postings_with(rt, alloc, place, list)?;
+        let postings = postings_with(rt, alloc, place, list)?;
+        let columns = Columns {
+            postings,
+            ..small(rt, alloc)
+        };
         refuses(rt, alloc, columns, fault);
     }
     Ok(())
@@ -650,8 +670,11 @@ fn refuses_postings(rt: &impl Abort, alloc: Global) -> Result<(), Fail> {
 /// As many lists of postings as there are terms, but for one.
 fn refuses_lists(rt: &impl Abort, alloc: Global) -> Result<(), Fail> {
     let few: &[&[Row<u32>]] = &[&[(0, &[]), (1, &[])], &[(2, &[])], &[(2, &[])]];
-    let mut columns = small(rt, alloc)?;
-    columns.postings = postings_of(rt, alloc, few)?;
+    let postings = postings_of(rt, alloc, few)?;
+    let columns = Columns {
+        postings,
+        ..small(rt, alloc)
+    };
     refuses(rt, alloc, columns, "a list too few");
     Ok(())
 }
@@ -659,40 +682,50 @@ fn refuses_lists(rt: &impl Abort, alloc: Global) -> Result<(), Fail> {
 /// A keyword of document 3, where there are documents 0 to 2.
 fn refuses_documents(rt: &impl Abort, alloc: Global) -> Result<(), Fail> {
     let rows: Fields<u64> = &[(0, &[(0, &[0]), (1, &[0]), (2, &[1]), (3, &[1])])];
-    let mut columns = small(rt, alloc)?;
-    columns.postings = postings_with(rt, alloc, 1, &[(2, &[]), (3, &[])])?;
-    columns.ordinals = rows_of(rt, alloc, rows)?;
+    let postings = postings_with(rt, alloc, 1, &[(2, &[]), (3, &[])])?;
+    let ordinals = rows_of(rt, alloc, rows)?;
+    let columns = Columns {
+        postings,
+        ordinals,
+        ..small(rt, alloc)
+    };
     refuses(rt, alloc, columns, "a keyword of no document");
     Ok(())
 }
 
-/// Columns whose word, of field 2, has so many bytes.
-fn with_word(rt: &impl Abort, alloc: Global, len: usize) -> Result<Columns, Fail> {
+/// Whether columns agree whose word, of field 2, has so many bytes.
+fn takes_word(rt: &impl Abort, alloc: Global, len: usize) -> Result<bool, Fail> {
     let word = vec![in alloc; b'w'; len]?;
     let terms: [(u32, &[u8]); 4] = [(0, b"x"), (0, b"y"), (1, FIVE), (2, word.as_slice())];
-    let mut columns = small(rt, alloc)?;
-    columns.terms = terms_of(rt, alloc, &terms)?;
-    Ok(columns)
+    let terms = terms_of(rt, alloc, &terms)?;
+    let columns = Columns {
+        terms,
+        ..small(rt, alloc)
+    };
+    Ok(Segment::of_columns(alloc, columns).is_ok())
 }
 
 fn refuses_terms(rt: &impl Abort, alloc: Global) -> Result<(), Fail> {
-    let longest = with_word(rt, alloc, 32_766)?;
-    assert!(rt; Segment::of_columns(alloc, longest).is_ok());
-    let longer = with_word(rt, alloc, 32_767)?;
-    refuses(rt, alloc, longer, "a term too long");
-    let mut columns = small(rt, alloc)?;
+    assert!(rt; takes_word(rt, alloc, 32_766)?);
+    assert!(rt; !takes_word(rt, alloc, 32_767)?);
     let key: &[u8] = b"\x80\0\0\0\0\0\x05";
-    columns.terms = terms_of(rt, alloc, &[(0, b"x"), (0, b"y"), (1, key), (2, b"w")])?;
+    let terms = terms_of(rt, alloc, &[(0, b"x"), (0, b"y"), (1, key), (2, b"w")])?;
+    let columns = Columns {
+        terms,
+        ..small(rt, alloc)
+    };
     refuses(rt, alloc, columns, "a key of 7 bytes");
     Ok(())
 }
 
 #[test]
 fn columns_that_disagree(rt: HostRuntime) -> Result<(), Fail> {
-    let columns = small(&rt, rt.alloc())?;
+    let columns = small(&rt, rt.alloc());
+    assert!(rt; Segment::of_columns(rt.alloc(), columns).is_ok());
+    let columns = columns_of(&rt, rt.alloc(), &SINGLE, SINGLE_ROOT);
     assert!(rt; Segment::of_columns(rt.alloc(), columns).is_ok());
     refuses_scopes(&rt, rt.alloc())?;
-    let nothing = columns_of(&rt, rt.alloc(), &NOTHING)?;
+    let nothing = columns_of(&rt, rt.alloc(), &NOTHING, &[]);
     refuses(&rt, rt.alloc(), nothing, "no document");
     refuses_ids(&rt, rt.alloc())?;
     refuses_counts(&rt, rt.alloc())?;
