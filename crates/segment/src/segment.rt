@@ -1,6 +1,6 @@
 //! The segment and its readers.
 
-ghost use Rattle.std.specs.Prelude.{◌≡◌, ℕ, ◌<◌, ◌≤◌, ◌^◌, length, slice_get, Some, IsSomeAnd, IfOk, IsErrOf};
+ghost use Rattle.std.specs.Prelude.{◌≡◌, ◌↔◌, ℕ, ◌<◌, ◌≤◌, ◌^◌, length, slice_get, Some, IsSomeAnd, IfOk, IsErrOf};
 ghost use Rattle.std.specs.Option.{option_map};
 ghost use Rattle.segment.specs.Agree.{AreColumns};
 ghost use Rattle.segment.specs.Fields.{column_of};
@@ -49,7 +49,7 @@ impl Segment {
     pub fn of_columns(alloc: Global, columns: Columns) -> Result<Segment, SegmentRefusal>
         ensures columns { IfOk result (λ segment. segment ≡ columns) }
         ensures agree { IfOk result (λ segment. AreColumns columns) }
-        ensures disagree { IsErrOf result SegmentRefusal.NotASegment → ¬ AreColumns columns }
+        ensures disagree { IsErrOf result SegmentRefusal.NotASegment ↔ ¬ AreColumns columns }
     {
         if !are_columns(&columns) {
             return Err(SegmentRefusal::NotASegment);
