@@ -23,16 +23,21 @@ for number, line in enumerate(sys.stdin):
 """
 
 
-def index_lines(count, ids):
+IN_ORDER = '{"name":"item %d","offers":[%s]}', '{"color":"%s","price":%d}'
+OUT_OF_ORDER = '{"title":"item %d","offers":[%s]}', '{"tone":"%s","price":%d}'
+
+
+def index_lines(count, ids, texts=IN_ORDER):
     """Action lines with their source lines: products with nested offers, over so many ids."""
+    source, offer = texts
     numbers = random.Random(7)
     for _ in range(count):
         product = numbers.randrange(ids)
         offers = ",".join(
-            '{"color":"%s","price":%d}' % (numbers.choice(["red", "green", "blue"]), numbers.randrange(100))
+            offer % (numbers.choice(["red", "green", "blue"]), numbers.randrange(100))
             for _ in range(numbers.randrange(4))
         )
-        yield '{"index":{"_id":"%d"}}\n{"name":"item %d","offers":[%s]}\n' % (product, product, offers)
+        yield '{"index":{"_id":"%d"}}\n%s\n' % (product, source % (product, offers))
 
 
 def search_lines(count):
@@ -66,4 +71,5 @@ def compare(name, lines):
 
 
 compare("index", index_lines(200_000, 50_000))
+compare("index, names out of byte order", index_lines(200_000, 50_000, OUT_OF_ORDER))
 compare("search", search_lines(20_000))
