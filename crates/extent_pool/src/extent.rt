@@ -47,12 +47,14 @@ impl Model for ExtentList {
 }
 
 impl ExtentList {
+    /// The list of these extents. Takes no memory.
     pub fn of(extents: Vec<Extent>) -> ExtentList
         ensures { result.extents ≡ extents.items }
     {
         ExtentList { extents }
     }
 
+    /// The vector again. Takes no memory.
     pub fn into_vec(self) -> Vec<Extent>
         ensures { result.items ≡ self.extents }
     {
@@ -60,6 +62,7 @@ impl ExtentList {
         extents
     }
 
+    /// The extents, in order.
     pub fn as_slice(&self) -> &[Extent]
         ensures { result.now ≡ self.now.extents }
     {
