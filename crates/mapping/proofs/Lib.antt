@@ -1,4 +1,3 @@
-pub mod Examples
 pub mod Orders
 pub mod Ranks
 pub mod Puts
@@ -9,15 +8,10 @@ pub mod Pairs
 pub mod Walks
 pub mod Ties
 pub mod Single
-pub mod Numerals
 pub mod LookUps
 pub mod Above
 pub mod Nearest
 pub mod Founded
 pub mod OfBody
 pub mod Numbering
-pub mod Ways
-pub mod Inside
-pub mod Places
 pub mod Fields
-pub mod Terms

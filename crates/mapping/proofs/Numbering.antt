@@ -6,8 +6,7 @@ use Rattle.std.proofs.lemmas.List.FromFn.{length-range_with_len, get_or-range_wi
 use Rattle.std.proofs.lemmas.List.Recursion.{is_count_by}
 use Rattle.std.proofs.lemmas.List.Sorted.{All-permutation, sum_by-IsPermutation}
 use Rattle.std.specs.List.{AllByRecursion, flat_map, range_with_len, count_by}
-use Rattle.mapping.specs.Mapping.{Mapping, outer}
-use Rattle.mapping.specs.Object.{kids}
+use Rattle.mapping.specs.Mapping.{Mapping, outer, kids}
 use Rattle.mapping.specs.IsMapping.{IsMapping}
 use Rattle.mapping.proofs.Walks.{split}
 use Rattle.mapping.proofs.Nearest.{append_nil}

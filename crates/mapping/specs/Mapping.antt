@@ -1,10 +1,10 @@
 -- What the bodies of a mapping say together: numbered fields, scopes and relations.
-use Rattle.std.specs.Prelude.{ℕ, zero, suc, ◌+◌, ◌-◌, ◌≡◌, ◌==◌, Bool, true, false, ◌&&◌, ◌||◌, not, if◌then◌else◌, nat_le, nat_lt, List, [], ◌∷◌, ◌++◌, length, map, filter, codes, Option, Some, None, is_some, get_or}
+use Rattle.std.specs.Prelude.{ℕ, zero, suc, ◌+◌, ◌-◌, ◌≡◌, ◌==◌, Bool, true, false, ◌&&◌, ◌||◌, not, if◌then◌else◌, nat_le, nat_lt, List, [], ◌∷◌, ◌++◌, length, map, filter, codes, Option, Some, None, is_some, option_and_then, get_or}
 use Rattle.std.specs.List.{range_with_len}
 use Rattle.tree_json.specs.Value.{JsonValue}
 use Rattle.mapping.specs.declared.kind.Kind.{Kind}
 use Rattle.mapping.specs.declared.kind.Kind.TheVariants.{Object}
-use Rattle.mapping.specs.Names.{in_byte_order, place_of, lies_above, names_between}
+use Rattle.mapping.specs.Names.{has_dot, joined, in_byte_order, place_of, lies_above, names_between}
 use Rattle.mapping.specs.Body.{Property, properties_of, kind_of, is_nested, is_true, member_named, index_of}
 use Rattle.mapping.specs.Relations.{Relation, relations_of}
 
@@ -178,6 +178,28 @@ scope_field_of m n = if n == 0 then None else field_named m (scope_at m n).path
 abbrev pub names_to : Mapping → ℕ → List (List ℕ)
 names_to m f = names_between (scope_at m (home_of m f)).path (field_at m f).path
 
+-- the nested paths whose home is a scope, in byte order
+abbrev pub kids : Mapping → ℕ → List ℕ
+kids m s = filter (λ n. outer m n == s) m.order
+
+-- ---- what stands in the mapping of a generation
+
+abbrev pub knows : Mapping → ℕ → ℕ → Bool
+knows m g f = nat_le (field_at m f).since g
+
+abbrev pub knows_relation : Mapping → ℕ → ℕ → Bool
+knows_relation m g r = nat_le (relation_at m r).since g
+
+abbrev pub if_known : (ℕ → Bool) → ℕ → Option ℕ
+if_known known n = if known n then Some n else None
+
+-- the field of a name below a path; a name with a dot is no path, and has none
+abbrev pub field_below : Mapping → ℕ → List ℕ → List ℕ → Option ℕ
+field_below m g path name = if has_dot name then None else option_and_then (if_known (knows m g)) (field_named m (joined path name))
+
+abbrev pub relation_known : Mapping → ℕ → List ℕ → Option ℕ
+relation_known m g name = option_and_then (if_known (knows_relation m g)) (relation_named m name)
+
 -- ---- above
 
 -- scope a lies above scope b: the names of a are a proper prefix of the names of b
@@ -196,10 +218,6 @@ reaches m (suc left) n s =
     n == s
     || (((scope_at m n).in_parent && reaches m left (outer m n) s)
     || ((scope_at m n).in_root && s == 0))
-
--- the field stands in the mapping of a generation
-abbrev pub knows : Mapping → ℕ → ℕ → Bool
-knows m g f = nat_le (field_at m f).since g
 
 -- A field shows its values at its home. Where a nested path that shows them has `include_in_parent` the scope around
 -- it shows them too, and where it has `include_in_root` so does the root (Elasticsearch reference, nested field type).

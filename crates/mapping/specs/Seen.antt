@@ -8,7 +8,7 @@ abbrev pub pair_of : Lent → Pair
 pair_of p = record { parent = p.parent.now; child = p.child.now }
 
 abbrev pub relation_of : Kept → Relation
-relation_of r = record { name = r.name.items; parent = r.parent; since = 1 }
+relation_of r = record { name = r.name.items; parent = r.parent; since = r.since }
 
 -- what a table of relations says of one, and nothing of none
 abbrev pub told : List (Option ℕ) → Option ℕ → Option ℕ

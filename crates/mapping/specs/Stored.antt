@@ -12,7 +12,7 @@ use Rattle.mapping.specs.Names.{AreAscending}
 use Rattle.mapping.specs.Seen.{relation_of}
 
 abbrev pub field_of : Kept → Field
-field_of f = record { path = f.path.items; kind = f.kind; home = f.home; since = 1 }
+field_of f = record { path = f.path.items; kind = f.kind; home = f.home; since = f.since }
 
 -- a scope but for its path and its names
 pub record Parts : Type 0 where

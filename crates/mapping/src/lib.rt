@@ -1,12 +1,11 @@
-//! Mappings: fields, scopes and relations, and what a source is under them.
+//! Mappings: what their bodies say together, as numbered fields, scopes and relations.
+//!
+//! Stands on `tree_json`. `specs/Mapping` says what a mapping is and `specs/IsMapping` what holds of each; the look-ups of
+//! `Mapping` answer as these say. Others cite the look-ups and the law `scopes_form_chains`. Begin with `specs/Body`.
 #![tactic(auto)]
 
 mod body;
-mod convert;
 mod copy;
-mod fault;
-mod field_value;
-mod join;
 mod judge;
 mod kind;
 mod law;
@@ -20,10 +19,7 @@ mod scope;
 #[cfg(test)]
 mod tests;
 
-pub use convert::value_of;
-pub use fault::{Fault, first_fault};
-pub use field_value::{Bytes, FieldValue};
 pub use kind::Kind;
-pub use law::{objects_nest, scopes_form_chains};
+pub use law::scopes_form_chains;
 pub use mapping::Mapping;
-pub use refusal::{MappingRefusal, NoMemory, ValueRefusal};
+pub use refusal::{MappingRefusal, NoMemory};

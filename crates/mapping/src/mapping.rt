@@ -3,8 +3,7 @@ ghost use Rattle.std.specs.Prelude.{◌≡◌, ℕ, List, [], ◌∷◌, ◌-◌
 ghost use Rattle.std.specs.List.{range_with_len};
 ghost use Rattle.tree_json.specs.View.{view};
 ghost use Rattle.mapping.specs.IsMapping.{IsMapping};
-ghost use Rattle.mapping.specs.Mapping.{Mapping, mapping_of, field_at, relation_at, kind_at, home_of, around_of, field_named, scope_named, relation_named, scope_field_of, reaches, included};
-ghost use Rattle.mapping.specs.Fault.{field_below};
+ghost use Rattle.mapping.specs.Mapping.{Mapping, mapping_of, field_at, relation_at, kind_at, home_of, around_of, field_named, field_below, scope_named, relation_named, relation_known, scope_field_of, reaches, included, knows, knows_relation};
 ghost use Rattle.mapping.specs.Names.{AreAscending, joined, place_of};
 ghost use Rattle.mapping.specs.Refusal.{first_refusal, IsFirst};
 ghost use Rattle.mapping.specs.Relations.{relations_of as relations_in};
@@ -76,17 +75,41 @@ impl Mapping {
         number_of(self.fields.as_slice(), &Whole { name: path })
     }
 
-    /// The field of a name below the path of a field, or below the root's, which is empty. A name with a dot has none.
-    pub(crate) fn field_below(&self, path: &[u8], name: &[u8]) -> Option<u32>
-        ensures field { result ≡ field_below self.now path.now name.now }
+    /// The field of a name below the path of a field, or below the root's, which is empty, if it stands in the mapping of
+    /// a generation. A name with a dot has none.
+    pub fn field_below(&self, generation: u32, path: &[u8], name: &[u8]) -> Option<u32>
+        ensures field { result ≡ field_below self.now generation path.now name.now }
         ensures bound { IfSome result (λ field. field < length self.now.fields) }
         ensures path { IfSome result (λ field. (field_at self.now field).path ≡ joined path.now name.now) }
     {
         if has_dot(name) {
-            None
-        } else {
-            number_of(self.fields.as_slice(), &Below { path, name })
+            return None;
         }
+        match self.field_joined(path, name) {
+            Some(field) => if self.knows(generation, field) {
+                Some(field)
+            } else {
+                None
+            },
+            None => None,
+        }
+    }
+
+    /// The field of a name below a path.
+    fn field_joined(&self, path: &[u8], name: &[u8]) -> Option<u32>
+        ensures field { result ≡ field_named self.now (joined path.now name.now) }
+        ensures bound { IfSome result (λ field. field < length self.now.fields) }
+        ensures path { IfSome result (λ field. (field_at self.now field).path ≡ joined path.now name.now) }
+    {
+        number_of(self.fields.as_slice(), &Below { path, name })
+    }
+
+    /// Whether a field stands in the mapping of a generation.
+    pub fn knows(&self, generation: u32, field: u32) -> bool
+        requires { field < length self.now.fields }
+        ensures { result ≡ knows self.now generation field }
+    {
+        self.fields[field as usize].since <= generation
     }
 
     pub fn kind(&self, field: u32) -> Kind
@@ -165,6 +188,29 @@ impl Mapping {
         ensures bound { IfSome result (λ relation. relation < length self.now.relations) }
     {
         number_of(self.relations.as_slice(), &Whole { name })
+    }
+
+    /// The number of a relation that stands in the mapping of a generation, by its name.
+    pub fn relation_known(&self, generation: u32, name: &[u8]) -> Option<u32>
+        ensures number { result ≡ relation_known self.now generation name.now }
+        ensures bound { IfSome result (λ relation. relation < length self.now.relations) }
+    {
+        match self.relation(name) {
+            Some(relation) => if self.knows_relation(generation, relation) {
+                Some(relation)
+            } else {
+                None
+            },
+            None => None,
+        }
+    }
+
+    /// Whether a relation stands in the mapping of a generation.
+    pub fn knows_relation(&self, generation: u32, relation: u32) -> bool
+        requires { relation < length self.now.relations }
+        ensures { result ≡ knows_relation self.now generation relation }
+    {
+        self.relations[relation as usize].since <= generation
     }
 
     /// The relation that is the parent of a relation, and none for a root relation.

@@ -51,6 +51,7 @@ impl Named for RelationName<'_> {
 pub(crate) struct Relation {
     pub name: Vec<u8>,
     pub parent: Option<u32>,
+    pub since: u32,
 }
 
 impl Named for Relation {
@@ -313,6 +314,7 @@ fn relation_named(
     Ok(Relation {
         name: name.to_vec(alloc)?,
         parent,
+        since: 1,
     })
 }
 

@@ -38,6 +38,7 @@ pub(crate) struct Field {
     pub path: Vec<u8>,
     pub kind: Kind,
     pub home: u32,
+    pub since: u32,
 }
 
 impl Named for Field {
@@ -155,5 +156,6 @@ fn field_made(alloc: Global, draft: &Draft, paths: &[ScopePath]) -> Result<Field
         path: draft.path.as_slice().to_vec(alloc)?,
         kind: draft.kind,
         home: nearest(paths, draft.path.as_slice()),
+        since: 1,
     })
 }
