@@ -3,7 +3,7 @@ use Rattle.std.proofs.Common.{◌≡◌, ℕ, ◌+◌, ◌<◌, ◌≤◌, List,
 use Rattle.std.proofs.lemmas.Bool.Decides.{nat_tests}
 use Rattle.json.specs.Print.{escape_byte}
 use Rattle.tree_json.specs.Text.{quoted, compact, comma_if}
-use Rattle.mapping.specs.Tree.{Tree}
+use Rattle.tree_objects.specs.Tree.{Tree}
 use Rattle.query_ast.specs.Page.{Page}
 use Rattle.line_engine.specs.Line.{newline}
 use Rattle.line_engine.specs.Reply.{reply_text, found}

@@ -6,7 +6,7 @@ use Rattle.std.specs.declared.cmp.Ordering.{Ordering}
 use Rattle.std.proofs.lemmas.Cmp.{tied_itself, int_cmp_total}
 use Rattle.std.proofs.lemmas.Bool.Decides.{nat_tests}
 use Rattle.std.proofs.lemmas.List.{length-map}
-use Rattle.mapping.specs.Tree.{Tree, IsLiveList, ComesFirst}
+use Rattle.tree_objects.specs.Tree.{Tree, IsLiveList, ComesFirst}
 use Rattle.query_ast.specs.Clause.{match_all}
 use Rattle.query_ast.specs.Page.{Search, page_of, comes_before, directed, in_order, placed, default_sort}
 use Rattle.line_engine.specs.Live.{scored}

@@ -8,7 +8,7 @@ use Rattle.std.specs.Ordering.{nat_cmp, ordering_then}
 use Rattle.std.specs.declared.cmp.Ordering.{Ordering}
 use Rattle.std.specs.String.{string_bytes}
 use Rattle.tree_json.specs.Text.{compact, compact_elements}
-use Rattle.mapping.specs.Tree.{Tree, IsLiveList, number_of}
+use Rattle.tree_objects.specs.Tree.{Tree, IsLiveList, number_of}
 use Rattle.query_ast.specs.Page.{Hit, hit_of, default_sort}
 use Rattle.line_engine.specs.Fingerprint.{fingerprint}
 use Rattle.line_engine.specs.Machine.{new_tree}

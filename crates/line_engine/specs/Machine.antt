@@ -1,7 +1,7 @@
 -- The plain machine over trees: its state, and the step that it takes for a request.
 use Rattle.std.specs.Prelude.{ℕ, ◌+◌, List, [], ◌∷◌, ◌++◌, is_some, if◌then◌else◌}
 use Rattle.tree_json.specs.Value.{JsonValue}
-use Rattle.mapping.specs.Tree.{Tree, number_of, without}
+use Rattle.tree_objects.specs.Tree.{Tree, number_of, without}
 use Rattle.query_ast.specs.Page.{page_of}
 use Rattle.line_engine.specs.Request.{Request}
 use Rattle.line_engine.specs.Action.{Action, index_source, search_trees, Asked, refused, action, asked_of}

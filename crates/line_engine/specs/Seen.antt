@@ -3,7 +3,7 @@ use Rattle.std.specs.Prelude.{ℕ, Bool, List, refl}
 use Rattle.std.specs.Coded.{Coded, code_by, coded_list, coded×, coded_ℕ}
 use Rattle.tree_json.specs.Value.{JsonValue}
 use Rattle.tree_json.specs.Code.{value_code}
-use Rattle.mapping.specs.Tree.{Tree}
+use Rattle.tree_objects.specs.Tree.{Tree}
 use Rattle.query_ast.specs.View.{search_of}
 use Rattle.line_engine.specs.Action.{Action, index_source, search_trees}
 use Rattle.line_engine.specs.Machine.{State}

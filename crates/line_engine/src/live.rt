@@ -5,7 +5,7 @@ ghost use Rattle.std.specs.BTreeMap.{is_at};
 ghost use Rattle.std.specs.Map.{remove_entry};
 ghost use Rattle.std.specs.Ordering.{nat_cmp};
 ghost use Rattle.std.specs.String.{string_bytes};
-ghost use Rattle.mapping.specs.Tree.{IsLiveList};
+ghost use Rattle.tree_objects.specs.Tree.{IsLiveList};
 ghost use Rattle.line_engine.specs.Machine.{with_put, new_tree, result_of};
 ghost use Rattle.line_engine.specs.Fingerprint.{fingerprint};
 ghost use Rattle.line_engine.specs.Live.{IsIndexed, AreBelow, trees_of, get_by_id, scored, hits_text};
@@ -39,7 +39,7 @@ pub(crate) struct LiveTrees {
 impl Model for LiveTrees {
     ghost use Rattle.std.specs.Prelude.{List};
     ghost use Rattle.std.specs.Coded.{coded_list};
-    ghost use Rattle.mapping.specs.Tree.{Tree};
+    ghost use Rattle.tree_objects.specs.Tree.{Tree};
     ghost use Rattle.line_engine.specs.Seen.{tree_code};
 
     ghost Value = { List Tree };

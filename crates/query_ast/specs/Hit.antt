@@ -1,7 +1,7 @@
 -- What a query clause hits.
 use Rattle.std.specs.Prelude.{ℕ, List, Option, Some}
-use Rattle.mapping.specs.Tree.{Tree}
-use Rattle.mapping.specs.Object.{Object}
+use Rattle.tree_objects.specs.Tree.{Tree}
+use Rattle.tree_objects.specs.Object.{Object}
 use Rattle.query_ast.specs.Clause.{Clause, match_all}
 
 -- The score with which a clause hits an object, or none. The live trees are those of the search: a clause may ask for

@@ -4,8 +4,8 @@ use Rattle.std.specs.Prelude.{ℕ, ℤ, pos, Bool, true, List, [], ◌∷◌, le
 use Rattle.std.specs.Ordering.{nat_cmp, int_cmp, is_lt, ordering_then, ordering_reverse}
 use Rattle.std.specs.declared.cmp.Ordering.{Ordering}
 use Rattle.std.specs.declared.cmp.Ordering.TheVariants.{Equal}
-use Rattle.mapping.specs.Tree.{Tree}
-use Rattle.mapping.specs.Object.{root}
+use Rattle.tree_objects.specs.Tree.{Tree}
+use Rattle.tree_objects.specs.Object.{root}
 use Rattle.query_ast.specs.Clause.{Clause}
 use Rattle.query_ast.specs.Hit.{hit}
 

@@ -1,5 +1,5 @@
 use Rattle.std.proofs.Common.{◌≡◌, ◌+◌, ap, arith, List, subst, sym}
-use Rattle.mapping.specs.Tree.{Tree}
+use Rattle.tree_objects.specs.Tree.{Tree}
 use Rattle.line_engine.specs.Machine.{new_tree}
 use Rattle.line_engine.specs.Live.{AreBelow}
 use Rattle.line_engine.specs.Seen.{EngineState}
