@@ -21,8 +21,6 @@ mod refusal;
 mod reply;
 mod session;
 mod status;
-#[cfg(test)]
-mod tests;
 
 pub use engine::{Answered, Engine};
 pub use limits::Limits;

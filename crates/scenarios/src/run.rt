@@ -1,0 +1,300 @@
+//! Runs of a case, and what differs from what the case says.
+
+ghost use Rattle.std.specs.Prelude.{IsTrue};
+ghost use Rattle.line_engine.specs.Limit.{AreLimits};
+
+use crate::case::Case;
+use crate::outside::{CountedDisk, PieceSink, PieceSource};
+use crate::settings::{Failing, Rose, Sweep};
+use anyhow::{Result, bail};
+use io_edges::{NoMemory, Word};
+use line_engine::{Limits, Status, run, serve};
+use std::alloc::{AllocError, Global};
+use std::fmt;
+
+/// The most runs of a sweep.
+const MOST_STEPS: u64 = 1_000_000;
+
+/// How a case is run once.
+#[derive(Clone, Copy)]
+struct Setup<'a> {
+    pieces: &'a [usize],
+    most: usize,
+    failing: Failing,
+    limits: Option<Limits>,
+}
+
+impl fmt::Display for Setup<'_> {
+    fn fmt<W: fmt::Write>(&self, f: &mut fmt::Formatter<W>) -> fmt::Result {
+        let pieces = self.pieces;
+        let most = self.most;
+        let failing = self.failing;
+        let limits = self.limits;
+        write!(
+            f,
+            "reads {pieces:?}, writes {most}, {failing:?}, {limits:?}"
+        )
+    }
+}
+
+/// How a run ended, or is to end.
+#[derive(Drop)]
+struct Ended {
+    output: Vec<u8>,
+    status: u8,
+    rose: Rose,
+    // how many bytes of the input were read
+    given: usize,
+}
+
+/// Runs a case in every way that its settings ask for, up to the first run that differs from what the case says. A line
+/// on what differs there; `runs` counts the runs.
+pub fn first_difference(alloc: Global, case: &Case<'_>, runs: &mut u64) -> Result<Option<String>> {
+    for pieces in case.settings.reads.as_slice() {
+        for most in case.settings.writes.as_slice() {
+            let setup = Setup {
+                pieces: pieces.as_slice(),
+                most: *most,
+                failing: case.settings.failing,
+                limits: case.settings.limits,
+            };
+            let found = first_of_setup(alloc, case, setup, runs)?;
+            if found.is_some() {
+                return Ok(found);
+            }
+        }
+    }
+    Ok(None)
+}
+
+// The same with reads and writes of one kind.
+fn first_of_setup(
+    alloc: Global,
+    case: &Case<'_>,
+    setup: Setup<'_>,
+    runs: &mut u64,
+) -> Result<Option<String>> {
+    let ended = run_once(alloc, case, setup, runs)?;
+    let wanted = whole(alloc, case)?;
+    let found = difference(alloc, setup, &wanted, &ended)?;
+    if found.is_some() {
+        return Ok(found);
+    }
+    for sweep in case.settings.sweeps.as_slice() {
+        let found = first_of_sweep(alloc, case, setup, *sweep, runs)?;
+        if found.is_some() {
+            return Ok(found);
+        }
+    }
+    Ok(None)
+}
+
+// The same for a sweep.
+fn first_of_sweep(
+    alloc: Global,
+    case: &Case<'_>,
+    plain: Setup<'_>,
+    sweep: Sweep,
+    runs: &mut u64,
+) -> Result<Option<String>> {
+    let length = case.input(alloc)?.len() as u64;
+    for step in 0..MOST_STEPS {
+        let setup = step_of(plain, sweep, step);
+        let ended = run_once(alloc, case, setup, runs)?;
+        let is_last = match sweep {
+            Sweep::SourceCalls => !ended.rose.source,
+            Sweep::SinkCalls => !ended.rose.sink,
+            Sweep::SessionLimits => step >= length,
+        };
+        let wanted = wanted_of(alloc, case, setup, sweep, step, &ended)?;
+        let found = difference(alloc, setup, &wanted, &ended)?;
+        if found.is_some() || is_last {
+            return Ok(found);
+        }
+    }
+    bail!("a sweep has no end")
+}
+
+// How the case is run at a step of a sweep.
+fn step_of<'a>(plain: Setup<'a>, sweep: Sweep, step: u64) -> Setup<'a> {
+    let mut failing = plain.failing;
+    let mut limits = plain.limits;
+    match sweep {
+        Sweep::SourceCalls => failing.source = Some(step),
+        Sweep::SinkCalls => failing.sink = Some(step),
+        Sweep::SessionLimits => {
+            let mut shorter = limits.unwrap_or(Limits::standard());
+            shorter.session_bytes = step.saturating_add(1);
+            limits = Some(shorter);
+        }
+    }
+    Setup {
+        pieces: plain.pieces,
+        most: plain.most,
+        failing,
+        limits,
+    }
+}
+
+// How the run at a step of a sweep is to end, by the case's requests and replies.
+fn wanted_of(
+    alloc: Global,
+    case: &Case<'_>,
+    setup: Setup<'_>,
+    sweep: Sweep,
+    step: u64,
+    ended: &Ended,
+) -> Result<Ended> {
+    let mut wanted = whole(alloc, case)?;
+    let given = ended.given;
+    match sweep {
+        Sweep::SourceCalls => {
+            if ended.rose.source {
+                wanted.output.truncate(case.replied_within(given));
+                wanted.status = Status::ReadFault.code();
+                wanted.rose.source = true;
+            }
+        }
+        Sweep::SinkCalls => {
+            if ended.rose.sink {
+                wanted.output.truncate(case.written_after(step, setup.most));
+                wanted.status = Status::WriteFault.code();
+                wanted.rose.sink = true;
+            }
+        }
+        Sweep::SessionLimits => {
+            let limit = step.saturating_add(1) as usize;
+            if limit < case.input(alloc)?.len() {
+                wanted.output.truncate(case.replied_within(limit));
+                wanted.status = Status::SessionLimit.code();
+            }
+        }
+    }
+    Ok(wanted)
+}
+
+// How the case ends, as it says itself.
+fn whole(alloc: Global, case: &Case<'_>) -> Result<Ended, AllocError> {
+    Ok(Ended {
+        output: case.output(alloc)?,
+        status: case.settings.status,
+        rose: case.settings.rose,
+        given: 0,
+    })
+}
+
+// Runs the case once.
+fn run_once(alloc: Global, case: &Case<'_>, setup: Setup<'_>, runs: &mut u64) -> Result<Ended> {
+    *runs = runs.saturating_add(1);
+    match over_memory(alloc, case, setup) {
+        Ok(Some(ended)) => Ok(ended),
+        Ok(None) => bail!("limits that no session may have"),
+        Err(NoMemory) => bail!("no memory for a run"),
+    }
+}
+
+// How the case ends over a source, a sink and a disk in memory; None where no session may have its limits.
+fn over_memory(
+    alloc: Global,
+    case: &Case<'_>,
+    setup: Setup<'_>,
+) -> Result<Option<Ended>, NoMemory> {
+    let failing = setup.failing;
+    let mut source = PieceSource::over(alloc, case.input(alloc)?, setup.pieces, failing.source)?;
+    let mut sink = PieceSink::over(alloc, setup.most, failing.sink)?;
+    let mut disk = CountedDisk::empty(alloc, failing.disk)?;
+    let status = match &setup.limits {
+        None => {
+            let words = words_of(alloc, case.settings.words.as_slice())?;
+            run(alloc, words.as_slice(), &mut source, &mut sink, &mut disk)
+        }
+        Some(limits) => {
+            if !are_allowed(limits) {
+                return Ok(None);
+            }
+            serve(alloc, limits, &mut source, &mut sink, &mut disk)
+        }
+    };
+    if sink.had_no_room() {
+        return Err(NoMemory);
+    }
+    Ok(Some(Ended {
+        output: Vec::from_slice(alloc, sink.taken())?,
+        status: status.code(),
+        rose: Rose {
+            source: source.has_failed(),
+            sink: sink.has_failed(),
+            disk: disk.has_failed(),
+        },
+        given: source.given(),
+    }))
+}
+
+fn words_of(alloc: Global, texts: &[&str]) -> Result<Vec<Word>, AllocError> {
+    let mut words = Vec::new(alloc);
+    for text in texts {
+        words.push(Word::of(String::from_str(alloc, text)?))?;
+    }
+    Ok(words)
+}
+
+// Whether a session may have these limits.
+fn are_allowed(limits: &Limits) -> bool
+    ensures { IsTrue result → AreLimits limits.now }
+{
+    let standard = Limits::standard();
+    1 <= limits.objects
+        && limits.objects <= standard.objects
+        && 1 <= limits.reply_bytes
+        && limits.reply_bytes <= standard.reply_bytes
+        && 4_096 <= limits.store_bytes
+        && limits.store_bytes <= standard.store_bytes
+        && 1 <= limits.session_bytes
+        && limits.session_bytes <= standard.session_bytes
+}
+
+// A line on what differs between two ends of a run, None where nothing does.
+fn difference(
+    alloc: Global,
+    setup: Setup<'_>,
+    wanted: &Ended,
+    ended: &Ended,
+) -> Result<Option<String>> {
+    if wanted.output != ended.output {
+        let lines = differing_lines(alloc, wanted.output.as_slice(), ended.output.as_slice())?;
+        return Ok(Some(format!(in alloc; "{lines} ({setup})")?));
+    }
+    if wanted.status != ended.status {
+        return Ok(Some(format!(in alloc;
+            "status {}, not {} ({setup})",
+            ended.status, wanted.status
+        )?));
+    }
+    if wanted.rose != ended.rose {
+        return Ok(Some(format!(in alloc; "{:?}, not {:?} ({setup})", ended.rose, wanted.rose)?));
+    }
+    Ok(None)
+}
+
+// The first lines in which two texts differ.
+fn differing_lines(alloc: Global, wanted: &[u8], got: &[u8]) -> Result<String> {
+    let same = wanted
+        .iter()
+        .zip(got)
+        .take_while(|(byte, other)| byte == other)
+        .count();
+    let above = wanted
+        .iter()
+        .take(same)
+        .filter(|byte| **byte == b'\n')
+        .count();
+    let number = (above as u64).saturating_add(1);
+    let line = line_at(alloc, got, above)?;
+    let wanted_line = line_at(alloc, wanted, above)?;
+    Ok(format!(in alloc; "line {number} is {line}, not {wanted_line}")?)
+}
+
+fn line_at(alloc: Global, bytes: &[u8], above: usize) -> Result<String, AllocError> {
+    let mut lines = bytes.split(|byte| *byte == b'\n');
+    String::from_utf8_lossy(alloc, lines.nth(above).unwrap_or(b"".as_slice()))
+}

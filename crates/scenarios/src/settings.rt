@@ -1,0 +1,179 @@
+//! The settings of a case.
+
+ghost use Rattle.std.specs.Iterator.{IsFinite};
+
+use anyhow::{Context, Result, bail, ensure};
+use line_engine::Limits;
+use std::alloc::{AllocError, Global};
+
+/// What a sweep goes through.
+#[derive(Clone, Copy, Debug, PartialEq, Eq)]
+pub enum Sweep {
+    /// Each call of the source fails in turn, until a run makes no such call.
+    SourceCalls,
+    /// Each call of the sink fails in turn, until a run makes no such call.
+    SinkCalls,
+    /// The session's limit is 1 byte, 2 bytes and so on, to one more than the input has.
+    SessionLimits,
+}
+
+/// Which call of each object fails, the first one being 0; None where all succeed.
+#[derive(Clone, Copy, Debug, Default, PartialEq, Eq)]
+pub struct Failing {
+    pub source: Option<u64>,
+    pub sink: Option<u64>,
+    pub disk: Option<u64>,
+}
+
+/// Of which objects the count of faults rose.
+#[derive(Clone, Copy, Debug, Default, PartialEq, Eq)]
+pub struct Rose {
+    pub source: bool,
+    pub sink: bool,
+    pub disk: bool,
+}
+
+/// How a case is run, and how it ends.
+#[derive(Drop)]
+pub struct Settings<'a> {
+    /// The words of the command line.
+    pub words: Vec<&'a str>,
+    /// The limits, where they aren't the program's; the words are then not read.
+    pub limits: Option<Limits>,
+    /// The most bytes that a read gives, by turns. The case is run with each of these lists.
+    pub reads: Vec<Vec<usize>>,
+    /// The most bytes that a write takes. The case is run with each of these.
+    pub writes: Vec<usize>,
+    pub failing: Failing,
+    pub sweeps: Vec<Sweep>,
+    pub status: u8,
+    pub rose: Rose,
+}
+
+impl<'a> Settings<'a> {
+    /// The program's words and limits; whole reads and writes, none of which fails, and the status 0.
+    pub fn usual(alloc: Global) -> Result<Settings<'a>, AllocError> {
+        let mut reads = Vec::new(alloc);
+        reads.push(vec![in alloc; usize::MAX]?)?;
+        Ok(Settings {
+            words: vec![in alloc; "serve", "store"]?,
+            limits: None,
+            reads,
+            writes: vec![in alloc; usize::MAX]?,
+            failing: Failing::default(),
+            sweeps: Vec::new(alloc),
+            status: 0,
+            rose: Rose::default(),
+        })
+    }
+
+    /// Takes a line of settings.
+    pub fn set(&mut self, alloc: Global, line: &'a str) -> Result<()> {
+        let (name, value) = line.split_once(' ').unwrap_or((line, ""));
+        match name {
+            "words" => self.words = quoted(alloc, value)?,
+            "reads" => self.reads = alternatives(alloc, value)?,
+            "writes" => self.writes = numbers(alloc, value.split('|'))?,
+            "limit" => self.set_limit(value)?,
+            "fail" => self.set_failing(value)?,
+            "each" => self.sweeps.push(sweep_of(value)?)?,
+            "rose" => self.set_rose(value)?,
+            "status" => self.status = value.parse().context("a status")?,
+            _ => bail!("unknown setting"),
+        }
+        Ok(())
+    }
+
+    fn set_limit(&mut self, value: &str) -> Result<()> {
+        let (name, number) = value.split_once(' ').context("a limit's name and number")?;
+        let number = number.parse().context("a limit's number")?;
+        let mut limits = self.limits.unwrap_or(Limits::standard());
+        match name {
+            "objects" => limits.objects = number,
+            "reply_bytes" => limits.reply_bytes = number,
+            "store_bytes" => limits.store_bytes = number,
+            "session_bytes" => limits.session_bytes = number,
+            _ => bail!("unknown limit"),
+        }
+        self.limits = Some(limits);
+        Ok(())
+    }
+
+    fn set_failing(&mut self, value: &str) -> Result<()> {
+        let (object, call) = value.split_once(' ').context("an object and its call")?;
+        let call = Some(call.parse().context("a call's number")?);
+        match object {
+            "source" => self.failing.source = call,
+            "sink" => self.failing.sink = call,
+            "disk" => self.failing.disk = call,
+            _ => bail!("unknown object"),
+        }
+        Ok(())
+    }
+
+    fn set_rose(&mut self, value: &str) -> Result<()> {
+        match value {
+            "source" => self.rose.source = true,
+            "sink" => self.rose.sink = true,
+            "disk" => self.rose.disk = true,
+            _ => bail!("unknown object"),
+        }
+        Ok(())
+    }
+
+    /// Refuses a sweep of a case that doesn't end well, since what a sweep expects follows from one that does.
+    pub fn check(&self) -> Result<()> {
+        let ends_well = self.status == 0 && self.failing == Failing::default();
+        ensure!(
+            self.sweeps.is_empty() || ends_well,
+            "a sweep of a case that fails"
+        );
+        Ok(())
+    }
+}
+
+fn sweep_of(value: &str) -> Result<Sweep> {
+    match value {
+        "source call fails" => Ok(Sweep::SourceCalls),
+        "sink call fails" => Ok(Sweep::SinkCalls),
+        "session limit" => Ok(Sweep::SessionLimits),
+        _ => bail!("unknown sweep"),
+    }
+}
+
+// Words in quotes, which stand for themselves.
+fn quoted<'a>(alloc: Global, value: &'a str) -> Result<Vec<&'a str>> {
+    let mut words = Vec::new(alloc);
+    for (index, piece) in value.split('"').enumerate() {
+        if index % 2 == 1 {
+            words.push(piece)?;
+        } else {
+            ensure!(piece.trim().is_empty(), "a word outside quotes");
+        }
+    }
+    Ok(words)
+}
+
+// Lists of numbers, parted by bars.
+fn alternatives(alloc: Global, value: &str) -> Result<Vec<Vec<usize>>> {
+    let mut lists = Vec::new(alloc);
+    for list in value.split('|') {
+        lists.push(numbers(alloc, list.split_whitespace())?)?;
+    }
+    Ok(lists)
+}
+
+// Numbers of bytes, at least one and each at least 1.
+fn numbers<'a, I: Iterator<Item = &'a str> + Drop>(alloc: Global, words: I) -> Result<Vec<usize>>
+    requires can { I.can_next words }
+    requires ends { IsFinite (I.remaining words) }
+{
+    let mut numbers = Vec::new(alloc);
+    for word in words {
+        let number: usize = word.trim().parse().context("a number of bytes")?;
+        ensure!(number > 0, "0 bytes");
+        numbers.push(number)?;
+    }
+    ensure!(!numbers.is_empty(), "no number of bytes");
+    Ok(numbers)
+}
