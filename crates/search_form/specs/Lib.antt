@@ -1,0 +1,5 @@
+-- To believe: the tables of forms, and what it is to have one.
+pub mod Table
+pub mod Form
+-- For proofs alone: what a shape keeps.
+pub mod Shape
