@@ -40,6 +40,11 @@ is_choice Required = false
 is_choice Optional = false
 is_choice Choice = true
 
+-- the first name of an object that is a choice, and what stands under it: the one that there is, where the form is met
+abbrev pub chosen : Form → Members → Option (List ℕ × Form × JsonValue)
+chosen form no_members = None
+chosen form (member k d ms) = if is_choice (line_at form k).0 then Some (k, (line_at form k).1, d) else chosen form ms
+
 abbrev pub has_required : List (List ℕ × Presence × Form) → Members → Bool
 has_required lines ms = list_all (λ l. not (is_required l.1) || has ms l.0) lines
 

@@ -5,7 +5,7 @@ use Rattle.std.specs.List.{list_any}
 use Rattle.std.specs.Str.{bytes_eq}
 use Rattle.tree_json.specs.Value.{JsonValue, null, bool, whole, text}
 use Rattle.search_form.specs.declared.form.Form.{Form}
-use Rattle.search_form.specs.declared.form.Form.TheVariants.{Body, Pit, Query, MatchAll, MatchNone, Term, TermField, Terms, Range, RangeField, Exists, Prefix, PrefixField, Match, MatchField, MatchPhrase, PhraseField, Ids, BoolQuery, ConstantScore, DisMax, Nested, ToChild, HasChild, HasParent, ParentId, SortClause, ScoreSort, FieldSort, SortNested, InnerHits, Buckets, Bucket, NestedBucket, ReverseNestedBucket, TermsBucket, BucketOrder, Metric, JoinBucket, Queries, QueryList, ValueList, TextList, Sort, SearchAfter, Flag, True, Whole, Positive, Boost, BucketCount, Value, Bound, Text, Name, Direction, ScoreMode, SortMode, Operator, Any, Unknown}
+use Rattle.search_form.specs.declared.form.Form.TheVariants.{Body, Pit, Query, MatchAll, MatchNone, Term, TermField, Terms, Range, RangeField, Exists, Prefix, PrefixField, Match, MatchField, MatchPhrase, PhraseField, Ids, BoolQuery, ConstantScore, DisMax, Nested, ToChild, HasChild, HasParent, ParentId, SortClause, ScoreSort, FieldSort, SortNested, InnerHits, Buckets, Bucket, NestedBucket, ReverseNestedBucket, TermsBucket, BucketOrder, Metric, ValueCount, JoinBucket, Queries, QueryList, ValueList, TextList, Sort, SearchAfter, Flag, True, Whole, Positive, Boost, BucketCount, Value, Bound, Text, Name, Direction, ScoreMode, SortMode, Operator, Any, Unknown}
 use Rattle.search_form.specs.declared.form.Presence.{Presence}
 use Rattle.search_form.specs.declared.form.Presence.TheVariants.{Required, Optional, Choice}
 
@@ -129,7 +129,7 @@ lines_of Bucket = Some (
     ∷ (codes "min", Choice, Metric)
     ∷ (codes "max", Choice, Metric)
     ∷ (codes "sum", Choice, Metric)
-    ∷ (codes "value_count", Choice, Metric)
+    ∷ (codes "value_count", Choice, ValueCount)
     ∷ (codes "children", Choice, JoinBucket)
     ∷ (codes "parent", Choice, JoinBucket)
     ∷ (codes "aggs", Optional, Buckets)
@@ -142,6 +142,7 @@ lines_of TermsBucket = Some (
     ∷ (codes "order", Optional, BucketOrder) ∷ [])
 lines_of BucketOrder = Some ((codes "_count", Choice, Direction) ∷ (codes "_key", Choice, Direction) ∷ [])
 lines_of Metric = Some ((codes "field", Required, Text) ∷ [])
+lines_of ValueCount = Some ((codes "field", Required, Text) ∷ [])
 lines_of JoinBucket = Some ((codes "type", Required, Text) ∷ [])
 lines_of Any = Some []
 lines_of form = None

@@ -50,6 +50,7 @@ pub enum Form {
     TermsBucket,
     BucketOrder,
     Metric,
+    ValueCount,
     JoinBucket,
 
     // lists; a query or a sort clause may stand for the list that has it alone

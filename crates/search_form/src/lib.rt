@@ -13,6 +13,6 @@ mod single;
 mod table;
 
 pub use form::{Form, Line, Presence};
-pub use object::form_at;
+pub use object::{ChosenName, chosen, form_at};
 pub use shape::{Shape, ShapeRefusal, search};
 pub use table::{element_of, single_of};

@@ -1,8 +1,8 @@
 //! An object or a list as a whole: what stands under a name, and which names stand together.
-ghost use Rattle.std.specs.Prelude.{◌≡◌, ◌<◌, ◌^◌, pos, map, codes, false, if◌then◌else◌};
+ghost use Rattle.std.specs.Prelude.{◌≡◌, ◌<◌, ◌^◌, pos, map, option_map, codes, false, if◌then◌else◌};
 ghost use Rattle.tree_json.specs.Value.{members_of, member_of, elements_of};
 ghost use Rattle.tree_json.specs.View.{view, values, entries};
-ghost use Rattle.search_form.specs.Form.{line_among, line_at, form_at, has, has_required, choice_count, has_its_choice, are_apart, children_fit, whole_or, is_within, clause_count, starts_at_0, after_fits, fits, suits, allows_inner, last_is_whole, suits_list, is_choice};
+ghost use Rattle.search_form.specs.Form.{line_among, line_at, form_at, has, has_required, chosen, choice_count, has_its_choice, are_apart, children_fit, whole_or, is_within, clause_count, starts_at_0, after_fits, fits, suits, allows_inner, last_is_whole, suits_list, is_choice};
 
 use crate::form::{Form, Line, Presence};
 use crate::single::{is_between, is_whole};
@@ -55,6 +55,31 @@ fn has_required(lines: &[Line], object: &JsonObject) -> bool
         }
     }
     true
+}
+
+/// The one of an object's names that is a choice, the form of what stands under it, and that.
+#[derive(Drop)]
+pub struct ChosenName<'a> {
+    pub name: &'a [u8],
+    pub form: Form,
+    pub value: &'a Json,
+}
+
+/// The choice that an object is; where its form isn't met, the first of several, or none.
+pub fn chosen<'a>(form: Form, object: &'a JsonObject) -> Option<ChosenName<'a>>
+    ensures { option_map (λ c. (c.name.now, c.form, view c.value.now)) result ≡ chosen form (members_of object.now) }
+{
+    'names: for (name, value) in object.as_slice() {
+        let (presence, form) = line_at(form, name.as_slice());
+        if matches!(presence, Presence::Choice) {
+            return Some(ChosenName {
+                name: name.as_slice(),
+                form,
+                value,
+            });
+        }
+    }
+    None
 }
 
 // How many of an object's names are a choice.

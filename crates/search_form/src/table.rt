@@ -186,7 +186,7 @@ const BUCKET: &[Line] = &[
     (b"min", Presence::Choice, Form::Metric),
     (b"max", Presence::Choice, Form::Metric),
     (b"sum", Presence::Choice, Form::Metric),
-    (b"value_count", Presence::Choice, Form::Metric),
+    (b"value_count", Presence::Choice, Form::ValueCount),
     (b"children", Presence::Choice, Form::JoinBucket),
     (b"parent", Presence::Choice, Form::JoinBucket),
     (b"aggs", Presence::Optional, Form::Buckets),
@@ -209,6 +209,8 @@ const BUCKET_ORDER: &[Line] = &[
 ];
 
 const METRIC: &[Line] = &[(b"field", Presence::Required, Form::Text)];
+
+const VALUE_COUNT: &[Line] = &[(b"field", Presence::Required, Form::Text)];
 
 const JOIN_BUCKET: &[Line] = &[(b"type", Presence::Required, Form::Text)];
 
@@ -257,6 +259,7 @@ pub(crate) fn lines_of(form: Form) -> Option<&'static [Line]>
         Form::TermsBucket => Some(TERMS_BUCKET),
         Form::BucketOrder => Some(BUCKET_ORDER),
         Form::Metric => Some(METRIC),
+        Form::ValueCount => Some(VALUE_COUNT),
         Form::JoinBucket => Some(JOIN_BUCKET),
         Form::Any => Some(NO_NAMES),
         _ => None,
