@@ -5,7 +5,7 @@ use Rattle.json.specs.Print.{escape_byte}
 use Rattle.tree_json.specs.Text.{quoted, compact, comma_if}
 use Rattle.tree_objects.specs.Tree.{Tree}
 use Rattle.query_ast.specs.Page.{Page}
-use Rattle.line_engine.specs.Line.{newline}
+use Rattle.line_reader.specs.Line.{newline}
 use Rattle.line_engine.specs.Reply.{reply_text, found}
 use Rattle.line_engine.specs.Live.{tree_at, trees_of, scored, hit_text, hits_text}
 use Rattle.line_engine.specs.declared.live.Stored.{Stored}

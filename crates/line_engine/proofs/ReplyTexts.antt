@@ -2,10 +2,10 @@
 use Rattle.std.proofs.Common.{◌≡◌, ℕ, List, [], ◌∷◌, ◌++◌, codes, decimal, refl, append_assoc, append-nil}
 use Rattle.json.specs.Print.{escape_byte}
 use Rattle.tree_json.specs.Text.{quoted}
-use Rattle.line_engine.specs.Line.{newline}
+use Rattle.line_reader.specs.Line.{newline}
 use Rattle.line_engine.specs.Reply.{reply_text, changed, change_end, refusal, number_of_refusal, reason_of, word_of}
 use Rattle.line_engine.specs.declared.refusal.Refusal.{Refusal}
-use Rattle.line_engine.specs.declared.refusal.Refusal.TheVariants.{BadJson, FractionNumber, LineTooLong, BadRequest, MissingSource}
+use Rattle.line_engine.specs.declared.refusal.Refusal.TheVariants.{BadJson, FractionNumber, LineTooLong, BadRequest, MissingSource, IdTooLong}
 use Rattle.line_engine.specs.declared.reply.WriteResult.{WriteResult}
 use Rattle.line_engine.specs.declared.reply.WriteResult.TheVariants.{Created, Updated}
 
@@ -55,6 +55,7 @@ quoted_reason FractionNumber = refl
 quoted_reason LineTooLong = refl
 quoted_reason BadRequest = refl
 quoted_reason MissingSource = refl
+quoted_reason IdTooLong = refl
 
 -- ---- a change
 

@@ -11,12 +11,12 @@ use Rattle.tree_json.specs.Text.{compact, compact_elements}
 use Rattle.tree_objects.specs.Tree.{Tree, IsLiveList, number_of}
 use Rattle.query_ast.specs.Page.{Hit, hit_of, default_sort}
 use Rattle.line_engine.specs.Fingerprint.{fingerprint}
-use Rattle.line_engine.specs.Machine.{new_tree}
+use Rattle.line_engine.specs.Write.{new_tree}
 use Rattle.line_engine.specs.Reply.{hit_value, hit_values}
 use Rattle.line_engine.specs.declared.live.Stored.{Stored}
 
 abbrev pub tree_at : ℕ × Stored → Tree
-tree_at entry = new_tree (string_bytes entry.1.id) entry.1.source entry.0
+tree_at entry = new_tree (string_bytes entry.1.id) entry.1.source entry.0 entry.1.generation
 
 abbrev pub trees_of : List (ℕ × Stored) → List Tree
 trees_of entries = map tree_at entries

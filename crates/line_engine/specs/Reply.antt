@@ -3,9 +3,9 @@ use Rattle.std.specs.Prelude.{ℕ, pos, List, [], ◌∷◌, ◌++◌, codes}
 use Rattle.tree_json.specs.Value.{JsonValue, whole, text, list, object, Elements, no_elements, element, Members, no_members, member}
 use Rattle.tree_json.specs.Text.{compact}
 use Rattle.query_ast.specs.Page.{Key, number, Hit, Page}
-use Rattle.line_engine.specs.Line.{newline}
+use Rattle.line_reader.specs.Line.{newline}
 use Rattle.line_engine.specs.declared.refusal.Refusal.{Refusal}
-use Rattle.line_engine.specs.declared.refusal.Refusal.TheVariants.{BadJson, FractionNumber, LineTooLong, BadRequest, MissingSource}
+use Rattle.line_engine.specs.declared.refusal.Refusal.TheVariants.{BadJson, FractionNumber, LineTooLong, BadRequest, MissingSource, IdTooLong}
 use Rattle.line_engine.specs.declared.reply.WriteResult.{WriteResult}
 use Rattle.line_engine.specs.declared.reply.WriteResult.TheVariants.{Created, Updated}
 
@@ -23,6 +23,7 @@ number_of_refusal FractionNumber = 2
 number_of_refusal LineTooLong = 3
 number_of_refusal BadRequest = 4
 number_of_refusal MissingSource = 5
+number_of_refusal IdTooLong = 10
 
 -- the word for a refusal
 abbrev pub reason_of : Refusal → List ℕ
@@ -31,6 +32,7 @@ reason_of FractionNumber = codes "fraction_number"
 reason_of LineTooLong = codes "line_too_long"
 reason_of BadRequest = codes "bad_request"
 reason_of MissingSource = codes "missing_source"
+reason_of IdTooLong = codes "id_too_long"
 
 abbrev pub word_of : WriteResult → List ℕ
 word_of Created = codes "created"

@@ -2,26 +2,36 @@
 
 ghost use Rattle.std.specs.Prelude.{◌≡◌, ◌≤◌, ◌<◌, ◌+◌, ◌^◌, ◌++◌, [], OnOk, OnErr, IfOk};
 ghost use Rattle.tree_json.specs.Output.{room_of};
+ghost use Rattle.line_engine.specs.Answer.{outcome_of};
+ghost use Rattle.line_engine.specs.Faithful.{IsFaithful, AnswersTo, state_of};
 ghost use Rattle.line_engine.specs.Limit.{AreLimits};
-ghost use Rattle.line_engine.specs.Machine.{empty_state, step, action_step, put_step};
-ghost use Rattle.line_engine.specs.Reply.{reply_text, refusal};
+ghost use Rattle.line_engine.specs.Machine.{step, action_step};
+ghost use Rattle.line_engine.specs.Reply.{reply_text};
 ghost use Rattle.line_engine.specs.Seen.{action_view};
+ghost use Rattle.line_engine.specs.State.{State};
 ghost use Rattle.line_engine.specs.View.{request_of};
+ghost use Rattle.line_engine.specs.Write.{index_done, index_step};
 
 use crate::action::{Action, NoAction, action_of};
 use crate::limits::Limits;
-use crate::line::{FirstLine, SourceLine};
 use crate::live::LiveTrees;
 use crate::page::write_page;
-use crate::refusal::NoMemory;
+use crate::refusal::{NoMemory, Refusal};
 use crate::reply::{begin_change, end_change, write_refusal};
+use crate::search::resolve;
 use io_edges::Disk;
-use query_ast::SearchBody;
+use line_reader::{FirstLine, SourceLine};
 use source_steps::Steps;
 use std::alloc::Global;
 use std::marker::Model;
 use std::sync::ledger::Ledger;
 use tree_json::{CompactText, JsonReader, JsonText, OutText};
+
+/// The most bytes of an `_id`.
+const LONGEST_ID: usize = 512;
+
+/// The mapping generation under which trees are indexed while there is no mapping.
+const FIRST_GENERATION: u64 = 1;
 
 /// The answer to a request.
 #[derive(Clone, Copy, Debug, PartialEq, Eq)]
@@ -54,7 +64,8 @@ impl Model for Engine {
 
     ghost view = { λ engine. record {
       limits = engine.limits;
-      state = record { live = engine.live; next = engine.next };
+      live = engine.live;
+      next = engine.next;
       calls = engine.calls;
     } };
 
@@ -65,7 +76,7 @@ impl Engine {
     /// An engine without trees. It takes no memory today, and may want some later.
     pub fn over(alloc: Global, limits: &Limits) -> Result<Engine, NoMemory>
         requires { AreLimits limits.now }
-        ensures { IfOk result (λ engine. engine ≡ record { limits = limits.now; state = empty_state; calls = 0 }) }
+        ensures { IfOk result (λ engine. engine ≡ record { limits = limits.now; live = []; next = 0; calls = 0 }) }
     {
         Ok(Engine {
             alloc,
@@ -79,6 +90,8 @@ impl Engine {
 
     /// Answers a request: `out` has the reply's text with its newline, or nothing where there was no memory.
     ///
+    /// The reply is one that the machine may give, in each state that what the engine keeps is faithful to.
+    ///
     /// Beside a whole first line, `second` is `NotTaken` exactly where that line takes no source line.
     pub fn answer<D: Disk, L: Ledger>(
         &mut self,
@@ -90,10 +103,8 @@ impl Engine {
     ) -> Answered
         requires calls { self.old.calls < 2 ^ 50 }
         requires empty { out.old.bytes ≡ [] }
-        ensures written { result ≡ Answered.Written → out.new.bytes ≡ reply_text (step self.old.limits self.old.state (request_of first.entry second.entry)).reply }
-        ensures state { result ≡ Answered.Written → self.new.state ≡ (step self.old.limits self.old.state (request_of first.entry second.entry)).state }
-        ensures no_memory { result ≡ Answered.NoMemory → out.new.bytes ≡ [] }
-        ensures unchanged { result ≡ Answered.NoMemory → self.new.state ≡ self.old.state }
+        ensures may { (state : State) → IsFaithful self.old state →
+            AnswersTo self.old.limits state (request_of first.entry second.entry) result out.new.bytes self.new }
         ensures limits { self.new.limits ≡ self.old.limits }
         ensures calls { self.new.calls ≡ self.old.calls + 1 }
         ensures room { room_of out.old ≤ room_of out.new }
@@ -118,11 +129,11 @@ impl Engine {
         second: SourceLine<'_>,
         out: &mut OutText,
     ) -> Result<(), NoMemory>
-        requires room { self.old.state.next < 2 ^ 50 }
-        requires calls { self.old.state.next < self.old.calls }
-        ensures ok { OnOk result (out.new.bytes ≡ out.old.bytes ++ reply_text (step self.old.limits self.old.state (request_of first.entry second.entry)).reply) }
-        ensures state { OnOk result (self.new.state ≡ (step self.old.limits self.old.state (request_of first.entry second.entry)).state) }
-        ensures err { OnErr result (self.new.state ≡ self.old.state) }
+        requires room { self.old.next < 2 ^ 50 }
+        requires calls { self.old.next < self.old.calls }
+        ensures ok { OnOk result (out.new.bytes ≡ out.old.bytes ++ reply_text (step self.old.limits (state_of self.old) (request_of first.entry second.entry)).reply) }
+        ensures state { OnOk result (state_of self.new ≡ (step self.old.limits (state_of self.old) (request_of first.entry second.entry)).state) }
+        ensures err { OnErr result (state_of self.new ≡ state_of self.old) }
         ensures limits { self.new.limits ≡ self.old.limits }
         ensures calls { self.new.calls ≡ self.old.calls }
         ensures room { room_of out.old ≤ room_of out.new }
@@ -135,39 +146,56 @@ impl Engine {
     }
 
     fn perform(&mut self, action: Action, out: &mut OutText) -> Result<(), NoMemory>
-        requires room { self.old.state.next < 2 ^ 50 }
-        requires calls { self.old.state.next < self.old.calls }
-        ensures ok { OnOk result (out.new.bytes ≡ out.old.bytes ++ reply_text (action_step (action_view action) self.old.state).reply) }
-        ensures state { OnOk result (self.new.state ≡ (action_step (action_view action) self.old.state).state) }
-        ensures err { OnErr result (self.new.state ≡ self.old.state) }
+        requires room { self.old.next < 2 ^ 50 }
+        requires calls { self.old.next < self.old.calls }
+        ensures ok { OnOk result (out.new.bytes ≡ out.old.bytes ++ reply_text (outcome_of (state_of self.old) (action_step self.old.limits (action_view action) (state_of self.old))).reply) }
+        ensures state { OnOk result (state_of self.new ≡ (outcome_of (state_of self.old) (action_step self.old.limits (action_view action) (state_of self.old))).state) }
+        ensures err { OnErr result (state_of self.new ≡ state_of self.old) }
         ensures limits { self.new.limits ≡ self.old.limits }
         ensures calls { self.new.calls ≡ self.old.calls }
         ensures room { room_of out.old ≤ room_of out.new }
     {
         match action {
             Action::Index(id, source) => self.index(id, source, out),
-            Action::Search(body) => write_page(&body, &self.live, out),
+            Action::Search(parsed) => write_page(&resolve(parsed), &self.live, out),
         }
     }
 
-    // The room for the whole reply comes first, so that want of memory leaves the trees as they were.
     fn index(
         &mut self,
         id: JsonText,
         source: CompactText,
         out: &mut OutText,
     ) -> Result<(), NoMemory>
-        requires room { self.old.state.next < 2 ^ 50 }
-        requires calls { self.old.state.next < self.old.calls }
-        ensures ok { OnOk result (out.new.bytes ≡ out.old.bytes ++ reply_text (put_step id source self.old.state).reply) }
-        ensures state { OnOk result (self.new.state ≡ (put_step id source self.old.state).state) }
-        ensures err { OnErr result (self.new.state ≡ self.old.state) }
+        requires room { self.old.next < 2 ^ 50 }
+        requires calls { self.old.next < self.old.calls }
+        ensures ok { OnOk result (out.new.bytes ≡ out.old.bytes ++ reply_text (outcome_of (state_of self.old) (index_step id source (state_of self.old))).reply) }
+        ensures state { OnOk result (state_of self.new ≡ (outcome_of (state_of self.old) (index_step id source (state_of self.old))).state) }
+        ensures err { OnErr result (state_of self.new ≡ state_of self.old) }
+        ensures limits { self.new.limits ≡ self.old.limits }
+        ensures calls { self.new.calls ≡ self.old.calls }
+        ensures room { room_of out.old ≤ room_of out.new }
+    {
+        if id.as_slice().len() > LONGEST_ID {
+            write_refusal(Refusal::IdTooLong, out)
+        } else {
+            self.put(id, source, out)
+        }
+    }
+
+    // The room for the whole reply comes first, so that want of memory leaves the trees as they were.
+    fn put(&mut self, id: JsonText, source: CompactText, out: &mut OutText) -> Result<(), NoMemory>
+        requires room { self.old.next < 2 ^ 50 }
+        requires calls { self.old.next < self.old.calls }
+        ensures ok { OnOk result (out.new.bytes ≡ out.old.bytes ++ reply_text (outcome_of (state_of self.old) (index_done id source (state_of self.old))).reply) }
+        ensures state { OnOk result (state_of self.new ≡ (outcome_of (state_of self.old) (index_done id source (state_of self.old))).state) }
+        ensures err { OnErr result (state_of self.new ≡ state_of self.old) }
         ensures limits { self.new.limits ≡ self.old.limits }
         ensures calls { self.new.calls ≡ self.old.calls }
         ensures room { room_of out.old ≤ room_of out.new }
     {
         begin_change(id.as_slice(), self.next, out)?;
-        let what = self.live.put(self.next, id, source)?;
+        let what = self.live.put(self.next, FIRST_GENERATION, id, source)?;
         end_change(what, out);
         self.next += 1;
         Ok(())

@@ -6,9 +6,9 @@ ghost use Rattle.std.specs.Map.{remove_entry};
 ghost use Rattle.std.specs.Ordering.{nat_cmp};
 ghost use Rattle.std.specs.String.{string_bytes};
 ghost use Rattle.tree_objects.specs.Tree.{IsLiveList};
-ghost use Rattle.line_engine.specs.Machine.{with_put, new_tree, result_of};
 ghost use Rattle.line_engine.specs.Fingerprint.{fingerprint};
 ghost use Rattle.line_engine.specs.Live.{IsIndexed, AreBelow, trees_of, get_by_id, scored, hits_text};
+ghost use Rattle.line_engine.specs.Write.{with_put, new_tree, result_of};
 ghost use Rattle.tree_json.specs.Output.{room_of};
 
 use crate::fingerprint::fingerprint_of;
@@ -25,6 +25,7 @@ use tree_json::{CompactText, JsonText, OutText};
 pub(crate) struct Stored {
     pub(crate) id: String,
     pub(crate) source: CompactText,
+    pub(crate) generation: u64,
 }
 
 /// The live trees, by sequence number and by id. One is found in time that grows with the logarithm of their number.
@@ -73,16 +74,18 @@ impl LiveTrees {
         self.trees.len() as u64
     }
 
-    /// Puts a tree with the next number in place of the one with its id, or as a new one, and says which.
+    /// Puts a tree with the next number, of this mapping generation, in place of the one with its id, or as a new one, and
+    /// says which.
     pub(crate) fn put(
         &mut self,
         number: u64,
+        generation: u64,
         id: JsonText,
         source: CompactText,
     ) -> Result<WriteResult, NoMemory>
         requires { AreBelow number self.old }
         ensures what { IfOk result (λ what. what ≡ result_of id self.old) }
-        ensures ok { OnOk result (self.new ≡ with_put (new_tree id source number) self.old) }
+        ensures ok { OnOk result (self.new ≡ with_put (new_tree id source number generation) self.old) }
         ensures err { OnErr result (self.new ≡ self.old) }
     {
         let key = (fingerprint_of(id.as_slice()), id.into_string());
@@ -91,6 +94,7 @@ impl LiveTrees {
             &mut self.trees,
             &mut self.numbers,
             number,
+            generation,
             key,
             source,
         )
@@ -111,6 +115,7 @@ fn put_stored(
     trees: &mut BTreeMap<u64, Stored>,
     numbers: &mut BTreeMap<(u64, String), u64>,
     number: u64,
+    generation: u64,
     key: (u64, String),
     source: CompactText,
 ) -> Result<WriteResult, NoMemory>
@@ -118,20 +123,27 @@ fn put_stored(
     requires above { AreBelow number (trees_of trees.old.entries) }
     requires key { key.0 ≡ fingerprint (string_bytes key.1) }
     ensures what { IfOk result (λ what. what ≡ result_of (string_bytes key.1) (trees_of trees.old.entries)) }
-    ensures ok { OnOk result (trees_of trees.new.entries ≡ with_put (new_tree (string_bytes key.1) source number) (trees_of trees.old.entries)) }
+    ensures ok { OnOk result (trees_of trees.new.entries ≡ with_put (new_tree (string_bytes key.1) source number generation) (trees_of trees.old.entries)) }
     ensures err { OnErr result (trees_of trees.new.entries ≡ trees_of trees.old.entries) }
     ensures indexed { IsIndexed trees.new numbers.new }
 {
     match numbers.get_mut(&key) {
         Some(kept) => {
             let (_, id) = key;
-            trees.insert(number, Stored { id, source })?;
+            trees.insert(
+                number,
+                Stored {
+                    id,
+                    source,
+                    generation,
+                },
+            )?;
             take_out(trees, *kept);
             *kept = number;
             Ok(WriteResult::Updated)
         }
         None => {
-            put_new(alloc, trees, numbers, number, key, source)?;
+            put_new(alloc, trees, numbers, number, generation, key, source)?;
             Ok(WriteResult::Created)
         }
     }
@@ -143,6 +155,7 @@ fn put_new(
     trees: &mut BTreeMap<u64, Stored>,
     numbers: &mut BTreeMap<(u64, String), u64>,
     number: u64,
+    generation: u64,
     key: (u64, String),
     source: CompactText,
 ) -> Result<(), NoMemory>
@@ -150,12 +163,19 @@ fn put_new(
     requires above { AreBelow number (trees_of trees.old.entries) }
     requires key { key.0 ≡ fingerprint (string_bytes key.1) }
     requires new { get_by_id numbers.old (string_bytes key.1) ≡ None }
-    ensures ok { OnOk result (trees_of trees.new.entries ≡ with_put (new_tree (string_bytes key.1) source number) (trees_of trees.old.entries)) }
+    ensures ok { OnOk result (trees_of trees.new.entries ≡ with_put (new_tree (string_bytes key.1) source number generation) (trees_of trees.old.entries)) }
     ensures err { OnErr result (trees_of trees.new.entries ≡ trees_of trees.old.entries) }
     ensures indexed { IsIndexed trees.new numbers.new }
 {
     let id = String::from_str(alloc, key.1.as_str())?;
-    trees.insert(number, Stored { id, source })?;
+    trees.insert(
+        number,
+        Stored {
+            id,
+            source,
+            generation,
+        },
+    )?;
     match numbers.insert(key, number) {
         Ok(_none) => Ok(()),
         Err(_failed) => {

@@ -11,10 +11,9 @@ ghost use Rattle.line_engine.specs.Live.{trees_of, tree_at, scored, hit_text, hi
 
 use crate::live::{LiveTrees, Stored};
 use crate::refusal::NoMemory;
-use crate::reply::{write_count, write_quoted};
 use query_ast::{Query, SearchBody};
 use std::collections::BTreeMap;
-use tree_json::OutText;
+use tree_json::{OutText, push_count, push_quoted};
 
 /// The most hits of a page.
 const PAGE: u64 = 10;
@@ -32,7 +31,7 @@ pub(crate) fn write_page(
     out.push(b"{\"hits\":{\"hits\":[")?;
     live.write_hits(score, out)?;
     out.push(b"],\"total\":")?;
-    write_count(live.len(), out)?;
+    push_count(live.len(), out)?;
     out.push(b"}}\n")?;
     Ok(())
 }
@@ -74,15 +73,15 @@ fn write_hit(number: u64, stored: &Stored, score: u32, out: &mut OutText) -> Res
     ensures room { room_of out.old ≤ room_of out.new }
 {
     out.push(b"{\"_id\":")?;
-    write_quoted(stored.id.as_bytes(), out)?;
+    push_quoted(stored.id.as_bytes(), out)?;
     out.push(b",\"_score\":")?;
-    write_count(score as u64, out)?;
+    push_count(score as u64, out)?;
     out.push(b",\"_source\":")?;
     out.push(stored.source.as_slice())?;
     out.push(b",\"sort\":[")?;
-    write_count(score as u64, out)?;
+    push_count(score as u64, out)?;
     out.push(b",")?;
-    write_count(number, out)?;
+    push_count(number, out)?;
     out.push(b"]}")?;
     Ok(())
 }

@@ -18,6 +18,8 @@ pub enum Refusal {
     BadRequest,
     /// The input ended before the source line.
     MissingSource,
+    /// The id has more than 512 bytes.
+    IdTooLong,
 }
 
 impl Refusal {
@@ -31,6 +33,7 @@ impl Refusal {
             Refusal::LineTooLong => 3,
             Refusal::BadRequest => 4,
             Refusal::MissingSource => 5,
+            Refusal::IdTooLong => 10,
         }
     }
 
@@ -44,6 +47,7 @@ impl Refusal {
             Refusal::LineTooLong => "line_too_long",
             Refusal::BadRequest => "bad_request",
             Refusal::MissingSource => "missing_source",
+            Refusal::IdTooLong => "id_too_long",
         }
     }
 }
@@ -66,6 +70,12 @@ impl<T: Drop> From<AllocFailed<T>> for NoMemory {
 
 impl From<tree_json::NoMemory> for NoMemory {
     fn from(_error: tree_json::NoMemory) -> NoMemory {
+        NoMemory
+    }
+}
+
+impl From<io_edges::NoMemory> for NoMemory {
+    fn from(_error: io_edges::NoMemory) -> NoMemory {
         NoMemory
     }
 }

@@ -1,13 +1,12 @@
 //! The texts of replies.
 
-ghost use Rattle.std.specs.Prelude.{◌≡◌, ◌++◌, ◌≤◌, decimal, length, OnOk};
+ghost use Rattle.std.specs.Prelude.{◌≡◌, ◌++◌, ◌≤◌, length, OnOk};
 ghost use Rattle.tree_json.specs.Output.{room_of};
-ghost use Rattle.tree_json.specs.Text.{quoted};
 ghost use Rattle.line_engine.specs.Reply.{reply_text, changed, change_end, refusal, word_of};
 ghost use Rattle.line_engine.specs.declared.reply.WriteResult.{WriteResult};
 
 use crate::refusal::{NoMemory, Refusal};
-use tree_json::{OutText, count_len, put_count, put_quoted, quoted_len};
+use tree_json::{OutText, count_len, push_count, put_count, put_quoted, quoted_len};
 
 /// What became of a tree by an accepted change.
 #[derive(Clone, Copy, Debug, PartialEq, Eq)]
@@ -64,29 +63,9 @@ pub(crate) fn write_refusal(why: Refusal, out: &mut OutText) -> Result<(), NoMem
     ensures room { room_of out.old ≤ room_of out.new }
 {
     out.push(b"{\"error\":{\"number\":")?;
-    write_count(why.number(), out)?;
+    push_count(why.number(), out)?;
     out.push(b",\"reason\":\"")?;
     out.push(why.reason().as_bytes())?;
     out.push(b"\"}}\n")?;
-    Ok(())
-}
-
-/// Writes a text between quotation marks.
-pub(crate) fn write_quoted(text: &[u8], out: &mut OutText) -> Result<(), NoMemory>
-    ensures ok { OnOk result (out.new.bytes ≡ out.old.bytes ++ quoted text.now) }
-    ensures room { room_of out.old ≤ room_of out.new }
-{
-    out.reserve(quoted_len(text))?;
-    put_quoted(text, out);
-    Ok(())
-}
-
-/// Writes a number in digits.
-pub(crate) fn write_count(number: u64, out: &mut OutText) -> Result<(), NoMemory>
-    ensures ok { OnOk result (out.new.bytes ≡ out.old.bytes ++ decimal number) }
-    ensures room { room_of out.old ≤ room_of out.new }
-{
-    out.reserve(count_len(number))?;
-    put_count(number, out);
     Ok(())
 }

@@ -14,7 +14,7 @@ returns-clause-ok c =
       c.in_ok-push.ensures.bytes,
       c.in_ok-write_hits.ensures.ok,
       c.in_ok-push-2.ensures.bytes,
-      c.in_ok-write_count.ensures.ok,
+      c.in_ok-push_count.ensures.bytes,
       c.in_ok-push-3.ensures.bytes,
       c.len.ensures.length,
     )

@@ -7,7 +7,7 @@ returns-clause-ok c =
     cc (
       refusal_text c.args.out.now.bytes c.args.why,
       c.in_ok-push.ensures.bytes,
-      c.in_ok-write_count.ensures.ok,
+      c.in_ok-push_count.ensures.bytes,
       c.in_ok-push-2.ensures.bytes,
       c.in_ok-push-3.ensures.bytes,
       c.in_ok-push-4.ensures.bytes,
