@@ -1,11 +1,31 @@
-//! Queries and searches, and what they mean on trees.
+//! Searches whose names were looked up, what they answer, and what they mean on trees.
 //!
-//! The types are those of a search whose names were looked up. `specs/` has the meaning: which object of a tree a
-//! query hits, in which list of live trees and with what score, and which hits stand on the page in which order. The
-//! one contract that others use: a search's answer is `page_of` its view over the live trees. It stands on
-//! `mapping`, for trees and their objects.
+//! The types are queries, sorts, inner hits, buckets, pages and replies. `specs/` has their meaning over a mapping, an
+//! object and a list of live trees. It stands on `mapping` for trees and their objects, on `score_math` and on
+//! `analysis`. The one contract that others use: a search answers `hit_page` and `found_buckets` of its body. Begin with
+//! `specs/Hit.antt`.
 #![tactic(auto)]
 
+mod agg;
+mod bucket;
+mod hit;
+mod inner;
+mod lists;
+mod no_memory;
 mod query;
+mod search;
+mod sort;
 
-pub use query::{Query, SearchBody};
+pub use agg::{AggDef, AggForm, AggList};
+pub use bucket::{AggReplies, AggReply, AggValue, Bucket, BucketList};
+pub use hit::{
+    Hit, HitList, HitPage, InnerHit, InnerHitList, InnerPage, InnerPageList, Level, LevelList,
+};
+pub use inner::{InnerDef, InnerList, InnerOver};
+pub use lists::{BytesList, ValueList};
+pub use no_memory::NoMemory;
+pub use query::{Query, QueryBox, QueryList, RangeEnd};
+pub use search::SearchBody;
+pub use sort::{
+    Chain, ChainList, Direction, Key, KeyList, KeyRow, Missing, Sort, SortKey, SortList, SortMode,
+};
