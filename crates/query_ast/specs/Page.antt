@@ -1,7 +1,7 @@
 -- Rows in order, and a page of them (Elasticsearch reference, sort search results and paginate search results). Rows are
 -- of any type: what a row is ordered by are its keys, one for each clause, and its tree's sequence number.
 use Rattle.std.specs.Prelude.{ℕ, ℤ, pos, Bool, true, false, List, [], ◌∷◌, take, drop, filter, Option, Some, None, if◌then◌else◌}
-use Rattle.std.specs.Ordering.{nat_cmp, int_cmp, is_lt, ordering_then, ordering_reverse}
+use Rattle.std.specs.Ordering.{nat_cmp, int_cmp, is_lt, on, ordering_then, then_cmp}
 use Rattle.std.specs.declared.cmp.Ordering.{Ordering}
 use Rattle.std.specs.declared.cmp.Ordering.TheVariants.{Equal}
 use Rattle.mapping.specs.declared.field_value.FieldValue.{FieldValue}
@@ -29,13 +29,13 @@ shown Null = Number (pos 0)
 shown (NumberKey z) = Number z
 shown (WrittenKey s) = Written s
 
-abbrev pub directed : Bool → Ordering → Ordering
-directed true order = ordering_reverse order
-directed false order = order
+-- the greatest first, or the least
+abbrev pub directed : Bool → Key → Key → Ordering
+directed true a b = value_cmp (shown b) (shown a)
+directed false a b = value_cmp (shown a) (shown b)
 
 abbrev pub key_cmp : Direction → Key → Key → Ordering
-key_cmp d a b =
-    ordering_then (nat_cmp (rank d.null_first a) (rank d.null_first b)) (directed d.descending (value_cmp (shown a) (shown b)))
+key_cmp d = then_cmp (on (rank d.null_first) nat_cmp) (directed d.descending)
 
 -- ---- two rows: clause by clause, and then by number. A row has a key for each clause; one that hadn't would have nulls.
 
@@ -51,17 +51,22 @@ abbrev pub keys_cmp : List Direction → List Key → List Key → Ordering
 keys_cmp [] a b = Equal
 keys_cmp (d ∷ ds) a b = ordering_then (key_cmp d (first_key a) (first_key b)) (keys_cmp ds (later_keys a) (later_keys b))
 
-abbrev pub place_cmp : List Direction → List Key → ℤ → List Key → ℤ → Ordering
-place_cmp ds a_keys a_number b_keys b_number = ordering_then (keys_cmp ds a_keys b_keys) (int_cmp a_number b_number)
+-- the keys of a row with its number
+abbrev pub place_cmp : List Direction → List Key × ℤ → List Key × ℤ → Ordering
+place_cmp ds a b = ordering_then (keys_cmp ds a.0 b.0) (int_cmp a.1 b.1)
 
 module _ {A : Type 0} (keys : A → List Key) (number : A → ℤ) where
   abbrev pub comes_before : List Direction → A → A → Bool
-  comes_before ds a b = is_lt (place_cmp ds (keys a) (number a) (keys b) (number b))
+  comes_before ds a b = is_lt (place_cmp ds (keys a, number a) (keys b, number b))
+
+  -- the row that `search_after` names to go on behind this one
+  abbrev pub after_row : A → KeyRow
+  after_row row = record { keys = keys row; place = 0; doc = 0; number = number row }
 
   -- strictly behind the row of `search_after`, where there is one
   abbrev pub comes_after : List Direction → Option KeyRow → A → Bool
   comes_after ds None row = true
-  comes_after ds (Some after) row = is_lt (place_cmp ds after.keys after.number (keys row) (number row))
+  comes_after ds (Some after) row = is_lt (place_cmp ds (after.keys, after.number) (keys row, number row))
 
   -- The rows in order that come after that one, without the first `from` of them, and of the rest the first `size`. Rows
   -- of one tree with equal keys stand in the order in which they are given, which is the document's.

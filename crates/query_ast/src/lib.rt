@@ -10,6 +10,8 @@ mod agg;
 mod bucket;
 mod hit;
 mod inner;
+mod joins;
+mod law;
 mod lists;
 mod no_memory;
 mod query;
@@ -22,6 +24,10 @@ pub use hit::{
     Hit, HitList, HitPage, InnerHit, InnerHitList, InnerPage, InnerPageList, Level, LevelList,
 };
 pub use inner::{InnerDef, InnerList, InnerOver};
+pub use law::{
+    joins_alone_look_at_other_trees, nested_hits_have_witnesses, pages_meet, rows_stand_in_order,
+    sums_have_no_order,
+};
 pub use lists::{BytesList, ValueList};
 pub use no_memory::NoMemory;
 pub use query::{Query, QueryBox, QueryList, RangeEnd};
