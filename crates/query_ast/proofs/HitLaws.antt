@@ -8,8 +8,8 @@ use Rattle.score_math.specs.Scores.{capped, greatest_of, mode_of}
 use Rattle.score_math.specs.declared.score.ScoreMode.{ScoreMode}
 use Rattle.score_math.specs.declared.score.ScoreMode.TheVariants.{Avg, Max, Min, Sum, Zero}
 use Rattle.mapping.specs.Mapping.{Mapping}
-use Rattle.mapping.specs.Object.{Object, around, below}
-use Rattle.mapping.specs.Tree.{Tree}
+use Rattle.tree_objects.specs.Object.{Object, around, below}
+use Rattle.tree_objects.specs.Tree.{Tree}
 use Rattle.query_ast.specs.Clause.{Clause, leaf, bool, constant_score, dis_max, nested, to_child, has_child, has_parent, Clauses, no_clauses, clause}
 use Rattle.query_ast.specs.Hit.{hit, hit_each, bool_score, boosted, scores}
 use Rattle.query_ast.specs.Joins.{joins, some_join}

@@ -5,8 +5,8 @@ use Rattle.std.specs.Cmp.Lexicographic.{nat_list_cmp_total}
 use Rattle.std.specs.Ordering.{ordering_reverse}
 use Rattle.std.specs.declared.cmp.Ordering.TheVariants.{Less, Equal}
 use Rattle.std.proofs.lemmas.List.Sorted.{ranks_by}
-use Rattle.mapping.specs.declared.field_value.FieldValue.{FieldValue}
-use Rattle.mapping.specs.declared.field_value.FieldValue.TheVariants.{Number, Written}
+use Rattle.tree_objects.specs.declared.field_value.FieldValue.{FieldValue}
+use Rattle.tree_objects.specs.declared.field_value.FieldValue.TheVariants.{Number, Written}
 use Rattle.query_ast.specs.Compare.{value_cmp}
 use Rattle.query_ast.specs.Page.{rank, shown, directed, key_cmp, first_key, later_keys, keys_cmp, place_cmp, comes_before}
 use Rattle.query_ast.specs.declared.sort.Direction.{Direction}

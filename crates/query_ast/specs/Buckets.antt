@@ -2,11 +2,11 @@
 use Rattle.std.specs.Prelude.{ℕ, ◌==◌, ℤ, pos, Bool, true, false, ◌&&◌, List, [], ◌∷◌, map, reverse, length, filter, take, drop, sum_by, nat_lt, Option, Some, None, option_map}
 use Rattle.std.specs.Int.{saturate_signed, w64}
 use Rattle.std.specs.List.{flat_map, list_any}
-use Rattle.mapping.specs.declared.field_value.FieldValue.{FieldValue}
+use Rattle.tree_objects.specs.declared.field_value.FieldValue.{FieldValue}
 use Rattle.mapping.specs.Mapping.{Mapping}
-use Rattle.mapping.specs.Object.{Object, root, inside, tree_of, around, below}
-use Rattle.mapping.specs.Tree.{Tree}
-use Rattle.mapping.specs.Values.{values}
+use Rattle.tree_objects.specs.Object.{Object, root, inside, tree_of, around, below}
+use Rattle.tree_objects.specs.Tree.{Tree}
+use Rattle.tree_objects.specs.Values.{values}
 use Rattle.query_ast.specs.Agg.{Agg}
 use Rattle.query_ast.specs.Compare.{is_less, is_same_value, in_order, each_once}
 use Rattle.query_ast.specs.Definition.{Definition, definition, Definitions, no_definitions, with_definition}

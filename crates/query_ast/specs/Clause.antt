@@ -6,7 +6,7 @@ pub mod View
 pub mod Falls
 use Rattle.std.specs.Prelude.{ℕ, ◌+◌, Bool, List, [], ◌∷◌, Option}
 use Rattle.score_math.specs.declared.score.ScoreMode.{ScoreMode}
-use Rattle.mapping.specs.declared.field_value.FieldValue.{FieldValue}
+use Rattle.tree_objects.specs.declared.field_value.FieldValue.{FieldValue}
 use Rattle.query_ast.specs.declared.query.RangeEnd.{RangeEnd}
 
 -- what a leaf asks of the values that a field shows

@@ -6,8 +6,8 @@ use Rattle.std.specs.List.{list_all}
 use Rattle.score_math.specs.Scores.{capped, greatest_of, mode_of}
 use Rattle.score_math.specs.declared.score.ScoreMode.{ScoreMode}
 use Rattle.mapping.specs.Mapping.{Mapping}
-use Rattle.mapping.specs.Object.{Object, around, below}
-use Rattle.mapping.specs.Tree.{Tree}
+use Rattle.tree_objects.specs.Object.{Object, around, below}
+use Rattle.tree_objects.specs.Tree.{Tree}
 use Rattle.query_ast.specs.Clause.{Clause, leaf, bool, constant_score, dis_max, nested, to_child, has_child, has_parent, Clauses, no_clauses, clause}
 use Rattle.query_ast.specs.Joined.{roots, child_trees, parent_trees}
 use Rattle.query_ast.specs.Leaf.{leaf_holds}

@@ -3,9 +3,9 @@
 use Rattle.std.specs.Prelude.{ℕ, ◌==◌, Bool, true, false, ◌&&◌, List, [], filter, map, Option, Some, None, if◌then◌else◌}
 use Rattle.std.specs.Str.{bytes_eq}
 use Rattle.mapping.specs.Mapping.{Mapping, relation_at}
-use Rattle.mapping.specs.Object.{Object, root, inside, tree_of}
-use Rattle.mapping.specs.Tree.{Tree}
-use Rattle.mapping.specs.Values.{Joined, join_of}
+use Rattle.tree_objects.specs.Object.{Object, root, inside, tree_of}
+use Rattle.tree_objects.specs.Tree.{Tree}
+use Rattle.tree_objects.specs.Values.{Joined, join_of}
 
 abbrev pub is_root : Object → Bool
 is_root (root tree) = true

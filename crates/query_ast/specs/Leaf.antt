@@ -5,14 +5,14 @@ use Rattle.std.specs.List.{list_any, list_all, flat_map, range_with_len, starts_
 use Rattle.std.specs.Ordering.{is_le, is_lt}
 use Rattle.std.specs.Str.{bytes_eq}
 use Rattle.analysis.specs.Words.{words}
-use Rattle.mapping.specs.declared.field_value.FieldValue.{FieldValue}
-use Rattle.mapping.specs.declared.field_value.FieldValue.TheVariants.{Number, Written}
+use Rattle.tree_objects.specs.declared.field_value.FieldValue.{FieldValue}
+use Rattle.tree_objects.specs.declared.field_value.FieldValue.TheVariants.{Number, Written}
 use Rattle.mapping.specs.declared.kind.Kind.{Kind}
 use Rattle.mapping.specs.declared.kind.Kind.TheVariants.{Text, Keyword, Long, Boolean, Date, Object as Plain, Nested, Join}
 use Rattle.mapping.specs.Names.{lies_above}
 use Rattle.mapping.specs.Mapping.{Mapping, field_at, home_of, kind_at}
-use Rattle.mapping.specs.Object.{Object, tree_of}
-use Rattle.mapping.specs.Values.{values, join_of}
+use Rattle.tree_objects.specs.Object.{Object, tree_of}
+use Rattle.tree_objects.specs.Values.{values, join_of}
 use Rattle.query_ast.specs.Clause.{Test, is_among, is_between, exists, begins_with, has_words, has_phrase, Leaf, match_all, match_none, ids, on_field, parent_id}
 use Rattle.query_ast.specs.Compare.{value_cmp, is_same_value}
 use Rattle.query_ast.specs.Joined.{is_root, has_relation, names_parent}

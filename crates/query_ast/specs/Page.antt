@@ -4,8 +4,8 @@ use Rattle.std.specs.Prelude.{ℕ, ℤ, pos, Bool, true, false, List, [], ◌∷
 use Rattle.std.specs.Ordering.{nat_cmp, int_cmp, is_lt, on, ordering_then, then_cmp}
 use Rattle.std.specs.declared.cmp.Ordering.{Ordering}
 use Rattle.std.specs.declared.cmp.Ordering.TheVariants.{Equal}
-use Rattle.mapping.specs.declared.field_value.FieldValue.{FieldValue}
-use Rattle.mapping.specs.declared.field_value.FieldValue.TheVariants.{Number, Written}
+use Rattle.tree_objects.specs.declared.field_value.FieldValue.{FieldValue}
+use Rattle.tree_objects.specs.declared.field_value.FieldValue.TheVariants.{Number, Written}
 use Rattle.query_ast.specs.Compare.{value_cmp, in_order}
 use Rattle.query_ast.specs.declared.sort.Direction.{Direction}
 use Rattle.query_ast.specs.declared.sort.Key.{Key}

@@ -4,7 +4,7 @@ pub mod Code
 pub mod View
 pub mod Falls
 use Rattle.std.specs.Prelude.{ℕ, ◌+◌, ℤ, List, [], ◌∷◌, Option}
-use Rattle.mapping.specs.declared.field_value.FieldValue.{FieldValue}
+use Rattle.tree_objects.specs.declared.field_value.FieldValue.{FieldValue}
 
 mutual
   pub data Replies : Type 0 where

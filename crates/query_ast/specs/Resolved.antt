@@ -3,7 +3,7 @@
 -- it. Of a clause that names something unknown nothing is asked, for it hits nothing.
 use Rattle.std.specs.Prelude.{ℕ, ◌+◌, ◌<◌, ◌≤◌, ◌≡◌, ⊤, Bool, false, IsTrue, List, [], ◌∷◌, length, Option, Some, None, IsSome}
 use Rattle.std.specs.List.{AllByRecursion}
-use Rattle.mapping.specs.declared.field_value.FieldValue.TheVariants.{Number, Written}
+use Rattle.tree_objects.specs.declared.field_value.FieldValue.TheVariants.{Number, Written}
 use Rattle.mapping.specs.declared.kind.Kind.{Kind}
 use Rattle.mapping.specs.Mapping.{Mapping, IsAbove, kind_at, relation_at}
 use Rattle.query_ast.specs.Agg.{Agg}

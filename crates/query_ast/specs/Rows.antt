@@ -1,8 +1,8 @@
 -- Objects as rows: those that a query hits, each with its score and its keys.
 use Rattle.std.specs.Prelude.{ℕ, ℤ, pos, List, map, filter_map, Option, option_map}
 use Rattle.mapping.specs.Mapping.{Mapping}
-use Rattle.mapping.specs.Object.{Object, tree_of}
-use Rattle.mapping.specs.Tree.{Tree}
+use Rattle.tree_objects.specs.Object.{Object, tree_of}
+use Rattle.tree_objects.specs.Tree.{Tree}
 use Rattle.query_ast.specs.Clause.{Clause}
 use Rattle.query_ast.specs.Hit.{hit}
 use Rattle.query_ast.specs.Page.{page_of, direction_of}

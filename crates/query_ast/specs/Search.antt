@@ -1,8 +1,8 @@
 -- What a search finds among the live trees: its page of hits, and its buckets (Elasticsearch reference, search API).
 use Rattle.std.specs.Prelude.{List, map, length}
 use Rattle.mapping.specs.Mapping.{Mapping}
-use Rattle.mapping.specs.Object.{tree_of}
-use Rattle.mapping.specs.Tree.{Tree}
+use Rattle.tree_objects.specs.Object.{tree_of}
+use Rattle.tree_objects.specs.Tree.{Tree}
 use Rattle.query_ast.specs.Buckets.{bucket_replies}
 use Rattle.query_ast.specs.Definition.{definitions_of}
 use Rattle.query_ast.specs.Hit.{those_hit}

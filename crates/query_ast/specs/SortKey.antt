@@ -3,12 +3,12 @@ use Rattle.std.specs.Prelude.{ℕ, ◌-◌, ◌/◌, ℤ, pos, ◌+ℤ◌, Bool,
 use Rattle.std.specs.Int.{saturate_signed, w64}
 use Rattle.std.specs.List.{flat_map, best_of}
 use Rattle.score_math.specs.Integers.{floor_div}
-use Rattle.mapping.specs.declared.field_value.FieldValue.{FieldValue}
-use Rattle.mapping.specs.declared.field_value.FieldValue.TheVariants.{Number, Written}
+use Rattle.tree_objects.specs.declared.field_value.FieldValue.{FieldValue}
+use Rattle.tree_objects.specs.declared.field_value.FieldValue.TheVariants.{Number, Written}
 use Rattle.mapping.specs.Mapping.{Mapping}
-use Rattle.mapping.specs.Object.{Object, below}
-use Rattle.mapping.specs.Tree.{Tree}
-use Rattle.mapping.specs.Values.{values}
+use Rattle.tree_objects.specs.Object.{Object, below}
+use Rattle.tree_objects.specs.Tree.{Tree}
+use Rattle.tree_objects.specs.Values.{values}
 use Rattle.query_ast.specs.Clause.{Clause}
 use Rattle.query_ast.specs.Compare.{is_less, in_order}
 use Rattle.query_ast.specs.Hit.{is_hit}

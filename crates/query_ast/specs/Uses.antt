@@ -1,7 +1,7 @@
 -- What may be asked of a field of a kind (Elasticsearch reference, field data types).
 use Rattle.std.specs.Prelude.{ℕ, ◌≡◌, ⊤, Bool, true, false}
-use Rattle.mapping.specs.declared.field_value.FieldValue.{FieldValue}
-use Rattle.mapping.specs.declared.field_value.FieldValue.TheVariants.{Number, Written}
+use Rattle.tree_objects.specs.declared.field_value.FieldValue.{FieldValue}
+use Rattle.tree_objects.specs.declared.field_value.FieldValue.TheVariants.{Number, Written}
 use Rattle.mapping.specs.declared.kind.Kind.{Kind}
 use Rattle.mapping.specs.declared.kind.Kind.TheVariants.{Text, Keyword, Long, Boolean, Date, Object, Nested, Join}
 use Rattle.mapping.specs.Mapping.{Mapping, kind_at}

@@ -2,8 +2,8 @@
 ghost use Rattle.std.specs.Prelude.{◌≡◌, map};
 
 use crate::query::QueryBox;
-use mapping::Bytes;
 use std::marker::Model;
+use tree_objects::Bytes;
 
 /// A definition of buckets.
 #[cycle(agg)]

@@ -1,8 +1,8 @@
 //! What buckets answer.
 ghost use Rattle.std.specs.Prelude.{◌≡◌, map};
 
-use mapping::{Bytes, FieldValue};
 use std::marker::Model;
+use tree_objects::{Bytes, FieldValue};
 
 /// The answer to one definition of buckets.
 #[cycle(reply)]

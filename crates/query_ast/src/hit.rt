@@ -2,8 +2,8 @@
 ghost use Rattle.std.specs.Prelude.{◌≡◌, map};
 
 use crate::sort::KeyList;
-use mapping::Bytes;
 use std::marker::Model;
+use tree_objects::Bytes;
 
 /// What a search finds: a page of its hits, and the number of all.
 #[derive(Drop)]

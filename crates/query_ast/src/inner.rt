@@ -3,8 +3,8 @@ ghost use Rattle.std.specs.Prelude.{◌≡◌, map};
 
 use crate::query::QueryBox;
 use crate::sort::SortList;
-use mapping::Bytes;
 use std::marker::Model;
+use tree_objects::Bytes;
 
 /// A definition of inner hits.
 #[cycle(inner)]

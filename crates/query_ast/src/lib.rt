@@ -1,9 +1,8 @@
 //! Searches whose names were looked up, what they answer, and what they mean on trees.
 //!
-//! The types are queries, sorts, inner hits, buckets, pages and replies. `specs/` has their meaning over a mapping, an
-//! object and a list of live trees. It stands on `mapping` for trees and their objects, on `score_math` and on
-//! `analysis`. The one contract that others use: a search answers `hit_page` and `found_buckets` of its body. Begin with
-//! `specs/Hit.antt`.
+//! It stands on `mapping`, on `tree_objects` for trees and their objects, on `score_math` and `analysis`. The one contract
+//! that others use: a search answers `hit_page` and `found_buckets` of its body, over a mapping and the live trees. Begin
+//! with `query`, and for the meaning with `specs/Hit.antt`.
 #![tactic(auto)]
 
 mod agg;

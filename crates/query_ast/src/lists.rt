@@ -1,8 +1,8 @@
 //! Lists of bytes and of values.
 ghost use Rattle.std.specs.Prelude.{◌≡◌};
 
-use mapping::{Bytes, FieldValue};
 use std::marker::Model;
+use tree_objects::{Bytes, FieldValue};
 
 /// Texts in order, such as ids.
 #[derive(Drop)]
@@ -50,9 +50,9 @@ pub struct ValueList {
 
 impl Model for ValueList {
     ghost use Rattle.std.specs.Prelude.{List};
-    ghost use Rattle.mapping.specs.declared.field_value.FieldValue.{FieldValue};
+    ghost use Rattle.tree_objects.specs.declared.field_value.FieldValue.{FieldValue};
     ghost use Rattle.std.specs.Coded.{coded_list};
-    ghost use Rattle.mapping.specs.contracts.field_value.FieldValue as field_value;
+    ghost use Rattle.tree_objects.specs.contracts.field_value.FieldValue as field_value;
 
     ghost Value = { List FieldValue };
 

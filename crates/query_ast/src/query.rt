@@ -3,11 +3,11 @@ ghost use Rattle.std.specs.Prelude.{◌≡◌, map, IfOk};
 
 use crate::lists::{BytesList, ValueList};
 use crate::no_memory::NoMemory;
-use mapping::{Bytes, FieldValue};
 use score_math::ScoreMode;
 use std::alloc::Global;
 use std::marker::Model;
 use std::rc::Rc;
+use tree_objects::{Bytes, FieldValue};
 
 /// Queries in order. Contracts see the list of their clauses.
 #[cycle(query)]

@@ -2,8 +2,8 @@
 ghost use Rattle.std.specs.Prelude.{◌≡◌};
 
 use crate::query::QueryBox;
-use mapping::{Bytes, FieldValue};
 use std::marker::Model;
+use tree_objects::{Bytes, FieldValue};
 
 /// One clause of a sort.
 #[derive(Drop)]

@@ -6,8 +6,8 @@ use base.Stored.{coded_unit}
 use mathlib.Core.Logic.{inl, inr}
 use Rattle.score_math.specs.declared.score.ScoreMode.{ScoreMode}
 use Rattle.score_math.specs.contracts.score.ScoreMode as score_mode
-use Rattle.mapping.specs.declared.field_value.FieldValue.{FieldValue}
-use Rattle.mapping.specs.contracts.field_value.FieldValue as field_value
+use Rattle.tree_objects.specs.declared.field_value.FieldValue.{FieldValue}
+use Rattle.tree_objects.specs.contracts.field_value.FieldValue as field_value
 use Rattle.query_ast.specs.declared.query.RangeEnd.{RangeEnd}
 use Rattle.query_ast.specs.contracts.query.RangeEnd as range_end
 use Rattle.query_ast.specs.Clause.{Test, is_among, is_between, exists, begins_with, has_words, has_phrase, Leaf, match_all, match_none, ids, on_field, parent_id, Clause, leaf, bool, constant_score, dis_max, nested, to_child, has_child, has_parent, Clauses, no_clauses, clause}

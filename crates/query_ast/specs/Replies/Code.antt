@@ -3,8 +3,8 @@ use Rattle.std.specs.Prelude.{◌≡◌, ◌⊎◌, ℕ, ℤ, Bool, true, false,
 use Rattle.std.proofs.Common.{◌∙◌, ap}
 use Rattle.std.specs.Coded.{Coded, code_by, coded×, coded⊎, coded_ℕ, coded_ℤ, coded_bool, coded_list, coded_option}
 use mathlib.Core.Logic.{inl, inr}
-use Rattle.mapping.specs.declared.field_value.FieldValue.{FieldValue}
-use Rattle.mapping.specs.contracts.field_value.FieldValue as field_value
+use Rattle.tree_objects.specs.declared.field_value.FieldValue.{FieldValue}
+use Rattle.tree_objects.specs.contracts.field_value.FieldValue as field_value
 use Rattle.query_ast.specs.Replies.{Replies, no_replies, with_reply, ReplyValue, single, several, metric, Buckets, no_buckets, with_bucket, ReplyPart, BucketPart}
 
 abbrev bytes_code : Coded (List ℕ)

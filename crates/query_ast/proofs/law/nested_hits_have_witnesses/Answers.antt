@@ -1,4 +1,4 @@
-use Rattle.mapping.specs.Object.{below}
+use Rattle.tree_objects.specs.Object.{below}
 use Rattle.query_ast.specs.Hit.{hit}
 use Rattle.query_ast.proofs.HitLaws.{witness, some_hit}
 use Rattle.query_ast.proofs.law.nested_hits_have_witnesses.Goals as goal
