@@ -4,3 +4,7 @@ pub mod Paging
 pub mod Sizes
 pub mod RowLaws
 pub mod HitLaws
+pub mod Samples
+pub mod Examples
+pub mod WordExamples
+pub mod PageExamples

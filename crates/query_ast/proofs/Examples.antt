@@ -1,0 +1,153 @@
+-- The definitions at work on one mapping: what they compute is what the rules say.
+use Rattle.std.specs.Prelude.{◌≡◌, ℕ, pos, negsuc, true, false, List as Seq, [], ◌∷◌, map, codes, Some, None, refl}
+use Rattle.score_math.specs.declared.score.ScoreMode.{ScoreMode}
+use Rattle.score_math.specs.declared.score.ScoreMode.TheVariants.{Avg, Max, Min, Sum, Zero}
+use Rattle.tree_json.specs.Value.{JsonValue, null, whole, text}
+use Rattle.tree_objects.specs.Tree.{Tree}
+use Rattle.query_ast.specs.Clause.{Clause, no_clauses, clause, leaf, bool, nested, to_child, has_child, has_parent, on_field, is_among, is_between, exists, begins_with, parent_id}
+use Rattle.query_ast.specs.Search.{hit_page, found_buckets}
+use Rattle.query_ast.specs.declared.query.RangeEnd.TheVariants.{Free, Closed, Past}
+use Rattle.query_ast.proofs.Samples.{searches, mapping, tree, an_object, a_list, priced, offering, stocked, stocking, question, answer_of, color, price, stock_n, site, all, word, number, term, both, within, find}
+
+-- ---- nested objects are documents of their own
+
+abbrev chair : Tree
+chair = tree (codes "1") 0 (an_object (
+    (codes "name", text (codes "chair"))
+    ∷ (codes "offers", a_list (priced (codes "red") (pos 5) ∷ priced (codes "blue") (pos 9) ∷ [])) ∷ []))
+
+abbrev red : Clause
+red = term color (word (codes "red"))
+
+-- no one offer is red and costs 9, but one is red and costs 5
+two_offers_are_no_match : find (chair ∷ []) (within 1 (both red (term price (number (pos 9))))) ≡ []
+unfolding searches
+two_offers_are_no_match = refl
+
+one_offer_is_a_match : find (chair ∷ []) (within 1 (both red (term price (number (pos 5))))) ≡ (codes "1", 2) ∷ []
+unfolding searches
+one_offer_is_a_match = refl
+
+-- null, an empty list and a null in a list are no objects, and a single object is one
+abbrev few : Seq Tree
+few =
+    tree (codes "1") 0 (offering [])
+    ∷ tree (codes "2") 1 (an_object ((codes "offers", null) ∷ []))
+    ∷ tree (codes "3") 2 (offering (null ∷ an_object ((codes "color", text (codes "red")) ∷ []) ∷ []))
+    ∷ tree (codes "4") 3 (an_object ((codes "offers", an_object ((codes "color", text (codes "red")) ∷ [])) ∷ [])) ∷ []
+
+objects_alone_count : find few (within 1 red) ≡ (codes "3", 1) ∷ (codes "4", 1) ∷ []
+unfolding searches
+objects_alone_count = refl
+
+the_second_tree : find (tree (codes "1") 0 (an_object []) ∷ tree (codes "2") 1 (offering (an_object [] ∷ [])) ∷ []) (within 1 all) ≡ (codes "2", 1) ∷ []
+unfolding searches
+the_second_tree = refl
+
+nothing_at_the_root : find (chair ∷ []) red ≡ []
+unfolding searches
+nothing_at_the_root = refl
+
+up_to_the_root : find (chair ∷ []) (within 1 (both red (to_child (Some 0) all))) ≡ (codes "1", 2) ∷ []
+unfolding searches
+up_to_the_root = refl
+
+-- ---- levels
+
+abbrev stocks : Tree
+stocks = tree (codes "1") 0 (offering (
+    stocking (codes "red") (stocked (pos 1) (codes "a") ∷ stocked (pos 2) (codes "b") ∷ [])
+    ∷ stocking (codes "blue") (stocked (pos 1) (codes "b") ∷ []) ∷ []))
+
+abbrev one_at_b : Clause
+one_at_b = both (term site (word (codes "b"))) (term stock_n (number (pos 1)))
+
+a_level_is_skipped : find (stocks ∷ []) (within 2 one_at_b) ≡ (codes "1", 2) ∷ []
+unfolding searches
+a_level_is_skipped = refl
+
+not_in_the_red_offer : find (stocks ∷ []) (within 1 (both red (within 2 one_at_b))) ≡ []
+unfolding searches
+not_in_the_red_offer = refl
+
+in_the_blue_offer : find (stocks ∷ []) (within 1 (both (term color (word (codes "blue"))) (within 2 one_at_b))) ≡ (codes "1", 3) ∷ []
+unfolding searches
+in_the_blue_offer = refl
+
+-- an unknown path that is ignored
+an_ignored_clause : find (stocks ∷ []) (nested None one_at_b Avg) ≡ []
+unfolding searches
+an_ignored_clause = refl
+
+-- ---- scores
+
+abbrev boosted_term : Seq ℕ → ℕ → Clause
+boosted_term c boost = leaf (on_field (Some color) (is_among (word c ∷ []))) boost
+
+abbrev either : ScoreMode → Clause
+either mode =
+    nested (Some 1) (bool no_clauses no_clauses (clause (boosted_term (codes "red") 2) (clause (boosted_term (codes "blue") 3) no_clauses)) no_clauses None) mode
+
+modes : map (λ mode. find (chair ∷ []) (either mode)) (Avg ∷ Max ∷ Min ∷ Sum ∷ Zero ∷ [])
+    ≡ ((codes "1", 2) ∷ []) ∷ ((codes "1", 3) ∷ []) ∷ ((codes "1", 2) ∷ []) ∷ ((codes "1", 5) ∷ []) ∷ ((codes "1", 0) ∷ []) ∷ []
+unfolding searches
+modes = refl
+
+-- ---- leaves
+
+abbrev costs : Seq Tree
+costs = tree (codes "1") 0 (offering (priced (codes "red") (pos 5) ∷ priced (codes "rust") (pos 8) ∷ [])) ∷ tree (codes "2") 1 (offering (priced (codes "blue") (negsuc 0) ∷ [])) ∷ []
+
+ranges : map (λ test. find costs (within 1 (leaf (on_field (Some price) test) 1)))
+    (is_between (Past (number (pos 5))) (Closed (number (pos 8))) ∷ is_between Free (Past (number (pos 5))) ∷ is_between (Closed (number (pos 9))) Free ∷ exists ∷ [])
+    ≡ ((codes "1", 1) ∷ []) ∷ ((codes "2", 1) ∷ []) ∷ [] ∷ ((codes "1", 1) ∷ (codes "2", 1) ∷ []) ∷ []
+unfolding searches
+ranges = refl
+
+prefixes : find costs (within 1 (leaf (on_field (Some color) (begins_with (codes "r"))) 1)) ≡ (codes "1", 1) ∷ []
+unfolding searches
+prefixes = refl
+
+an_unmapped_field : find costs (leaf (on_field None exists) 1) ≡ []
+unfolding searches
+an_unmapped_field = refl
+
+-- ---- joins
+
+abbrev answered : Clause
+answered = has_child (Some 0) all Zero 1 None
+
+no_question_yet : find (tree (codes "10") 0 (answer_of (codes "7")) ∷ []) answered ≡ []
+unfolding searches
+no_question_yet = refl
+
+abbrev asked : Seq Tree
+asked = tree (codes "10") 0 (answer_of (codes "7")) ∷ tree (codes "7") 1 question ∷ []
+
+the_question : find asked answered ≡ (codes "7", 0) ∷ []
+unfolding searches
+the_question = refl
+
+the_answer : find asked (has_parent (Some 1) all true 1) ≡ (codes "10", 1) ∷ []
+unfolding searches
+the_answer = refl
+
+-- an answer outlives its question
+no_question_any_more : find (tree (codes "10") 0 (answer_of (codes "7")) ∷ []) (has_parent (Some 1) all true 1) ≡ []
+unfolding searches
+no_question_any_more = refl
+
+by_parent_id : find (tree (codes "10") 0 (answer_of (codes "7")) ∷ []) (leaf (parent_id (Some 0) (codes "7")) 1) ≡ (codes "10", 1) ∷ []
+unfolding searches
+by_parent_id = refl
+
+abbrev answers : Seq Tree
+answers = tree (codes "q") 0 question ∷ tree (codes "b") 2 (answer_of (codes "q")) ∷ tree (codes "a") 4 (answer_of (codes "q")) ∷ []
+
+counted : map (λ least. find answers (has_child (Some 0) all Sum least None)) (2 ∷ 3 ∷ []) ≡ ((codes "q", 2) ∷ []) ∷ [] ∷ []
+unfolding searches
+counted = refl
+
+at_most_one : find answers (has_child (Some 0) all Sum 1 (Some 1)) ≡ []
+unfolding searches
+at_most_one = refl
