@@ -1,13 +1,12 @@
 -- The definitions at work on one mapping: what they compute is what the rules say.
-use Rattle.std.specs.Prelude.{◌≡◌, ℕ, pos, negsuc, true, false, List as Seq, [], ◌∷◌, map, codes, Some, None, refl}
+use Rattle.std.specs.Prelude.{◌≡◌, ℕ, pos, negsuc, true, List as Seq, [], ◌∷◌, map, codes, Some, None, refl}
 use Rattle.score_math.specs.declared.score.ScoreMode.{ScoreMode}
 use Rattle.score_math.specs.declared.score.ScoreMode.TheVariants.{Avg, Max, Min, Sum, Zero}
-use Rattle.tree_json.specs.Value.{JsonValue, null, whole, text}
+use Rattle.tree_json.specs.Value.{null, text}
 use Rattle.tree_objects.specs.Tree.{Tree}
 use Rattle.query_ast.specs.Clause.{Clause, no_clauses, clause, leaf, bool, nested, to_child, has_child, has_parent, on_field, is_among, is_between, exists, begins_with, parent_id}
-use Rattle.query_ast.specs.Search.{hit_page, found_buckets}
 use Rattle.query_ast.specs.declared.query.RangeEnd.TheVariants.{Free, Closed, Past}
-use Rattle.query_ast.proofs.Samples.{searches, mapping, tree, an_object, a_list, priced, offering, stocked, stocking, question, answer_of, color, price, stock_n, site, all, word, number, term, both, within, find}
+use Rattle.query_ast.proofs.Samples.{searches, tree, an_object, a_list, priced, offering, stocked, stocking, question, answer_of, color, price, stock_n, site, all, word, number, term, both, within, find}
 
 -- ---- nested objects are documents of their own
 

@@ -8,3 +8,4 @@ pub mod Samples
 pub mod Examples
 pub mod WordExamples
 pub mod PageExamples
+pub mod Everything

@@ -1,31 +1,30 @@
 -- Pages at work: sorts with null and a given value in both directions, `search_after`, inner hits at two levels, equal rows
 -- of one tree, and buckets down, up and across the join.
-use Rattle.std.specs.Prelude.{◌≡◌, ℕ, ℤ, pos, negsuc, Bool, true, false, List as Seq, [], ◌∷◌, map, codes, Option, Some, None, refl}
+use Rattle.std.specs.Prelude.{◌≡◌, ℕ, pos, negsuc, Bool, true, false, List as Seq, [], ◌∷◌, map, codes, Option, Some, None, refl}
 use Rattle.tree_json.specs.Text.{compact}
-use Rattle.tree_json.specs.Value.{JsonValue}
 use Rattle.tree_objects.specs.Tree.{Tree}
 use Rattle.query_ast.specs.Agg.{Agg}
-use Rattle.query_ast.specs.Clause.{Clause, leaf, nested, on_field, is_among, ids, bool, no_clauses, clause, exists}
+use Rattle.query_ast.specs.Clause.{Clause, leaf, ids, bool, no_clauses, clause}
 use Rattle.query_ast.specs.Definition.{Definition, Definitions, definition, no_definitions, with_definition}
 use Rattle.query_ast.specs.Inner.{Inner}
-use Rattle.query_ast.specs.Pages.{PagePart, InnerHead, Pages, no_pages, with_page, Hits, no_hits, with_hit}
+use Rattle.query_ast.specs.Pages.{PagePart, InnerHead, no_pages, with_page, Hits, no_hits, with_hit}
 use Rattle.query_ast.specs.Replies.{ReplyPart, no_replies, with_reply, single, several, metric, no_buckets, with_bucket}
-use Rattle.query_ast.specs.Search.{hit_page, found_buckets}
+use Rattle.query_ast.specs.Search.{hit_page, found_buckets, by_score}
 use Rattle.query_ast.specs.declared.agg.AggForm.{AggForm}
-use Rattle.query_ast.specs.declared.agg.AggForm.TheVariants.{Filter, Nested as Down, ReverseNested as Up, Children, Parent, Terms, Min, Max, Sum, ValueCount}
+use Rattle.query_ast.specs.declared.agg.AggForm.TheVariants.{Nested as Down, ReverseNested as Up, Children, Parent, Terms, Min, Sum, ValueCount}
 use Rattle.query_ast.specs.declared.hit.Level.{Level}
 use Rattle.query_ast.specs.declared.inner.InnerOver.TheVariants.{Below}
 use Rattle.query_ast.specs.declared.search.SearchBody.{SearchBody}
 use Rattle.query_ast.specs.declared.sort.Key.{Key}
-use Rattle.query_ast.specs.declared.sort.Key.TheVariants.{Null, Number, Written}
+use Rattle.query_ast.specs.declared.sort.Key.TheVariants.{Null, Number}
 use Rattle.query_ast.specs.declared.sort.KeyRow.{KeyRow}
 use Rattle.query_ast.specs.declared.sort.Missing.{Missing}
 use Rattle.query_ast.specs.declared.sort.Missing.TheVariants.{Last, First, Given}
 use Rattle.query_ast.specs.declared.sort.Sort.{Sort}
-use Rattle.query_ast.specs.declared.sort.SortKey.TheVariants.{Field, Score}
+use Rattle.query_ast.specs.declared.sort.SortKey.TheVariants.{Field}
 use Rattle.query_ast.specs.declared.sort.SortMode.{SortMode}
 use Rattle.query_ast.specs.declared.sort.SortMode.TheVariants.{Min as Least, Max as Greatest, Sum as Total, Avg, Median}
-use Rattle.query_ast.proofs.Samples.{searches, mapping, tree, an_object, priced, offering, stocked, stocking, question, answer_of, color, price, site, all, word, number, term, within, by_score, search}
+use Rattle.query_ast.proofs.Samples.{searches, mapping, tree, priced, offering, stocked, stocking, question, answer_of, color, price, site, all, word, number, term, within, search}
 
 -- ---- sorts
 

@@ -1,6 +1,5 @@
 -- A mapping, trees and clauses that the examples speak of: a shop's offers with their stock, and questions with answers.
-use Rattle.std.specs.Prelude.{◌≡◌, ℕ, ℤ, pos, Bool, true, false, List as Seq, [], ◌∷◌, map, codes, Option, Some, None, refl}
-use Rattle.score_math.specs.declared.score.ScoreMode.{ScoreMode}
+use Rattle.std.specs.Prelude.{◌≡◌, ℕ, ℤ, false, List as Seq, [], ◌∷◌, map, codes, Option, Some, None, refl}
 use Rattle.score_math.specs.declared.score.ScoreMode.TheVariants.{Avg}
 use Rattle.tree_json.specs.Value.{JsonValue, whole, text, list, object, elements_of, members_of}
 use Rattle.mapping.specs.declared.kind.Kind.{Kind}
@@ -12,17 +11,14 @@ use Rattle.tree_objects.specs.declared.field_value.FieldValue.TheVariants.{Numbe
 use Rattle.tree_objects.specs.Object.{below, way, given}
 use Rattle.tree_objects.specs.Tree.{Tree}
 use Rattle.tree_objects.specs.Values.{convert, join_of}
-use Rattle.query_ast.specs.Clause.{Clause, Clauses, no_clauses, clause, leaf, bool, nested, on_field, is_among, match_all, clauses_of}
+use Rattle.query_ast.specs.Clause.{Clause, no_clauses, clause, leaf, bool, nested, on_field, is_among, match_all}
 use Rattle.query_ast.specs.Joined.{child_trees, parent_trees}
 use Rattle.query_ast.specs.Leaf.{leaf_holds}
 use Rattle.query_ast.specs.Page.{page_of}
 use Rattle.query_ast.specs.Rows.{rows_of}
-use Rattle.query_ast.specs.Search.{hit_page, found_buckets}
+use Rattle.query_ast.specs.Search.{hit_page, found_buckets, everything}
 use Rattle.query_ast.specs.SortKey.{sort_key}
 use Rattle.query_ast.specs.declared.search.SearchBody.{SearchBody}
-use Rattle.query_ast.specs.declared.sort.Missing.TheVariants.{Last}
-use Rattle.query_ast.specs.declared.sort.Sort.{Sort}
-use Rattle.query_ast.specs.declared.sort.SortKey.TheVariants.{Score}
 
 -- `unfolding searches` lets `refl` compute what a search finds
 unfoldable pub searches : Unit {0}
@@ -148,21 +144,9 @@ within p c = nested (Some p) c Avg
 
 -- ---- searches
 
-abbrev pub by_score : Sort
-by_score = record { key = Score; descending = true; missing = Last }
-
+-- ten hits by score, without their sources
 abbrev pub search : Clause → SearchBody
-search query = record {
-  query = query;
-  sort = by_score ∷ [];
-  after = None;
-  from = 0;
-  size = 10;
-  aggs = [];
-  inner = [];
-  pit = None;
-  source = false;
-}
+search query = record (everything 1 10 false) { query = query }
 
 -- the ids of the hits with their scores
 abbrev pub find : Seq Tree → Clause → Seq (Seq ℕ × ℕ)

@@ -1,17 +1,18 @@
 //! Laws: what holds of every search, as the contracts of functions that do nothing.
-ghost use Rattle.std.specs.Prelude.{◌≡◌, ◌≢◌, ℕ, ◌+◌, ℤ, false, List, [], ◌∷◌, ◌++◌, take, drop, fold, sum, AllPairs, Contains, Option, Some, IsSome, IsPermutation};
+ghost use Rattle.std.specs.Prelude.{◌≡◌, ◌≢◌, ℕ, ◌+◌, ℤ, Bool, false, List, [], ◌∷◌, ◌++◌, take, drop, fold, sum, map, length, AllPairs, Contains, Option, Some, IsSome, IsPermutation};
 ghost use Rattle.std.specs.Cmp.{IsStrictWeakOrder};
 ghost use Rattle.std.specs.List.Sorted.{IsSortedBy, IsStableBy};
 ghost use Rattle.score_math.specs.Scores.{capped};
 ghost use Rattle.score_math.specs.declared.score.ScoreMode.{ScoreMode};
 ghost use Rattle.mapping.specs.Mapping.{Mapping};
 ghost use Rattle.tree_objects.specs.Object.{Object, below};
-ghost use Rattle.tree_objects.specs.Tree.{Tree};
+ghost use Rattle.tree_objects.specs.Tree.{Tree, IsLiveList};
 ghost use Rattle.query_ast.specs.Clause.{Clause, nested};
 ghost use Rattle.query_ast.specs.Compare.{in_order};
 ghost use Rattle.query_ast.specs.Hit.{hit};
 ghost use Rattle.query_ast.specs.Joins.{joins};
 ghost use Rattle.query_ast.specs.Page.{after_row, comes_before, page_of};
+ghost use Rattle.query_ast.specs.Search.{everything, hit_page, whole_hit};
 ghost use Rattle.query_ast.specs.declared.sort.Direction.{Direction};
 ghost use Rattle.query_ast.specs.declared.sort.Key.{Key};
 ghost use Rattle.query_ast.specs.declared.sort.KeyRow.{KeyRow};
@@ -53,4 +54,11 @@ pub fn nested_hits_have_witnesses()
 /// What a clause that joins nothing hits doesn't depend on the other live trees.
 pub fn joins_alone_look_at_other_trees()
     ensures { (m : Mapping) (live others : List Tree) (clause : Clause) (o : Object) → joins clause ≡ false → hit m live clause o ≡ hit m others clause o }
+{}
+
+/// The search for everything finds the live trees by sequence number: its page is the first of them, and its total their
+/// number. Nothing has to be sorted for it, and the mapping doesn't matter.
+pub fn everything_is_found_in_order()
+    ensures { (m : Mapping) (live : List Tree) (boost size : ℕ) (source : Bool) → IsLiveList live
+        → hit_page m live (everything boost size source) ≡ record { hits = map (whole_hit boost source) (take size live); total = length live } }
 {}

@@ -24,8 +24,8 @@ pub use hit::{
 };
 pub use inner::{InnerDef, InnerList, InnerOver};
 pub use law::{
-    joins_alone_look_at_other_trees, nested_hits_have_witnesses, pages_meet, rows_stand_in_order,
-    sums_have_no_order,
+    everything_is_found_in_order, joins_alone_look_at_other_trees, nested_hits_have_witnesses,
+    pages_meet, rows_stand_in_order, sums_have_no_order,
 };
 pub use lists::{BytesList, ValueList};
 pub use no_memory::NoMemory;

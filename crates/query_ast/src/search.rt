@@ -1,8 +1,13 @@
 //! Searches.
+ghost use Rattle.std.specs.Prelude.{◌≡◌, IfOk};
+ghost use Rattle.query_ast.specs.Search.{everything};
+
 use crate::agg::AggList;
 use crate::inner::InnerList;
-use crate::query::QueryBox;
-use crate::sort::{KeyRow, SortList};
+use crate::no_memory::NoMemory;
+use crate::query::{Query, QueryBox};
+use crate::sort::{KeyRow, Missing, Sort, SortKey, SortList};
+use std::alloc::Global;
 
 /// The body of a search, with its names looked up and its defaults filled in (Elasticsearch reference, search API).
 #[derive(Drop)]
@@ -21,4 +26,34 @@ pub struct SearchBody {
     pub pit: Option<u64>,
     /// Whether the hits show their sources.
     pub source: bool,
+}
+
+impl SearchBody {
+    /// The search for everything: `size` hits with the boost as their score, in order of their sequence numbers.
+    pub fn everything(
+        alloc: Global,
+        boost: u32,
+        size: u32,
+        source: bool,
+    ) -> Result<SearchBody, NoMemory>
+        ensures { IfOk result (λ body. body ≡ everything boost size source) }
+    {
+        let mut sort = Vec::with_capacity(alloc, 1)?;
+        sort.push(Sort {
+            key: SortKey::Score,
+            descending: true,
+            missing: Missing::Last,
+        })?;
+        Ok(SearchBody {
+            query: QueryBox::of(alloc, Query::MatchAll { boost })?,
+            sort: SortList::of(sort),
+            after: None,
+            from: 0,
+            size,
+            aggs: AggList::of(Vec::new(alloc)),
+            inner: InnerList::of(Vec::new(alloc)),
+            pit: None,
+            source,
+        })
+    }
 }
