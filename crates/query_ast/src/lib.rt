@@ -16,6 +16,8 @@ mod no_memory;
 mod query;
 mod search;
 mod sort;
+#[cfg(test)]
+mod tests;
 
 pub use agg::{AggDef, AggForm, AggList};
 pub use bucket::{AggReplies, AggReply, AggValue, Bucket, BucketList};
