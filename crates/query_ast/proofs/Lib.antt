@@ -9,3 +9,4 @@ pub mod Examples
 pub mod WordExamples
 pub mod PageExamples
 pub mod Everything
+pub mod ResolvedExamples

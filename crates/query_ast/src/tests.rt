@@ -20,10 +20,12 @@ fn both(alloc: Global, query: Query) -> Result<Query, NoMemory> {
         must: QueryList::of(vec![in alloc; query]?),
         filter: QueryList::of(Vec::new(alloc)),
         should: QueryList::of(Vec::new(alloc)),
-        must_not: QueryList::of(vec![in alloc; Query::Ids {
-            ids: BytesList::of(vec![in alloc; bytes(alloc, "7")?]?),
-            boost: 1,
-        }]?),
+        must_not: QueryList::of(vec![in alloc;
+            Query::Ids {
+                ids: BytesList::of(vec![in alloc; bytes(alloc, "7")?]?),
+                boost: 1,
+            },
+        ]?),
         least: None,
     })
 }
@@ -49,15 +51,17 @@ fn by_field(alloc: Global, filter: Query) -> Result<SortList, NoMemory> {
         scope: 1,
         filter: Some(QueryBox::of(alloc, filter)?),
     };
-    Ok(SortList::of(vec![in alloc; Sort {
-        key: SortKey::Field {
-            field: 3,
-            mode: SortMode::Min,
-            chain: ChainList::of(vec![in alloc; step]?),
+    Ok(SortList::of(vec![in alloc;
+        Sort {
+            key: SortKey::Field {
+                field: 3,
+                mode: SortMode::Min,
+                chain: ChainList::of(vec![in alloc; step]?),
+            },
+            descending: false,
+            missing: Missing::Last,
         },
-        descending: false,
-        missing: Missing::Last,
-    }]?))
+    ]?))
 }
 
 // A definition over the scope 1 that owns one with this query over the scope 2.
@@ -74,16 +78,18 @@ fn owning(alloc: Global, query: Query) -> Result<InnerList, NoMemory> {
         source: true,
         owned: InnerList::of(Vec::new(alloc)),
     };
-    Ok(InnerList::of(vec![in alloc; InnerDef {
-        name: bytes(alloc, "offers")?,
-        over: InnerOver::Below(1),
-        query: shared,
-        from: 0,
-        size: 3,
-        sort: SortList::of(Vec::new(alloc)),
-        source: true,
-        owned: InnerList::of(vec![in alloc; owned]?),
-    }]?))
+    Ok(InnerList::of(vec![in alloc;
+        InnerDef {
+            name: bytes(alloc, "offers")?,
+            over: InnerOver::Below(1),
+            query: shared,
+            from: 0,
+            size: 3,
+            sort: SortList::of(Vec::new(alloc)),
+            source: true,
+            owned: InnerList::of(vec![in alloc; owned]?),
+        },
+    ]?))
 }
 
 // A bucket of the objects at the scope 1, with one inside of those that hit.
@@ -93,11 +99,13 @@ fn counted(alloc: Global, query: Query) -> Result<AggList, NoMemory> {
         form: AggForm::Filter(QueryBox::of(alloc, query)?),
         inner: AggList::of(Vec::new(alloc)),
     };
-    Ok(AggList::of(vec![in alloc; AggDef {
-        name: bytes(alloc, "offers")?,
-        form: AggForm::Nested(1),
-        inner: AggList::of(vec![in alloc; inside]?),
-    }]?))
+    Ok(AggList::of(vec![in alloc;
+        AggDef {
+            name: bytes(alloc, "offers")?,
+            form: AggForm::Nested(1),
+            inner: AggList::of(vec![in alloc; inside]?),
+        },
+    ]?))
 }
 
 #[test]
@@ -143,22 +151,30 @@ fn some_hit_shows(hits: &[InnerHit]) -> bool {
     false
 }
 
-fn page_of(alloc: Global, source: Option<Bytes>, inner: Vec<InnerPage>) -> Result<Vec<InnerPage>, NoMemory> {
+fn page_of(
+    alloc: Global,
+    source: Option<Bytes>,
+    inner: Vec<InnerPage>,
+) -> Result<Vec<InnerPage>, NoMemory> {
     let hit = InnerHit {
         id: bytes(alloc, "1")?,
-        levels: LevelList::of(vec![in alloc; Level {
-            field: bytes(alloc, "offers")?,
-            offset: 0,
-        }]?),
+        levels: LevelList::of(vec![in alloc;
+            Level {
+                field: bytes(alloc, "offers")?,
+                offset: 0,
+            },
+        ]?),
         score: 1,
         source,
         inner: InnerPageList::of(inner),
     };
-    Ok(vec![in alloc; InnerPage {
-        name: bytes(alloc, "offers")?,
-        hits: InnerHitList::of(vec![in alloc; hit]?),
-        total: 1,
-    }]?)
+    Ok(vec![in alloc;
+        InnerPage {
+            name: bytes(alloc, "offers")?,
+            hits: InnerHitList::of(vec![in alloc; hit]?),
+            total: 1,
+        },
+    ]?)
 }
 
 #[test]
@@ -206,10 +222,12 @@ fn some_metric_in(buckets: &[Bucket]) -> bool {
 }
 
 fn answer(alloc: Global, value: AggValue) -> Result<AggReplies, NoMemory> {
-    Ok(AggReplies::of(vec![in alloc; AggReply {
-        name: bytes(alloc, "price")?,
-        value,
-    }]?))
+    Ok(AggReplies::of(vec![in alloc;
+        AggReply {
+            name: bytes(alloc, "price")?,
+            value,
+        },
+    ]?))
 }
 
 #[test]
