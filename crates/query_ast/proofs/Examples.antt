@@ -4,7 +4,7 @@ use Rattle.score_math.specs.declared.score.ScoreMode.{ScoreMode}
 use Rattle.score_math.specs.declared.score.ScoreMode.TheVariants.{Avg, Max, Min, Sum, Zero}
 use Rattle.tree_json.specs.Value.{null, text}
 use Rattle.tree_objects.specs.Tree.{Tree}
-use Rattle.query_ast.specs.Clause.{Clause, no_clauses, clause, leaf, bool, nested, to_child, has_child, has_parent, on_field, is_among, is_between, exists, begins_with, parent_id}
+use Rattle.query_ast.specs.Clause.{Clause, Clauses, no_clauses, clause, leaf, bool, constant_score, dis_max, nested, to_child, has_child, has_parent, match_all, ids, on_field, is_among, is_between, exists, begins_with, parent_id}
 use Rattle.query_ast.specs.declared.query.RangeEnd.TheVariants.{Free, Closed, Past}
 use Rattle.query_ast.proofs.Samples.{searches, tree, an_object, a_list, priced, offering, stocked, stocking, question, answer_of, color, price, stock_n, site, all, word, number, term, both, within, find}
 
@@ -91,6 +91,43 @@ modes : map (λ mode. find (chair ∷ []) (either mode)) (Avg ∷ Max ∷ Min �
     ≡ ((codes "1", 2) ∷ []) ∷ ((codes "1", 3) ∷ []) ∷ ((codes "1", 2) ∷ []) ∷ ((codes "1", 5) ∷ []) ∷ ((codes "1", 0) ∷ []) ∷ []
 unfolding searches
 modes = refl
+
+-- ---- clauses put together
+
+abbrev pair : Seq Tree
+pair = tree (codes "a") 0 (an_object []) ∷ tree (codes "b") 1 (an_object []) ∷ []
+
+abbrev one : Seq ℕ → Clause
+one id = leaf (ids (id ∷ [])) 1
+
+abbrev only : Clause → Clauses
+only c = clause c no_clauses
+
+-- a `should` alone has to hit; beside a `filter` it only adds its score, unless a number is asked for
+shoulds : map (λ query. find pair query)
+    (bool no_clauses no_clauses (only (one (codes "a"))) no_clauses None
+    ∷ bool no_clauses (only all) (only (one (codes "a"))) no_clauses None
+    ∷ bool (only all) no_clauses (only (one (codes "b"))) no_clauses (Some 1)
+    ∷ bool no_clauses no_clauses (clause (one (codes "a")) (clause all no_clauses)) no_clauses (Some 2) ∷ [])
+    ≡ ((codes "a", 1) ∷ []) ∷ ((codes "a", 1) ∷ (codes "b", 0) ∷ []) ∷ ((codes "b", 2) ∷ []) ∷ ((codes "a", 2) ∷ []) ∷ []
+unfolding searches
+shoulds = refl
+
+-- what must not hit adds nothing, and without any clause all is hit
+must_nots : map (λ query. find pair query)
+    (bool no_clauses no_clauses no_clauses (only (one (codes "a"))) None ∷ bool no_clauses no_clauses no_clauses no_clauses (Some 7) ∷ [])
+    ≡ ((codes "b", 0) ∷ []) ∷ ((codes "a", 1) ∷ (codes "b", 1) ∷ []) ∷ []
+unfolding searches
+must_nots = refl
+
+greatest_and_constant : map (λ query. find pair query) (dis_max (clause all (only (leaf (ids (codes "b" ∷ [])) 3))) ∷ dis_max no_clauses ∷ constant_score (one (codes "a")) 5 ∷ [])
+    ≡ ((codes "b", 3) ∷ (codes "a", 1) ∷ []) ∷ [] ∷ ((codes "a", 5) ∷ []) ∷ []
+unfolding searches
+greatest_and_constant = refl
+
+a_sum_stops_at_the_cap : find (tree (codes "a") 0 (an_object []) ∷ []) (both (leaf match_all 9_223_372_036_854_775_807) all) ≡ (codes "a", 9_223_372_036_854_775_807) ∷ []
+unfolding searches
+a_sum_stops_at_the_cap = refl
 
 -- ---- leaves
 

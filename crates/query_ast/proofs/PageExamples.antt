@@ -11,7 +11,7 @@ use Rattle.query_ast.specs.Pages.{PagePart, InnerHead, no_pages, with_page, Hits
 use Rattle.query_ast.specs.Replies.{ReplyPart, no_replies, with_reply, single, several, metric, no_buckets, with_bucket}
 use Rattle.query_ast.specs.Search.{hit_page, found_buckets, by_score}
 use Rattle.query_ast.specs.declared.agg.AggForm.{AggForm}
-use Rattle.query_ast.specs.declared.agg.AggForm.TheVariants.{Nested as Down, ReverseNested as Up, Children, Parent, Terms, Min, Sum, ValueCount}
+use Rattle.query_ast.specs.declared.agg.AggForm.TheVariants.{Filter, Nested as Down, ReverseNested as Up, Children, Parent, Terms, Min, Max, Sum, ValueCount}
 use Rattle.query_ast.specs.declared.hit.Level.{Level}
 use Rattle.query_ast.specs.declared.inner.InnerOver.TheVariants.{Below}
 use Rattle.query_ast.specs.declared.search.SearchBody.{SearchBody}
@@ -140,6 +140,17 @@ owned : pages stocks (record (search all) { inner = definition (inner (codes "o"
 unfolding searches
 owned = refl
 
+-- two definitions of one owner, in their order, and a page that begins behind the first hit
+several_definitions : pages stocks (record (search all) { inner = definition (record (inner (codes "o") 1 all false) { from = 1; size = 1 }) no_definitions ∷ definition (inner (codes "s") 2 at_b false) no_definitions ∷ [] })
+    ≡ (record { name = codes "o"; hits = with_hit (head (offer_at 1 ∷ []) None) no_pages no_hits; total = 2 }
+    ∷ record {
+      name = codes "s";
+      hits = with_hit (head (offer_at 0 ∷ stock_at 1 ∷ []) None) no_pages (with_hit (head (offer_at 1 ∷ stock_at 0 ∷ []) None) no_pages no_hits);
+      total = 2;
+    } ∷ []) ∷ []
+unfolding searches
+several_definitions = refl
+
 -- the page of a definition that stands where its clause must not hit
 must_not : pages stocks (record (search (bool no_clauses no_clauses no_clauses (clause (within 2 (term site (word (codes "z")))) no_clauses) None)) { inner = stock_inner ∷ [] })
     ≡ pages stocks (record (search (within 2 at_b)) { inner = stock_inner ∷ [] })
@@ -203,6 +214,16 @@ some_of_them : map (λ form. counts two all (agg (codes "o") (Down 1) (only (agg
     ∷ (record { name = codes "o"; value = single 3 (with_reply (codes "p") (several (with_bucket (number (pos 8)) 1 no_replies no_buckets) 2) no_replies) } ∷ []) ∷ []
 unfolding searches
 some_of_them = refl
+
+-- two definitions of one bucket: its red offers, and metrics over all its prices
+several_buckets : counts two all (agg (codes "o") (Down 1) (with_definition (agg (codes "red") (Filter red) (only (agg (codes "sum") (Sum (Some price)) no_definitions))) (only (agg (codes "max") (Max (Some price)) no_definitions))))
+    ≡ record {
+      name = codes "o";
+      value = single 3 (with_reply (codes "red") (single 2 (with_reply (codes "sum") (metric (Some (pos 13))) no_replies))
+          (with_reply (codes "max") (metric (Some (pos 8))) no_replies));
+    } ∷ []
+unfolding searches
+several_buckets = refl
 
 -- at the root a price shows nothing, and neither does an unmapped field
 metrics : map (λ form. counts two all (agg (codes "m") form no_definitions)) (Min (Some price) ∷ Sum None ∷ ValueCount None ∷ [])
