@@ -1,12 +1,14 @@
 -- The definitions at work on one mapping: what they compute is what the rules say.
-use Rattle.std.specs.Prelude.{◌≡◌, ℕ, pos, negsuc, true, List as Seq, [], ◌∷◌, map, codes, Some, None, refl}
+use Rattle.std.specs.Prelude.{◌≡◌, ℕ, pos, negsuc, true, List as Seq, [], ◌∷◌, map, codes, Some, None, refl, false}
 use Rattle.score_math.specs.declared.score.ScoreMode.{ScoreMode}
 use Rattle.score_math.specs.declared.score.ScoreMode.TheVariants.{Avg, Max, Min, Sum, Zero}
-use Rattle.tree_json.specs.Value.{null, text}
+use Rattle.tree_json.specs.Value.{JsonValue, null, text, whole}
+use Rattle.tree_objects.specs.Object.{root}
 use Rattle.tree_objects.specs.Tree.{Tree}
 use Rattle.query_ast.specs.Clause.{Clause, Clauses, no_clauses, clause, leaf, bool, constant_score, dis_max, nested, to_child, has_child, has_parent, match_all, ids, on_field, is_among, is_between, exists, begins_with, parent_id}
 use Rattle.query_ast.specs.declared.query.RangeEnd.TheVariants.{Free, Closed, Past}
-use Rattle.query_ast.proofs.Samples.{searches, tree, an_object, a_list, priced, offering, stocked, stocking, question, answer_of, color, price, stock_n, site, all, word, number, term, both, within, find}
+use Rattle.query_ast.specs.Hit.{is_hit}
+use Rattle.query_ast.proofs.Samples.{searches, boxed, tree, an_object, a_list, priced, offering, stocked, stocking, question, answer_of, color, price, stock_n, site, all, word, number, term, both, within, find}
 
 -- ---- nested objects are documents of their own
 
@@ -147,6 +149,18 @@ prefixes = refl
 an_unmapped_field : find costs (leaf (on_field None exists) 1) ≡ []
 unfolding searches
 an_unmapped_field = refl
+
+-- a plain object exists where a field with its home does: not by the objects nested in it
+abbrev box_exists : Clause
+box_exists = leaf (on_field (Some 0) exists) 1
+
+abbrev a_box : Seq ℕ → JsonValue → Tree
+a_box name value = tree (codes "1") 0 (an_object ((codes "box", an_object ((name, value) ∷ [])) ∷ []))
+
+plain_objects : map (λ t. is_hit boxed [] box_exists (root t))
+    (a_box (codes "tag") (text (codes "x")) ∷ a_box (codes "parts") (an_object ((codes "n", whole (pos 1)) ∷ [])) ∷ a_box (codes "tag") null ∷ []) ≡ true ∷ false ∷ false ∷ []
+unfolding searches
+plain_objects = refl
 
 -- ---- joins
 

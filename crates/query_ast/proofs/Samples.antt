@@ -3,7 +3,7 @@ use Rattle.std.specs.Prelude.{◌≡◌, ℕ, ℤ, false, List as Seq, [], ◌�
 use Rattle.score_math.specs.declared.score.ScoreMode.TheVariants.{Avg}
 use Rattle.tree_json.specs.Value.{JsonValue, whole, text, list, object, elements_of, members_of}
 use Rattle.mapping.specs.declared.kind.Kind.{Kind}
-use Rattle.mapping.specs.declared.kind.Kind.TheVariants.{Text, Keyword, Long, Nested, Join}
+use Rattle.mapping.specs.declared.kind.Kind.TheVariants.{Text, Keyword, Long, Object, Nested, Join}
 use Rattle.mapping.specs.Mapping.{Mapping, Field, Scope, root_scope, mapping_of, included}
 use Rattle.mapping.specs.Relations.{Relation}
 use Rattle.tree_objects.specs.declared.field_value.FieldValue.{FieldValue}
@@ -72,6 +72,20 @@ mapping = record {
   scopes = root_scope ∷ scope (codes "offers") 0 (codes "offers") ∷ scope (codes "offers.stock") 1 (codes "stock") ∷ [];
   order = 1 ∷ 2 ∷ [];
   relations = relation (codes "answer") (Some 1) ∷ relation (codes "question") None ∷ [];
+}
+
+-- a plain object with a field, and in it a nested path with another
+abbrev pub boxed : Mapping
+boxed = record {
+  bodies = [];
+  index = codes "main";
+  fields =
+    field (codes "box") Object 0 ∷ field (codes "box.parts") Nested 0 ∷ field (codes "box.parts.n") Long 1 ∷ field (codes "box.tag") Keyword 0 ∷ [];
+  scopes =
+    root_scope
+    ∷ record { path = codes "box.parts"; around = 0; names = codes "box" ∷ codes "parts" ∷ []; in_parent = false; in_root = false; since = 1 } ∷ [];
+  order = 1 ∷ [];
+  relations = [];
 }
 
 mapping_is_read : mapping_of (body ∷ []) ≡ mapping
