@@ -1,0 +1,20 @@
+//! The text of every reply.
+//!
+//! Stands on `query_ast`, whose pages of hits and replies of buckets it prints, and on `tree_json` for texts and numbers.
+//! `specs/Text` says each reply as an object of names and the texts of their values. The contract that others use is
+//! that of `text`: it appends exactly that line, or refuses where it is too long.
+//! Begin reading at `reply`, then `text`.
+#![tactic(auto)]
+
+mod field;
+mod layout;
+mod order;
+mod refusal;
+mod reply;
+mod text;
+mod write;
+
+pub use layout::{MergeRow, MergeRows, SegmentRow, SegmentRows};
+pub use refusal::{MappingLimit, Refusal};
+pub use text::TextRefusal;
+pub use reply::{Reply, WriteResult};
