@@ -12,7 +12,7 @@ value_text (Whole z) = signed_decimal z
 value_text (Text s) = quoted s.now
 
 abbrev pub field_text : Field → List ℕ
-field_text f = f.label.now ++ value_text f.value
+field_text f = f.0.now ++ value_text f.1
 
 abbrev pub fields_text : Bool → List Field → List ℕ
 fields_text later [] = []

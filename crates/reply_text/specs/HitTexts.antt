@@ -44,7 +44,7 @@ hits_text hits total = object_text (entry (codes "hits") (list_text hits) ∷ en
 
 -- ---- inner hits
 
-abbrev pub inner_hit_text : InnerHead → List Entry → List ℕ
+unfoldable pub inner_hit_text : InnerHead → List Entry → List ℕ
 inner_hit_text head pages = object_text (
     entry (codes "_id") (quoted head.id)
     ∷ (place_entries head.levels

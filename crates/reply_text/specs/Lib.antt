@@ -8,3 +8,6 @@ pub mod Text
 pub mod Printed
 pub mod Field
 pub mod Next
+pub mod HitParts
+pub mod BucketParts
+pub mod LineParts

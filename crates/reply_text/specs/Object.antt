@@ -45,7 +45,7 @@ abbrev pub braces : List ℕ → List ℕ
 braces inside = codes "{" ++ (inside ++ codes "}")
 
 -- the entries as an object
-abbrev pub object_text : List Entry → List ℕ
+unfoldable pub object_text : List Entry → List ℕ
 object_text es = braces (entries_text false (in_order es))
 
 -- texts one after the other; `later` says that something stands before in the same list

@@ -1,8 +1,8 @@
 -- What becomes of a line that is to be printed.
 use Rattle.std.specs.Prelude.{◌≡◌, ℕ, ◌+◌, ◌<◌, ◌≤◌, ◌↔◌, List, [], ◌∷◌, ◌++◌, length, Result, Err, OnOk, OnErr, IsOk}
 use Rattle.tree_json.specs.Output.{OutState, room_of}
-use Rattle.reply_text.specs.declared.text.TextRefusal.{TextRefusal}
-use Rattle.reply_text.specs.declared.text.TextRefusal.TheVariants.{TooLarge}
+use Rattle.reply_text.specs.declared.line.TextRefusal.{TextRefusal}
+use Rattle.reply_text.specs.declared.line.TextRefusal.TheVariants.{TooLarge}
 
 abbrev pub newline : List ℕ
 newline = 10 ∷ []

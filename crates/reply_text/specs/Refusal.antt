@@ -1,9 +1,12 @@
 -- Refusals: the number, the reason and the further names of each, in the order of the numbers.
-use Rattle.std.specs.Prelude.{ℕ, List, [], ◌∷◌, Option, Some, None, codes, decimal}
+use Rattle.std.specs.Prelude.{ℕ, negsuc, List, [], ◌∷◌, Option, Some, None, codes, decimal}
+use Rattle.std.specs.Fmt.{signed_decimal}
 use Rattle.tree_json.specs.Text.{quoted}
 use Rattle.reply_text.specs.Object.{Entry, entry, object_text}
 use Rattle.reply_text.specs.declared.refusal.MappingLimit.{MappingLimit as Limit}
 use Rattle.reply_text.specs.declared.refusal.MappingLimit.TheVariants.{Fields, Depth, Nested, Relations, Generations, Size}
+use Rattle.reply_text.specs.declared.refused.Further.{Further}
+use Rattle.reply_text.specs.declared.refused.Further.TheVariants as further
 use Rattle.reply_text.specs.declared.refusal.Refusal.{Refusal}
 use Rattle.reply_text.specs.declared.refusal.Refusal.TheVariants.{
   BadJson, FractionNumber, LineTooLong, BadRequest, MissingSource, NoMapping, MappingExists, MappingLimit, IndexNotFound,
@@ -23,7 +26,7 @@ limit_word Size = codes "size"
 
 -- the number of the live tree, -1 where there is none
 abbrev pub live_text : Option ℕ → List ℕ
-live_text None = codes "-1"
+live_text None = signed_decimal (negsuc 0)
 live_text (Some number) = decimal number
 
 -- what a refusal tells: its number, its reason and what else it names
@@ -84,3 +87,13 @@ told_by TooManyCombinations = told 41 (codes "too_many_combinations") []
 -- the object that stands under `error`
 abbrev pub told_text : Told → List ℕ
 told_text it = object_text (entry (codes "number") (decimal it.number) ∷ entry (codes "reason") (quoted it.reason) ∷ it.further)
+
+-- the entries of what the printer is handed besides number and reason
+abbrev pub further_entries : Further → List Entry
+further_entries further.Nothing = []
+further_entries (further.Field path) = entry (codes "field") (quoted path.now) ∷ []
+further_entries (further.Limit limit) = entry (codes "limit") (quoted (limit_word limit)) ∷ []
+further_entries (further.Number live) = entry (codes "seq_no") (live_text (Some live)) ∷ []
+further_entries further.NoNumber = entry (codes "seq_no") (live_text None) ∷ []
+further_entries (further.Merge id) = entry (codes "merge") (decimal id) ∷ []
+further_entries (further.MergeLeft left id) = entry (codes "left") (decimal left) ∷ entry (codes "merge") (decimal id) ∷ []

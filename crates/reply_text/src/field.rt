@@ -17,10 +17,7 @@ pub(crate) enum Value<'a> {
 
 /// A name as it is printed, with its quotation marks and the colon, and its value.
 #[derive(Clone, Copy)]
-pub(crate) struct Field<'a> {
-    pub label: &'static [u8],
-    pub value: Value<'a>,
-}
+pub(crate) struct Field<'a>(pub &'static [u8], pub Value<'a>);
 
 fn value_len(value: &Value) -> u64
     ensures { result ≡ min (length (value_text value.now)) (2 ^ 64 - 1) }
@@ -48,7 +45,7 @@ fn put_value(value: &Value, into: &mut OutText)
 fn field_len(field: &Field) -> u64
     ensures { result ≡ min (length (field_text field.now)) (2 ^ 64 - 1) }
 {
-    (field.label.len() as u64).saturating_add(value_len(&field.value))
+    (field.0.len() as u64).saturating_add(value_len(&field.1))
 }
 
 // With a comma where something stands before.
@@ -59,8 +56,8 @@ fn put_field(later: bool, field: &Field, into: &mut OutText)
     ensures room { room_of into.old ≤ room_of into.new }
 {
     put_comma(later, into);
-    into.push_spare(field.label);
-    put_value(&field.value, into);
+    into.push_spare(field.0);
+    put_value(&field.1, into);
 }
 
 /// The length of the fields with the commas between them, in bytes, or the greatest u64 where it is greater than that.

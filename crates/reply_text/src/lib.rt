@@ -6,15 +6,24 @@
 //! Begin reading at `reply`, then `text`.
 #![tactic(auto)]
 
+mod buckets;
 mod field;
+mod found;
+mod hits;
+mod inner_hits;
 mod layout;
+mod line;
 mod order;
 mod refusal;
+mod refused;
+mod printer;
 mod reply;
-mod text;
+mod rows;
+
 mod write;
 
 pub use layout::{MergeRow, MergeRows, SegmentRow, SegmentRows};
+pub use line::TextRefusal;
 pub use refusal::{MappingLimit, Refusal};
-pub use text::TextRefusal;
 pub use reply::{Reply, WriteResult};
+pub use printer::text;

@@ -2,6 +2,7 @@
 use crate::layout::{MergeRows, SegmentRows};
 use crate::refusal::Refusal;
 use tree_objects::Bytes;
+use query_ast::{AggReplies, HitPage};
 
 /// What became of a tree by an accepted write.
 #[derive(Clone, Copy, Debug, PartialEq, Eq)]
@@ -48,6 +49,8 @@ pub enum Reply {
     },
     /// To a `delete` of an id that isn't live.
     NotFound { id: Bytes },
+    /// To `search`: the page of hits, and the answers of its buckets, which are printed where there are any.
+    Found { page: HitPage, answers: AggReplies },
     /// To `open_pit`: the id of the point in time.
     PitOpened { pit: u64 },
     /// To `close_pit`.
