@@ -20,6 +20,8 @@ mod printer;
 mod reply;
 mod rows;
 
+#[cfg(test)]
+mod tests;
 mod write;
 
 pub use layout::{MergeRow, MergeRows, SegmentRow, SegmentRows};
