@@ -1,8 +1,6 @@
 pub mod Members
 pub mod Writing
 pub mod Serving
-pub mod ReplyTexts
-pub mod PageTexts
 pub mod Pages
 pub mod Puts
 mod Keys

@@ -13,7 +13,10 @@ use Rattle.line_engine.specs.Exit.{status_of}
 use Rattle.line_engine.specs.Answer.{Outcome}
 use Rattle.line_engine.specs.Faithful.{IsFaithful, AnswersTo, reply_bytes, state_of}
 use Rattle.line_engine.specs.Machine.{step}
-use Rattle.line_engine.specs.Reply.{Reply, reply_text, out_of_memory}
+use Rattle.reply_text.specs.Object.{object_text}
+use Rattle.reply_text.specs.Text.{line_of, reply_text}
+use Rattle.reply_text.specs.declared.reply.Reply.{Reply}
+use Rattle.reply_text.specs.declared.reply.Reply.TheVariants.{OutOfMemory}
 use Rattle.line_engine.specs.Run.{MayStep, Turn, IsChain, Serves, last_state, requests_of, text_of}
 use Rattle.line_engine.specs.Seen.{EngineState}
 use Rattle.line_engine.specs.Served.{Served, TakesPart}
@@ -23,8 +26,8 @@ use Rattle.line_engine.specs.declared.limits.Limits.{Limits}
 use Rattle.line_engine.specs.declared.status.Status.TheVariants.{WriteFault}
 use Rattle.line_engine.proofs.Writing.{appends_none, appends_more}
 
-pub out_of_memory_text : codes "{\"error\":{\"reason\":\"out_of_memory\"}}\n" ≡ reply_text out_of_memory
-unfolding reply_text quoted escape_byte
+pub out_of_memory_text : codes "{\"error\":{\"reason\":\"out_of_memory\"}}\n" ≡ reply_text OutOfMemory
+unfolding line_of object_text quoted escape_byte
 out_of_memory_text = refl
 
 -- ## chains with a turn put last

@@ -7,8 +7,8 @@ use Rattle.line_reader.specs.Request.{ReadLine, in_full, too_long, SourceLine, n
 use Rattle.line_engine.specs.declared.search.ParsedQuery.{ParsedQuery}
 use Rattle.line_engine.specs.declared.search.ParsedQuery.TheVariants.{MatchAll}
 use Rattle.line_engine.specs.declared.search.ParsedSearch.{ParsedSearch}
-use Rattle.line_engine.specs.declared.refusal.Refusal.{Refusal}
-use Rattle.line_engine.specs.declared.refusal.Refusal.TheVariants.{BadJson, FractionNumber, LineTooLong, BadRequest, MissingSource}
+use Rattle.reply_text.specs.declared.refusal.Refusal.{Refusal}
+use Rattle.reply_text.specs.declared.refusal.Refusal.TheVariants.{BadJson, FractionNumber, LineTooLong, BadRequest, MissingSource}
 
 -- what a first line says: to index a source under an id, or to search
 pub data Command : Type 0 where

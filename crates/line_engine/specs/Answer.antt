@@ -1,8 +1,9 @@
 -- What a command answers: a refusal, which changes nothing, or a reply with the state afterwards.
 use Rattle.std.specs.Prelude.{Bool, List, [], ◌∷◌, Option, Some, None, if◌then◌else◌}
 use Rattle.line_engine.specs.State.{State}
-use Rattle.line_engine.specs.Reply.{Reply, refusal}
-use Rattle.line_engine.specs.declared.refusal.Refusal.{Refusal}
+use Rattle.reply_text.specs.declared.refusal.Refusal.{Refusal}
+use Rattle.reply_text.specs.declared.reply.Reply.{Reply}
+use Rattle.reply_text.specs.declared.reply.Reply.TheVariants.{Refused}
 
 pub data Answer : Type 0 where
   refuses : Refusal → Answer
@@ -14,7 +15,7 @@ pub record Outcome : Type 0 where
   pub state : State
 
 abbrev pub outcome_of : State → Answer → Outcome
-outcome_of before (refuses why) = record { reply = refusal why; state = before }
+outcome_of before (refuses why) = record { reply = Refused why; state = before }
 outcome_of before (answers reply after) = record { reply = reply; state = after }
 
 -- this refusal, where that is so

@@ -2,7 +2,9 @@
 use Rattle.std.specs.Prelude.{◌≡◌, ℕ, None, List}
 use Rattle.line_reader.specs.Request.{Request}
 use Rattle.line_engine.specs.State.{State, state_with}
-use Rattle.line_engine.specs.Reply.{Reply, reply_text, out_of_memory}
+use Rattle.reply_text.specs.Text.{reply_text}
+use Rattle.reply_text.specs.declared.reply.Reply.{Reply}
+use Rattle.reply_text.specs.declared.reply.Reply.TheVariants.{OutOfMemory}
 use Rattle.line_engine.specs.Run.{MayStep}
 use Rattle.line_engine.specs.Seen.{EngineState}
 use Rattle.line_engine.specs.declared.engine.Answered.{Answered}
@@ -20,7 +22,7 @@ IsFaithful engine state = state ≡ state_of engine
 -- what is written for an answer: the reply in the buffer, or the fixed one where there was no memory
 abbrev pub reply_bytes : Answered → List ℕ → List ℕ
 reply_bytes Written out = out
-reply_bytes NoMemory out = reply_text out_of_memory
+reply_bytes NoMemory out = reply_text OutOfMemory
 
 -- The request is answered as the machine may, and the engine is faithful to the state afterwards.
 pub record AnswersTo (limits : Limits) (before : State) (request : Request) (answered : Answered) (out : List ℕ) (engine : EngineState) : Type 0 where

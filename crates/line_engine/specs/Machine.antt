@@ -7,10 +7,10 @@ use Rattle.line_engine.specs.Search.{search_step}
 use Rattle.line_engine.specs.Write.{index_step}
 use Rattle.line_engine.specs.declared.limits.Limits.{Limits}
 
--- What an action answers in a state: one line for each. The limits bound actions that aren't built yet.
+-- what an action answers in a state: one line for each
 abbrev pub action_step : Limits → Action → State → Answer
 action_step limits (index_source id source) state = index_step id source state
-action_step limits (search_trees parsed) state = search_step parsed state
+action_step limits (search_trees parsed) state = search_step limits parsed state
 
 abbrev pub asked_step : Limits → Asked → State → Answer
 asked_step limits (refused why) state = refuses why

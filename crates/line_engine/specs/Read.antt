@@ -6,7 +6,7 @@ use Rattle.tree_json.specs.declared.reader.JsonRefusal.TheVariants as Json
 use Rattle.line_engine.specs.Action.{Command, index, search, Asked, refused, asked_in, asked_by}
 use Rattle.line_reader.specs.Request.{SourceLine}
 use Rattle.tree_json.specs.Reading.{Reading}
-use Rattle.line_engine.specs.declared.refusal.Refusal.TheVariants.{BadJson, FractionNumber}
+use Rattle.reply_text.specs.declared.refusal.Refusal.TheVariants.{BadJson, FractionNumber}
 use Rattle.line_engine.specs.declared.action.Command as Declared
 use Rattle.line_engine.specs.declared.action.Command.TheVariants.{Index, Search}
 use Rattle.line_engine.specs.declared.action.NoAction.{NoAction}

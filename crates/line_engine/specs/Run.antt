@@ -4,7 +4,9 @@ use Rattle.std.specs.Io.KnownBytes.{Appends, Keeps}
 use Rattle.io_edges.specs.Faults.{Rose}
 use Rattle.line_reader.specs.Request.{Request}
 use Rattle.line_reader.specs.Given.{ReadsAll, ReadsWhole, ReadsToLimit, ReadsFirst}
-use Rattle.line_engine.specs.Reply.{Reply, out_of_memory, reply_text}
+use Rattle.reply_text.specs.Text.{reply_text}
+use Rattle.reply_text.specs.declared.reply.Reply.{Reply}
+use Rattle.reply_text.specs.declared.reply.Reply.TheVariants.{OutOfMemory}
 use Rattle.line_engine.specs.State.{State}
 use Rattle.line_engine.specs.Machine.{step}
 use Rattle.line_engine.specs.declared.limits.Limits.{Limits}
@@ -17,13 +19,13 @@ pub record Stepped (limits : Limits) (before : State) (request : Request) (reply
   pub state_is : after ≡ (step limits before request).state
 
 -- there was no memory, and the state is as it was
-pub record OutOfMemory (before : State) (reply : Reply) (after : State) : Type 0 where
-  pub reply_is : reply ≡ out_of_memory
+pub record WantsMemory (before : State) (reply : Reply) (after : State) : Type 0 where
+  pub reply_is : reply ≡ OutOfMemory
   pub state_is : after ≡ before
 
 -- what a request may be answered, and the state that this may leave
 abbrev pub MayStep : Limits → State → Request → Reply → State → Type 0
-MayStep limits before request reply after = Stepped limits before request reply after ⊎ OutOfMemory before reply after
+MayStep limits before request reply after = Stepped limits before request reply after ⊎ WantsMemory before reply after
 
 -- a request, its reply and the state afterwards
 pub record Turn : Type 0 where

@@ -5,11 +5,11 @@ use Rattle.mapping.specs.Mapping.{Mapping}
 use Rattle.tree_objects.specs.Tree.{Tree, number_of, without}
 use Rattle.line_engine.specs.State.{State}
 use Rattle.line_engine.specs.Answer.{Answer, answers, when, unless}
-use Rattle.line_engine.specs.Reply.{changed}
-use Rattle.line_engine.specs.declared.refusal.Refusal.{Refusal}
-use Rattle.line_engine.specs.declared.refusal.Refusal.TheVariants.{IdTooLong}
-use Rattle.line_engine.specs.declared.reply.WriteResult.{WriteResult}
-use Rattle.line_engine.specs.declared.reply.WriteResult.TheVariants.{Created, Updated}
+use Rattle.reply_text.specs.declared.refusal.Refusal.{Refusal}
+use Rattle.reply_text.specs.declared.refusal.Refusal.TheVariants.{IdTooLong}
+use Rattle.reply_text.specs.declared.reply.Reply.TheVariants.{Written}
+use Rattle.reply_text.specs.declared.reply.WriteResult.{WriteResult}
+use Rattle.reply_text.specs.declared.reply.WriteResult.TheVariants.{Created, Updated}
 
 -- the most bytes of an id
 abbrev pub longest_id : ℕ
@@ -41,7 +41,7 @@ with_change live state = record state { content = record state.content { live = 
 
 abbrev pub index_done : List ℕ → JsonValue → State → Answer
 index_done id source state =
-    answers (changed id state.content.next (result_of id state.content.live))
+    answers (Written id state.content.next (result_of id state.content.live))
     (with_change (with_put (new_tree id source state.content.next (generation_of state.content.mapping)) state.content.live) state)
 
 abbrev pub index_step : List ℕ → JsonValue → State → Answer

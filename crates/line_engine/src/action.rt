@@ -9,9 +9,9 @@ ghost use Rattle.line_reader.specs.View.{first_line_of, source_line_of};
 ghost use Rattle.line_engine.specs.Seen.{action_view};
 ghost use Rattle.line_engine.specs.Read.{command_view, IsRefused, IsRefusedFirst, AsksAs, IsNoObject};
 
-use crate::refusal::Refusal;
 use crate::search::{ParsedQuery, ParsedSearch};
 use line_reader::{FirstLine, SourceLine};
+use reply_text::Refusal;
 use std::alloc::Global;
 use tree_json::{CompactText, Json, JsonObject, JsonReader, JsonRefusal, JsonText, NoMemory};
 
@@ -32,7 +32,7 @@ pub(crate) enum Action {
 }
 
 /// Why there is no action.
-#[derive(Clone, Copy, Debug, PartialEq, Eq)]
+#[derive(Drop)]
 pub(crate) enum NoAction {
     Refused(Refusal),
     NoMemory,

@@ -1,12 +1,14 @@
 //! The engine: one request, one reply.
 
 ghost use Rattle.std.specs.Prelude.{◌≡◌, ◌≤◌, ◌<◌, ◌+◌, ◌^◌, ◌++◌, [], OnOk, OnErr, IfOk};
+ghost use Rattle.reply_text.specs.Text.{reply_text};
+ghost use Rattle.reply_text.specs.declared.reply.Reply.TheVariants.{Refused};
 ghost use Rattle.tree_json.specs.Output.{room_of};
 ghost use Rattle.line_engine.specs.Answer.{outcome_of};
 ghost use Rattle.line_engine.specs.Faithful.{IsFaithful, AnswersTo, state_of};
 ghost use Rattle.line_engine.specs.Limit.{AreLimits};
 ghost use Rattle.line_engine.specs.Machine.{step, action_step};
-ghost use Rattle.line_engine.specs.Reply.{reply_text};
+ghost use Rattle.line_engine.specs.Search.{search_step, within};
 ghost use Rattle.line_engine.specs.Seen.{action_view};
 ghost use Rattle.line_engine.specs.State.{State};
 ghost use Rattle.line_engine.specs.View.{request_of};
@@ -14,18 +16,18 @@ ghost use Rattle.line_engine.specs.Write.{index_done, index_step};
 
 use crate::action::{Action, NoAction, action_of};
 use crate::limits::Limits;
-use crate::live::LiveTrees;
-use crate::page::write_page;
-use crate::refusal::{NoMemory, Refusal};
-use crate::reply::{begin_change, end_change, write_refusal};
-use crate::search::resolve;
+use crate::live::{LiveTrees, key_of};
+use crate::no_memory::NoMemory;
+use crate::search::{ParsedSearch, found};
 use io_edges::Disk;
 use line_reader::{FirstLine, SourceLine};
+use reply_text::{Refusal, Reply, TextRefusal, text};
 use source_steps::Steps;
 use std::alloc::Global;
 use std::marker::Model;
 use std::sync::ledger::Ledger;
 use tree_json::{CompactText, JsonReader, JsonText, OutText};
+use tree_objects::Bytes;
 
 /// The most bytes of an `_id`.
 const LONGEST_ID: usize = 512;
@@ -140,7 +142,7 @@ impl Engine {
     {
         match action_of(self.alloc, &mut self.reader, first, second) {
             Ok(action) => self.perform(action, out),
-            Err(NoAction::Refused(why)) => write_refusal(why, out),
+            Err(NoAction::Refused(why)) => refuse(why, out),
             Err(NoAction::NoMemory) => Err(NoMemory),
         }
     }
@@ -157,7 +159,7 @@ impl Engine {
     {
         match action {
             Action::Index(id, source) => self.index(id, source, out),
-            Action::Search(parsed) => write_page(&resolve(parsed), &self.live, out),
+            Action::Search(parsed) => self.search(parsed, out),
         }
     }
 
@@ -177,13 +179,13 @@ impl Engine {
         ensures room { room_of out.old ≤ room_of out.new }
     {
         if id.as_slice().len() > LONGEST_ID {
-            write_refusal(Refusal::IdTooLong, out)
+            refuse(Refusal::IdTooLong, out)
         } else {
             self.put(id, source, out)
         }
     }
 
-    // The room for the whole reply comes first, so that want of memory leaves the trees as they were.
+    // The reply comes first, so that want of memory for it leaves the trees as they were.
     fn put(&mut self, id: JsonText, source: CompactText, out: &mut OutText) -> Result<(), NoMemory>
         requires room { self.old.next < 2 ^ 50 }
         requires calls { self.old.next < self.old.calls }
@@ -194,10 +196,55 @@ impl Engine {
         ensures calls { self.new.calls ≡ self.old.calls }
         ensures room { room_of out.old ≤ room_of out.new }
     {
-        begin_change(id.as_slice(), self.next, out)?;
-        let what = self.live.put(self.next, FIRST_GENERATION, id, source)?;
-        end_change(what, out);
+        let key = key_of(id);
+        let reply = Reply::Written {
+            id: Bytes::of(Vec::from_slice(self.alloc, key.1.as_bytes())?),
+            number: self.next,
+            result: self.live.result_of(&key),
+        };
+        write(&reply, out)?;
+        self.live.put(self.next, FIRST_GENERATION, key, source)?;
         self.next += 1;
         Ok(())
+    }
+
+    fn search(&self, parsed: ParsedSearch, out: &mut OutText) -> Result<(), NoMemory>
+        ensures ok { OnOk result (out.new.bytes ≡ out.old.bytes ++ reply_text (outcome_of (state_of self.now) (search_step self.now.limits parsed (state_of self.now))).reply) }
+        ensures room { room_of out.old ≤ room_of out.new }
+    {
+        let found = found(self.alloc, parsed, &self.live)?;
+        write_within(&self.limits, &found, out)
+    }
+}
+
+// Writes a reply, or that its line is longer than the limit.
+#[tactic(auto, using(crate::proofs::Pages::within_fits, crate::proofs::Pages::within_not))]
+fn write_within(limits: &Limits, reply: &Reply, out: &mut OutText) -> Result<(), NoMemory>
+    ensures ok { OnOk result (out.new.bytes ≡ out.old.bytes ++ reply_text (within limits.now reply.now)) }
+    ensures room { room_of out.old ≤ room_of out.new }
+{
+    match text(reply, limits.reply_bytes, out) {
+        Ok(()) => Ok(()),
+        Err(TextRefusal::TooLarge) => refuse(Refusal::ReplyTooLarge, out),
+        Err(TextRefusal::NoMemory) => Err(NoMemory),
+    }
+}
+
+// Writes a refusal.
+fn refuse(why: Refusal, out: &mut OutText) -> Result<(), NoMemory>
+    ensures ok { OnOk result (out.new.bytes ≡ out.old.bytes ++ reply_text (Refused why)) }
+    ensures room { room_of out.old ≤ room_of out.new }
+{
+    write(&Reply::Refused { why }, out)
+}
+
+// Writes a reply of any length. For more bytes than a u64 counts there is no memory.
+fn write(reply: &Reply, out: &mut OutText) -> Result<(), NoMemory>
+    ensures ok { OnOk result (out.new.bytes ≡ out.old.bytes ++ reply_text reply.now) }
+    ensures room { room_of out.old ≤ room_of out.new }
+{
+    match text(reply, u64::MAX, out) {
+        Ok(()) => Ok(()),
+        Err(_) => Err(NoMemory),
     }
 }

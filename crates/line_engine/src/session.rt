@@ -8,7 +8,8 @@ ghost use Rattle.line_reader.specs.Seen.{KnowsEnd, ahead};
 ghost use Rattle.tree_json.specs.Output.{room_of};
 ghost use Rattle.line_engine.specs.Faithful.{reply_bytes};
 ghost use Rattle.line_engine.specs.Limit.{AreLimits};
-ghost use Rattle.line_engine.specs.Reply.{reply_text, out_of_memory as out_of_memory_reply};
+ghost use Rattle.reply_text.specs.Text.{reply_text};
+ghost use Rattle.reply_text.specs.declared.reply.Reply.TheVariants.{OutOfMemory};
 ghost use Rattle.line_engine.specs.Run.{Serves, IsCaused};
 ghost use Rattle.line_engine.specs.Served.{Served, TakesPart};
 ghost use Rattle.line_engine.specs.State.{State, empty_state};
@@ -16,7 +17,7 @@ ghost use Rattle.line_engine.specs.declared.limits.Limits.{Limits};
 
 use crate::engine::{Answered, Engine};
 use crate::limits::Limits;
-use crate::refusal::NoMemory;
+use crate::no_memory::NoMemory;
 use crate::status::Status;
 use io_edges::{Disk, Failed, Sink, Source};
 use line_reader::LineReader;
@@ -180,7 +181,7 @@ fn write_reply<K: Sink>(sink: &mut K, answered: Answered, out: &OutText) -> Resu
 // The reply where there is no memory. It needs none.
 #[tactic(auto, using(crate::proofs::Serving::out_of_memory_text))]
 fn out_of_memory() -> &'static [u8]
-    ensures { result.now ≡ reply_text out_of_memory_reply }
+    ensures { result.now ≡ reply_text OutOfMemory }
 {
     b"{\"error\":{\"reason\":\"out_of_memory\"}}\n"
 }
