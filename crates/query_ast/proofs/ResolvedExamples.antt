@@ -1,18 +1,15 @@
 -- What is asked of a search that was read can be met: a search with all its parts, under the sample mapping.
-use Rattle.std.specs.Prelude.{◌≡◌, ℕ, pos, true, false, List as Seq, [], ◌∷◌, codes, Some, None, refl}
+use Rattle.std.specs.Prelude.{pos, true, false, [], ◌∷◌, codes, Some, None}
 use Rattle.std.proofs.Common.{arith}
-use Rattle.score_math.specs.declared.score.ScoreMode.TheVariants.{Avg, Sum as Total}
-use Rattle.query_ast.specs.Agg.{Agg}
-use Rattle.query_ast.specs.Clause.{Clause, leaf, nested, to_child, has_child, has_parent, on_field, is_between, bool, no_clauses, clause}
-use Rattle.query_ast.specs.Definition.{Definition, definition, no_definitions, with_definition}
-use Rattle.query_ast.specs.Inner.{Inner}
+use Rattle.score_math.specs.declared.score.ScoreMode.TheVariants.{Sum as Total}
+use Rattle.query_ast.specs.Clause.{Clause, leaf, to_child, has_child, has_parent, on_field, is_between}
+use Rattle.query_ast.specs.Definition.{definition, no_definitions, with_definition}
 use Rattle.query_ast.specs.Resolved.{IsResolved, IsSearch}
 use Rattle.query_ast.specs.Search.{by_score, everything}
-use Rattle.query_ast.specs.declared.agg.AggForm.TheVariants.{Nested, Terms, Min}
+use Rattle.query_ast.specs.declared.agg.AggForm.TheVariants.{Nested, Terms}
 use Rattle.query_ast.specs.declared.inner.InnerOver.TheVariants.{Below}
 use Rattle.query_ast.specs.declared.query.RangeEnd.TheVariants.{Free, Past}
 use Rattle.query_ast.specs.declared.search.SearchBody.{SearchBody}
-use Rattle.query_ast.specs.declared.sort.Key.TheVariants.{Null}
 use Rattle.query_ast.specs.declared.sort.Missing.TheVariants.{Last}
 use Rattle.query_ast.specs.declared.sort.Sort.{Sort}
 use Rattle.query_ast.specs.declared.sort.SortKey.TheVariants.{Field}

@@ -80,10 +80,10 @@ boxed = record {
   bodies = [];
   index = codes "main";
   fields =
-    field (codes "box") Object 0 ∷ field (codes "box.parts") Nested 0 ∷ field (codes "box.parts.n") Long 1 ∷ field (codes "box.tag") Keyword 0 ∷ [];
+      field (codes "box") Object 0 ∷ field (codes "box.parts") Nested 0 ∷ field (codes "box.parts.n") Long 1 ∷ field (codes "box.tag") Keyword 0 ∷ [];
   scopes =
-    root_scope
-    ∷ record { path = codes "box.parts"; around = 0; names = codes "box" ∷ codes "parts" ∷ []; in_parent = false; in_root = false; since = 1 } ∷ [];
+      root_scope
+      ∷ record { path = codes "box.parts"; around = 0; names = codes "box" ∷ codes "parts" ∷ []; in_parent = false; in_root = false; since = 1 } ∷ [];
   order = 1 ∷ [];
   relations = [];
 }
