@@ -73,5 +73,7 @@ bucket_size_at (first ∷ buckets) zero d h = omega arith
 bucket_size_at (first ∷ buckets) (suc k) d h = let more : k < length buckets = omega arith in omega (arith, bucket_size_at buckets k d more)
 
 pub ruleset lines = (common_steps, listed_answers, slot_line-entry, answer_line-text)
+
 pub ruleset answers = (common_steps, above_none, slot_line-entry, slot_size-within)
+
 pub ruleset sizes = (common_steps, bucket_size_at)

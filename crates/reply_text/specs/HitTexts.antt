@@ -35,7 +35,7 @@ abbrev pub place_entries : List Level → List Entry
 place_entries [] = []
 place_entries (level ∷ levels) =
     entry (codes "_nested") (object_text (
-        entry (codes "field") (quoted level.field) ∷ entry (codes "offset") (decimal level.offset) ∷ place_entries levels))
+    entry (codes "field") (quoted level.field) ∷ entry (codes "offset") (decimal level.offset) ∷ place_entries levels))
     ∷ []
 
 -- hits with the number of all

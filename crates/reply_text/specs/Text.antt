@@ -13,8 +13,28 @@ use Rattle.reply_text.specs.declared.reply.WriteResult.{WriteResult}
 use Rattle.reply_text.specs.declared.reply.WriteResult.TheVariants.{Created, Updated, Deleted, Noop}
 use Rattle.reply_text.specs.declared.reply.Reply.{Reply}
 use Rattle.reply_text.specs.declared.reply.Reply.TheVariants.{
-  Mapped, Refreshed, Written, NotFound, Found, PitOpened, PitClosed, MergeStarted, MergeAdvanced, MergeFinished, MergeAborted,
-  ForceMerged, AutoMerge, Layout, Committed, Compacted, Trimmed, Checked, RanMade, Refused, OutOfMemory}
+  Mapped,
+  Refreshed,
+  Written,
+  NotFound,
+  Found,
+  PitOpened,
+  PitClosed,
+  MergeStarted,
+  MergeAdvanced,
+  MergeFinished,
+  MergeAborted,
+  ForceMerged,
+  AutoMerge,
+  Layout,
+  Committed,
+  Compacted,
+  Trimmed,
+  Checked,
+  RanMade,
+  Refused,
+  OutOfMemory,
+}
 
 abbrev pub result_word : WriteResult → List ℕ
 result_word Created = codes "created"

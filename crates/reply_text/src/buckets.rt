@@ -12,9 +12,9 @@ ghost use Rattle.reply_text.specs.Next.{IsNext, closest};
 
 use crate::order::{Named, closer};
 use crate::write::put_comma;
-use tree_objects::FieldValue;
 use query_ast::{AggReply, AggValue, Bucket, BucketList};
 use tree_json::{OutText, count_len, put_count, put_quoted, put_whole, quoted_len, whole_len};
+use tree_objects::FieldValue;
 
 /// What stands in an object of answers besides these.
 #[derive(Clone, Copy)]
@@ -166,7 +166,10 @@ fn buckets_len(buckets: &[Bucket]) -> u64
 fn bucket_len(bucket: &Bucket) -> u64
     ensures { result ≡ min (length (bucket_text bucket.now)) (2 ^ 64 - 1) }
 {
-    answers_len(Head::Bucket(bucket.count, &bucket.key), bucket.inner.as_slice())
+    answers_len(
+        Head::Bucket(bucket.count, &bucket.key),
+        bucket.inner.as_slice(),
+    )
 }
 
 // ---- the texts
@@ -237,7 +240,11 @@ fn put_answer(answer: &AggValue, into: &mut OutText)
     ensures room { room_of into.old ≤ room_of into.new }
 {
     match answer {
-        AggValue::Single { count, inner } => put_answers(Head::Count(*count), inner.as_slice(), into),
+        AggValue::Single { count, inner } => put_answers(
+            Head::Count(*count),
+            inner.as_slice(),
+            into,
+        ),
         AggValue::Buckets { buckets, other } => put_keyed(buckets, *other, into),
         AggValue::Metric(None) => into.push_spare(b"{\"value\":null}"),
         AggValue::Metric(Some(number)) => {
@@ -289,5 +296,9 @@ fn put_bucket(later: bool, bucket: &Bucket, into: &mut OutText)
     ensures room { room_of into.old ≤ room_of into.new }
 {
     put_comma(later, into);
-    put_answers(Head::Bucket(bucket.count, &bucket.key), bucket.inner.as_slice(), into);
+    put_answers(
+        Head::Bucket(bucket.count, &bucket.key),
+        bucket.inner.as_slice(),
+        into,
+    );
 }

@@ -8,9 +8,9 @@ ghost use Rattle.reply_text.specs.HitParts.{source_part, hit_line};
 
 use crate::inner_hits::{head_len, inner_len, put_head, put_inner};
 use crate::write::put_comma;
-use tree_objects::Bytes;
 use query_ast::{Hit, Key};
 use tree_json::{OutText, count_len, put_count, put_quoted, put_whole, quoted_len, whole_len};
+use tree_objects::Bytes;
 
 fn key_len(key: &Key) -> u64
     ensures { result ≡ min (length (key_text key.now)) (2 ^ 64 - 1) }
@@ -44,7 +44,9 @@ fn sort_len(keys: &[Key], number: u64) -> u64
     let mut total: u64 = 0;
     let mut later = false;
     'keys: for key in keys {
-        total = total.saturating_add(later as u64).saturating_add(key_len(key));
+        total = total
+            .saturating_add(later as u64)
+            .saturating_add(key_len(key));
         later = true;
     }
     total

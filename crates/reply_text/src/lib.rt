@@ -14,18 +14,17 @@ mod inner_hits;
 mod layout;
 mod line;
 mod order;
+mod printer;
 mod refusal;
 mod refused;
-mod printer;
 mod reply;
 mod rows;
-
 #[cfg(test)]
 mod tests;
 mod write;
 
 pub use layout::{MergeRow, MergeRows, SegmentRow, SegmentRows};
 pub use line::TextRefusal;
+pub use printer::text;
 pub use refusal::{MappingLimit, Refusal};
 pub use reply::{Reply, WriteResult};
-pub use printer::text;

@@ -41,11 +41,7 @@ fn further_of(why: &Refusal) -> Further<'_>
 }
 
 /// Prints a refusal as a line.
-pub(crate) fn print_refusal(
-    why: &Refusal,
-    most: u64,
-    into: &mut OutText,
-) -> Result<(), TextRefusal>
+pub(crate) fn print_refusal(why: &Refusal, most: u64, into: &mut OutText) -> Result<(), TextRefusal>
     ensures { Printed (object_text (entry (codes "error") (told_text (told_by why.now)) ∷ [])) most into.old into.new result }
 {
     let (number, reason) = why.known();
