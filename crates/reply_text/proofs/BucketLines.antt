@@ -1,6 +1,5 @@
 -- The pieces of answers as they are written make the objects that they are.
-use Rattle.std.proofs.Common.{◌≡◌, ℕ, ◌+◌, ◌*◌, ◌<◌, ◌≤◌, List, [], ◌∷◌, ◌++◌, length, get_or, map, zero, suc, codes, decimal, false, Option, Some, None, arith, refl, ap, ◌∙◌, append_assoc}
-use Rattle.std.specs.Prelude.{Contains}
+use Rattle.std.proofs.Common.{◌≡◌, ℕ, ◌+◌, ◌*◌, ◌<◌, List, [], ◌∷◌, ◌++◌, length, get_or, map, zero, suc, codes, decimal, false, Option, arith, refl, ap, ◌∙◌, append_assoc}
 use Rattle.std.proofs.lemmas.List.Elements.{at_from_Contains}
 use Rattle.std.proofs.lemmas.Grind.{common_steps}
 use Rattle.json.specs.Print.{escape_byte}

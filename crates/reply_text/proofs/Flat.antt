@@ -1,8 +1,8 @@
 -- Objects with their pieces grouped to the right, as they are written one after the other.
-use Rattle.std.proofs.Common.{◌≡◌, ℕ, List, [], ◌∷◌, ◌++◌, Bool, true, false, codes, decimal, refl, ap, ◌∙◌, append_assoc, append-nil}
+use Rattle.std.proofs.Common.{◌≡◌, ℕ, List, [], ◌∷◌, ◌++◌, Bool, true, false, codes, decimal, refl, ap, ◌∙◌, append_assoc}
 use Rattle.json.specs.Print.{escape_byte}
 use Rattle.tree_json.specs.Text.{quoted, comma_if}
-use Rattle.reply_text.specs.Object.{Entry, entry, entry_text, entries_text, elements_text, object_text, in_order}
+use Rattle.reply_text.specs.Object.{Entry, entry, entries_text, elements_text, object_text, in_order}
 use Rattle.reply_text.specs.HitTexts.{hits_text}
 
 -- entries one after the other, and then an end

@@ -6,7 +6,7 @@ use Rattle.std.proofs.lemmas.Grind.{common_steps}
 use Rattle.std.specs.Cmp.Lexicographic.{slice_cmp}
 use Rattle.std.specs.Ordering.{ordering_reverse}
 use Rattle.reply_text.specs.Object.{Entry, by_order, placed, placed_all, in_order}
-use Rattle.reply_text.specs.Next.{is_less, is_above, nearer, closer, closest, above, IsNext}
+use Rattle.reply_text.specs.Next.{is_less, is_above, closer, closest, above, IsNext}
 
 -- ---- names
 

@@ -2,7 +2,7 @@
 use Rattle.std.specs.Prelude.{ℕ, ◌+◌, ◌*◌, List, [], ◌∷◌, ◌++◌, false, codes, decimal, Contains}
 use Rattle.tree_json.specs.Text.{quoted}
 use Rattle.query_ast.specs.Replies.{BucketPart, replies_of, buckets_of, value_size}
-use Rattle.query_ast.specs.Replies.View.{value_of, bucket_part}
+use Rattle.query_ast.specs.Replies.View.{value_of}
 use Rattle.query_ast.specs.declared.bucket.AggReply.{AggReply}
 use Rattle.query_ast.specs.declared.bucket.AggValue.{AggValue}
 use Rattle.query_ast.specs.declared.bucket.AggValue.TheVariants.{Single, Buckets, Metric}

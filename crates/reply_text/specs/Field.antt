@@ -1,5 +1,5 @@
 -- The texts of fields as they are written. `Objects` in `proofs/` leads from them to objects.
-use Rattle.std.specs.Prelude.{ℕ, List, [], ◌∷◌, ◌++◌, Bool, true, false, decimal}
+use Rattle.std.specs.Prelude.{ℕ, List, [], ◌∷◌, ◌++◌, Bool, true, decimal}
 use Rattle.std.specs.Fmt.{signed_decimal}
 use Rattle.tree_json.specs.Text.{quoted, comma_if}
 use Rattle.reply_text.specs.declared.field.Field.{Field}

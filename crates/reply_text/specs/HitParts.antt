@@ -1,5 +1,5 @@
 -- The texts of hits piece by piece, as they are written. `HitLines` in `proofs/` leads from them to objects.
-use Rattle.std.specs.Prelude.{ℕ, List, [], ◌∷◌, ◌++◌, Bool, false, Option, Some, None, codes, decimal}
+use Rattle.std.specs.Prelude.{ℕ, List, [], ◌∷◌, ◌++◌, false, Option, Some, None, codes, decimal}
 use Rattle.tree_json.specs.Text.{quoted}
 use Rattle.query_ast.specs.Pages.{InnerHead, hits_of, pages_of}
 use Rattle.query_ast.specs.declared.hit.Hit.{Hit}

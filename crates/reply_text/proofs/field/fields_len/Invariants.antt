@@ -1,4 +1,4 @@
-use Rattle.std.proofs.Common.{◌≡◌, ◌+◌, ◌*◌, ◌-◌, ◌<◌, ◌^◌, min, length, drop, false}
+use Rattle.std.proofs.Common.{◌≡◌, ◌+◌, ◌-◌, ◌<◌, ◌^◌, min, length, drop, false}
 use Rattle.reply_text.specs.Field.{fields_text}
 use Rattle.reply_text.proofs.field.fields_len.Given as goal
 

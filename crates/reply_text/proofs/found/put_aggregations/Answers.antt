@@ -1,4 +1,4 @@
-use Rattle.std.proofs.Common.{ℕ, ◌<◌, List, ◌++◌, length, map, codes, arith, append_assoc, sym, ap, ◌∙◌}
+use Rattle.std.proofs.Common.{ℕ, ◌<◌, List, ◌++◌, length, map, codes, arith, sym, ap, ◌∙◌}
 use Rattle.std.proofs.lemmas.Grind.{common_steps}
 use Rattle.reply_text.specs.BucketParts.{answer_entry}
 use Rattle.reply_text.specs.Object.{object_text}

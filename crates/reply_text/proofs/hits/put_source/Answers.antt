@@ -1,4 +1,4 @@
-use Rattle.std.proofs.Common.{◌++◌, codes, append_assoc}
+use Rattle.std.proofs.Common.{codes, append_assoc}
 use Rattle.reply_text.proofs.hits.put_source.Goals as goal
 
 -- the name, and then the text

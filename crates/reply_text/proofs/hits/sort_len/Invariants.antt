@@ -1,4 +1,4 @@
-use Rattle.std.proofs.Common.{◌≡◌, ◌+◌, ◌*◌, ◌-◌, ◌<◌, ◌^◌, ◌∷◌, [], ◌++◌, min, length, drop, map, decimal, false}
+use Rattle.std.proofs.Common.{◌≡◌, ◌+◌, ◌-◌, ◌<◌, ◌^◌, ◌∷◌, [], ◌++◌, min, length, drop, map, decimal, false}
 use Rattle.reply_text.specs.HitTexts.{key_text}
 use Rattle.reply_text.specs.Object.{elements_text}
 use Rattle.reply_text.proofs.hits.sort_len.Given as goal

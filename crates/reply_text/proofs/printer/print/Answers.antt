@@ -1,7 +1,6 @@
 use Rattle.std.proofs.Common.{List, ℕ, ap, sym, subst, ◌∙◌}
 use Rattle.json.specs.Print.{escape_byte}
 use Rattle.tree_json.specs.Text.{quoted}
-use Rattle.query_ast.specs.declared.hit.HitPage.{HitPage}
 use Rattle.reply_text.specs.Object.{object_text}
 use Rattle.reply_text.specs.Printed.{Printed}
 use Rattle.reply_text.specs.Text.{line_of}

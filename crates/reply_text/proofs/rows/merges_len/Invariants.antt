@@ -1,4 +1,4 @@
-use Rattle.std.proofs.Common.{◌≡◌, ◌+◌, ◌*◌, ◌-◌, ◌<◌, ◌^◌, min, length, drop, map, false}
+use Rattle.std.proofs.Common.{◌≡◌, ◌+◌, ◌-◌, ◌<◌, ◌^◌, min, length, drop, map, false}
 use Rattle.reply_text.specs.Layout.{merge_text}
 use Rattle.reply_text.specs.Object.{elements_text}
 use Rattle.reply_text.proofs.rows.merges_len.Given as goal
