@@ -22,10 +22,10 @@ less_by_place (x ∷ names) (suc i) (suc j) up h k =
     let more : j < length names = omega arith in
     less_by_place names i j up.1 less more
 
-not_itself : (name : List ℕ) → compared name name ≡ Less → ⊥
+pub not_itself : (name : List ℕ) → compared name name ≡ Less → ⊥
 not_itself name h = let e : Equal ≡ Less = sym (tied_itself nat_list_cmp_total name) ∙ h in cc
 
-not_back : (one two : List ℕ) → compared one two ≡ Less → compared two one ≡ Less → ⊥
+pub not_back : (one two : List ℕ) → compared one two ≡ Less → compared two one ≡ Less → ⊥
 not_back one two h k = let e : Greater ≡ Less = sym (reversed one two Less h) ∙ k in cc
 
 pub place_by_less : (names : List (List ℕ)) (i j : ℕ) → AreAscending names → i < length names → compared (get_or names i []) (get_or names j []) ≡ Less → j < length names → i < j

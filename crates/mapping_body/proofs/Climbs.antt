@@ -10,7 +10,7 @@ pub climbed-add : (rs : Seq Relation) (steps more : ℕ) (at : Option ℕ) → c
 climbed-add rs zero more at = let none : zero + more ≡ more = omega arith in rw none refl
 climbed-add rs (suc steps) more at = let on : suc steps + more ≡ suc (steps + more) = omega arith in rw on (climbed-add rs steps more (parent_of rs at))
 
-climbed-None : (rs : Seq Relation) (steps : ℕ) → climbed steps rs None ≡ None
+pub climbed-None : (rs : Seq Relation) (steps : ℕ) → climbed steps rs None ≡ None
 climbed-None rs zero = refl
 climbed-None rs (suc steps) = climbed-None rs steps
 

@@ -15,3 +15,5 @@ pub mod Ordered
 pub mod Distinct
 pub mod Keeping
 pub mod Conflicts
+pub mod Closed
+pub mod Founding

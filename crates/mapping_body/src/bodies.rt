@@ -48,7 +48,7 @@ impl Model for Bodies {
 impl Bodies {
     /// The first body of a mapping.
     pub fn read(alloc: Global, body: &Json) -> Result<Bodies, MappingRefusal>
-        ensures ok { IfOk result (λ bodies. bodies ≡ view body.now ∷ []) }
+        ensures ok { IfOk result (λ bodies. (bodies ≡ view body.now ∷ []) × (is_body (view body.now) ≡ true) × (exceeded (view body.now ∷ []) ≡ None)) }
         ensures bad_request { IsErrOf result MappingRefusal.BadRequest → is_body (view body.now) ≡ false }
         ensures no_conflict { (path : List ℕ) → IsErrOf result (MappingRefusal.Conflict path) → ⊥ }
         ensures too_much { (limit : Limit) → IsErrOf result (MappingRefusal.TooMuch limit) → (is_body (view body.now) ≡ true) × (exceeded (view body.now ∷ []) ≡ Some limit) }
@@ -64,7 +64,7 @@ impl Bodies {
 
     /// The bodies with one more, or none where it adds nothing.
     pub fn grown(&self, alloc: Global, body: &Json) -> Result<Option<Bodies>, MappingRefusal>
-        ensures added { IfOk result (λ grown. IfSome grown (λ bodies. bodies ≡ self.now ++ view body.now ∷ [])) }
+        ensures added { IfOk result (λ grown. IfSome grown (λ bodies. (bodies ≡ self.now ++ view body.now ∷ []) × (is_body (view body.now) ≡ true) × (conflict_of self.now (view body.now) ≡ None) × (adds self.now (view body.now) ≡ true) × (exceeded (self.now ++ view body.now ∷ []) ≡ None))) }
         ensures same { IfOk result (λ grown. grown ≡ None → (is_body (view body.now) ≡ true) × (conflict_of self.now (view body.now) ≡ None) × (adds self.now (view body.now) ≡ false)) }
         ensures bad_request { IsErrOf result MappingRefusal.BadRequest → is_body (view body.now) ≡ false }
         ensures conflict { (path : List ℕ) → IsErrOf result (MappingRefusal.Conflict path) → (is_body (view body.now) ≡ true) × (conflict_of self.now (view body.now) ≡ Some path) }
@@ -88,7 +88,8 @@ impl Bodies {
 
     /// The fields by their numbers, and their homes left aside.
     pub fn fields(&self) -> &[Draft]
-        ensures { map made_of result.now ≡ drafts_of self.now }
+        ensures fields { map made_of result.now ≡ drafts_of self.now }
+        ensures short { length result.now < 2 ^ 32 }
     {
         self.said.fields.as_slice()
     }

@@ -31,7 +31,7 @@ pub use bodies::Bodies;
 pub use bytes::Bytes;
 pub use draft::Draft;
 pub use kind::Kind;
-pub use names::{Below, Named, Sought, Whole, lies_above, number_among};
+pub use names::{Below, Named, Sought, Whole, has_dot, lies_above, number_among};
 pub use order::order_from;
 pub use refusal::{
     Limit, MOST_BODIES, MOST_BYTES, MOST_FIELDS, MOST_NAMES, MOST_NESTED, MappingRefusal, NoMemory,
