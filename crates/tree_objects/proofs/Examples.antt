@@ -8,7 +8,7 @@ use Rattle.tree_objects.specs.Object.{root, scope, place, block_objects, below, 
 use Rattle.tree_objects.specs.Values.{values, convert, join_of}
 use Rattle.tree_objects.specs.declared.fault.Fault.TheVariants.{BadJoin}
 use Rattle.tree_objects.specs.Fault.{first_fault}
-use Rattle.mapping_body.specs.Bodies.{conflict_of, exceeded}
+use Rattle.mapping_body.specs.Bodies.{conflict_of, has_bad_relations}
 use Rattle.mapping_body.specs.Fields.{additions_of, drafts_of}
 use Rattle.mapping_body.specs.Relations.{relations_of}
 use Rattle.tree_objects.specs.Tree.{Tree}
@@ -73,9 +73,9 @@ relation_parents : map (λ r. r.parent) mapping.relations ≡ Some 1 ∷ None �
 unfolding drafts_of relations_of
 relation_parents = refl
 
-within_limits : exceeded (body ∷ []) ≡ None
-unfolding exceeded additions_of drafts_of relations_of
-within_limits = refl
+no_bad_relations : has_bad_relations (body ∷ []) ≡ false
+unfolding additions_of drafts_of relations_of
+no_bad_relations = refl
 
 -- ---- a source of two offers, of which the first has two stocks and the second one
 
@@ -256,9 +256,15 @@ scopes_of_second = refl
 -- ---- relations by generation: a tree of the first body has no relation that a second adds
 
 abbrev asked : Seq ℕ → JsonValue
-asked child = object (members_of ((codes "properties", object (members_of ((codes "rel", object (members_of (
-    (codes "relations", object (members_of ((codes "question", text child) ∷ [])))
-    ∷ (codes "type", text (codes "join")) ∷ []))) ∷ []))) ∷ []))
+asked child = object (members_of ((
+  codes "properties",
+  object (members_of ((
+    codes "rel",
+    object (members_of (
+        (codes "relations", object (members_of ((codes "question", text child) ∷ [])))
+        ∷ (codes "type", text (codes "join")) ∷ [])),
+  ) ∷ [])),
+) ∷ []))
 
 abbrev commented : Mapping
 commented = mapping_of (asked (codes "answer") ∷ asked (codes "comment") ∷ []) false
