@@ -1,5 +1,5 @@
 -- A mapping, trees and clauses that the examples speak of: a shop's offers with their stock, and questions with answers.
-use Rattle.std.specs.Prelude.{◌≡◌, ℕ, ℤ, false, List as Seq, [], ◌∷◌, map, codes, Option, Some, None, refl}
+use Rattle.std.specs.Prelude.{◌≡◌, ℕ, ℤ, true, false, List as Seq, [], ◌∷◌, map, codes, Option, Some, None, refl}
 use Rattle.score_math.specs.declared.score.ScoreMode.TheVariants.{Avg}
 use Rattle.tree_json.specs.Value.{JsonValue, whole, text, list, object, elements_of, members_of}
 use Rattle.mapping_body.specs.declared.kind.Kind.{Kind}

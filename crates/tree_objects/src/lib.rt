@@ -18,4 +18,5 @@ pub use convert::{is_of_kind, value_of};
 pub use fault::{Fault, first_fault};
 pub use field_value::FieldValue;
 pub use law::objects_nest;
+pub use mapping::Bytes;
 pub use refusal::ValueRefusal;
