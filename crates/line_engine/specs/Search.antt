@@ -17,7 +17,7 @@ use Rattle.line_engine.specs.declared.search.ParsedSearch.{ParsedSearch}
 
 -- the mapping that names are looked up in: before there is one, that of no body
 abbrev pub mapping_in : Option Mapping → Mapping
-mapping_in None = mapping_of []
+mapping_in None = mapping_of [] true
 mapping_in (Some mapping) = mapping
 
 -- how many hits a page has where the body doesn't say it

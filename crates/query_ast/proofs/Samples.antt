@@ -1,11 +1,12 @@
 -- A mapping, trees and clauses that the examples speak of: a shop's offers with their stock, and questions with answers.
-use Rattle.std.specs.Prelude.{◌≡◌, ℕ, ℤ, false, List as Seq, [], ◌∷◌, map, codes, Option, Some, None, refl}
+use Rattle.std.specs.Prelude.{◌≡◌, ℕ, ℤ, true, false, List as Seq, [], ◌∷◌, map, codes, Option, Some, None, refl}
 use Rattle.score_math.specs.declared.score.ScoreMode.TheVariants.{Avg}
 use Rattle.tree_json.specs.Value.{JsonValue, whole, text, list, object, elements_of, members_of}
-use Rattle.mapping.specs.declared.kind.Kind.{Kind}
-use Rattle.mapping.specs.declared.kind.Kind.TheVariants.{Text, Keyword, Long, Object, Nested, Join}
+use Rattle.mapping_body.specs.declared.kind.Kind.{Kind}
+use Rattle.mapping_body.specs.declared.kind.Kind.TheVariants.{Text, Keyword, Long, Object, Nested, Join}
 use Rattle.mapping.specs.Mapping.{Mapping, Field, Scope, root_scope, mapping_of, included}
-use Rattle.mapping.specs.Relations.{Relation}
+use Rattle.mapping_body.specs.Fields.{drafts_of}
+use Rattle.mapping_body.specs.Relations.{Relation, relations_of}
 use Rattle.tree_objects.specs.declared.field_value.FieldValue.{FieldValue}
 use Rattle.tree_objects.specs.declared.field_value.FieldValue.TheVariants.{Number, Written}
 use Rattle.tree_objects.specs.Object.{below, way, given}
@@ -64,6 +65,7 @@ relation name parent = record { name = name; parent = parent; since = 1 }
 abbrev pub mapping : Mapping
 mapping = record {
   bodies = body ∷ [];
+  dynamic = true;
   index = codes "main";
   fields =
       field (codes "name") Text 0 ∷ field (codes "offers") Nested 0 ∷ field (codes "offers.color") Keyword 1
@@ -78,6 +80,7 @@ mapping = record {
 abbrev pub boxed : Mapping
 boxed = record {
   bodies = [];
+  dynamic = true;
   index = codes "main";
   fields =
       field (codes "box") Object 0 ∷ field (codes "box.parts") Nested 0 ∷ field (codes "box.parts.n") Long 1 ∷ field (codes "box.tag") Keyword 0 ∷ [];
@@ -88,8 +91,8 @@ boxed = record {
   relations = [];
 }
 
-mapping_is_read : mapping_of (body ∷ []) ≡ mapping
-unfolding mapping_of
+mapping_is_read : mapping_of (body ∷ []) true ≡ mapping
+unfolding drafts_of relations_of
 mapping_is_read = refl
 
 -- ---- trees

@@ -4,7 +4,7 @@ use Rattle.std.specs.Prelude.{ℕ, ◌++◌, Bool, List, [], ◌∷◌, map, len
 use Rattle.std.specs.List.{join_with_byte}
 use Rattle.tree_json.specs.Text.{compact}
 use Rattle.mapping.specs.Mapping.{Mapping, scope_at}
-use Rattle.mapping.specs.Names.{dot}
+use Rattle.mapping_body.specs.Names.{dot}
 use Rattle.tree_objects.specs.Object.{Object, root, inside, content, tree_of, below}
 use Rattle.tree_objects.specs.Tree.{Tree}
 use Rattle.query_ast.specs.Definition.{Definition, definition, Definitions, no_definitions, with_definition}

@@ -7,9 +7,9 @@ use Rattle.std.specs.Str.{bytes_eq}
 use Rattle.analysis.specs.Words.{words}
 use Rattle.tree_objects.specs.declared.field_value.FieldValue.{FieldValue}
 use Rattle.tree_objects.specs.declared.field_value.FieldValue.TheVariants.{Number, Written}
-use Rattle.mapping.specs.declared.kind.Kind.{Kind}
-use Rattle.mapping.specs.declared.kind.Kind.TheVariants.{Text, Keyword, Long, Boolean, Date, Object as Plain, Nested, Join}
-use Rattle.mapping.specs.Names.{lies_above}
+use Rattle.mapping_body.specs.declared.kind.Kind.{Kind}
+use Rattle.mapping_body.specs.declared.kind.Kind.TheVariants.{Text, Keyword, Long, Boolean, Date, Object as Plain, Nested, Join}
+use Rattle.mapping_body.specs.Names.{lies_above}
 use Rattle.mapping.specs.Mapping.{Mapping, field_at, home_of, kind_at}
 use Rattle.tree_objects.specs.Object.{Object, tree_of}
 use Rattle.tree_objects.specs.Values.{values, join_of}

@@ -4,7 +4,7 @@
 use Rattle.std.specs.Prelude.{ℕ, ◌+◌, ◌<◌, ◌≤◌, ◌≡◌, ⊤, Bool, false, IsTrue, List, [], ◌∷◌, length, Option, Some, None, IsSome}
 use Rattle.std.specs.List.{AllByRecursion}
 use Rattle.tree_objects.specs.declared.field_value.FieldValue.TheVariants.{Number, Written}
-use Rattle.mapping.specs.declared.kind.Kind.{Kind}
+use Rattle.mapping_body.specs.declared.kind.Kind.{Kind}
 use Rattle.mapping.specs.Mapping.{Mapping, IsAbove, kind_at, relation_at}
 use Rattle.query_ast.specs.Agg.{Agg}
 use Rattle.query_ast.specs.Clause.{Test, is_among, is_between, exists, begins_with, has_words, has_phrase, Leaf, match_all, match_none, ids, on_field, parent_id, Clause, leaf, bool, constant_score, dis_max, nested, to_child, has_child, has_parent, Clauses, no_clauses, clause}

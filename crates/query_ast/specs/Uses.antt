@@ -2,8 +2,8 @@
 use Rattle.std.specs.Prelude.{ℕ, ◌≡◌, ⊤, Bool, true, false}
 use Rattle.tree_objects.specs.declared.field_value.FieldValue.{FieldValue}
 use Rattle.tree_objects.specs.declared.field_value.FieldValue.TheVariants.{Number, Written}
-use Rattle.mapping.specs.declared.kind.Kind.{Kind}
-use Rattle.mapping.specs.declared.kind.Kind.TheVariants.{Text, Keyword, Long, Boolean, Date, Object, Nested, Join}
+use Rattle.mapping_body.specs.declared.kind.Kind.{Kind}
+use Rattle.mapping_body.specs.declared.kind.Kind.TheVariants.{Text, Keyword, Long, Boolean, Date, Object, Nested, Join}
 use Rattle.mapping.specs.Mapping.{Mapping, kind_at}
 use Rattle.query_ast.specs.declared.query.RangeEnd.{RangeEnd}
 use Rattle.query_ast.specs.declared.query.RangeEnd.TheVariants.{Free, Closed, Past}
