@@ -108,14 +108,15 @@ pub record Counts : Type 0 where
   pub sink : ℕ
   pub disk : ℕ
 
--- A fault is answered only where the count of that object rose, and the others stayed.
+-- A fault is answered only where the count of that object rose. The counts of source and sink stay but for that; the disk
+-- may fail under a request that is answered so, and then the session goes on.
 abbrev pub IsCaused : Status → Counts → Counts → Type 0
-IsCaused Done before after = after ≡ before
+IsCaused Done before after = (after.source ≡ before.source) × (after.sink ≡ before.sink)
 IsCaused BadWords before after = after ≡ before
-IsCaused ReadFault before after = Rose before.source after.source × (after.sink ≡ before.sink) × (after.disk ≡ before.disk)
-IsCaused WriteFault before after = Rose before.sink after.sink × (after.source ≡ before.source) × (after.disk ≡ before.disk)
+IsCaused ReadFault before after = Rose before.source after.source × (after.sink ≡ before.sink)
+IsCaused WriteFault before after = Rose before.sink after.sink × (after.source ≡ before.source)
 IsCaused DiskFault before after = Rose before.disk after.disk × (after.source ≡ before.source) × (after.sink ≡ before.sink)
 IsCaused NotAStore before after = after ≡ before
 IsCaused Damaged before after = after ≡ before
-IsCaused SessionLimit before after = after ≡ before
+IsCaused SessionLimit before after = (after.source ≡ before.source) × (after.sink ≡ before.sink)
 IsCaused NoMemory before after = after ≡ before
