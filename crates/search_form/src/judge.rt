@@ -12,7 +12,7 @@ use tree_json::{Json, JsonText};
 
 /// Whether a value has a form; `inner` says whether inner hits may stand in it.
 #[cycle(forms)]
-#[tactic(auto, using(crate::proofs::Sizes::sizes))]
+#[tactic(auto, using(crate::specs::Sizes::sizes))]
 pub(crate) fn has_form(inner: bool, form: Form, value: &Json) -> bool
     ensures { result ≡ has_form inner form (view value.now) }
 {
@@ -32,7 +32,7 @@ pub(crate) fn has_form(inner: bool, form: Form, value: &Json) -> bool
 }
 
 #[cycle(forms)]
-#[tactic(auto, using(crate::proofs::Sizes::sizes))]
+#[tactic(auto, using(crate::specs::Sizes::sizes))]
 fn all_have_form(inner: bool, form: Form, elements: &[Json]) -> bool
     ensures { result ≡ all_have_form inner form (elements_of (values elements.now)) }
 {
@@ -45,7 +45,7 @@ fn all_have_form(inner: bool, form: Form, elements: &[Json]) -> bool
 }
 
 #[cycle(forms)]
-#[tactic(auto, using(crate::proofs::Sizes::sizes))]
+#[tactic(auto, using(crate::specs::Sizes::sizes))]
 fn each_has_form(inner: bool, form: Form, members: &[(JsonText, Json)]) -> bool
     ensures { result ≡ each_has_form inner form (members_of (entries members.now)) }
 {

@@ -137,7 +137,7 @@ fn is_within(least: i64, object: &JsonObject) -> bool
 }
 
 // How many clauses the sort of a body has.
-#[tactic(auto, using(crate::proofs::Lengths::lengths))]
+#[tactic(auto, using(crate::specs::Lengths::lengths))]
 fn clause_count(body: &JsonObject) -> usize
     ensures small { result < 2 ^ 63 }
     ensures count { result ≡ clause_count (member_of (members_of body.now) (codes "sort")) }
@@ -157,7 +157,7 @@ fn starts_at_0(body: &JsonObject) -> bool
     }
 }
 
-#[tactic(auto, using(crate::proofs::Lengths::lengths))]
+#[tactic(auto, using(crate::specs::Lengths::lengths))]
 fn after_fits(body: &JsonObject) -> bool
     ensures { result ≡ after_fits (member_of (members_of body.now) (codes "search_after")) (member_of (members_of body.now) (codes "sort")) (member_of (members_of body.now) (codes "from")) }
 {
@@ -217,7 +217,7 @@ fn last_is_whole(elements: &[Json]) -> bool
 }
 
 /// Whether a list has the length and the end that its form wants.
-#[tactic(auto, using(crate::proofs::Lengths::lengths))]
+#[tactic(auto, using(crate::specs::Lengths::lengths))]
 pub(crate) fn suits_list(form: Form, list: &JsonList) -> bool
     ensures { result ≡ suits_list form (elements_of list.now) }
 {

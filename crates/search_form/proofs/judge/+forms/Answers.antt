@@ -1,7 +1,7 @@
 use Rattle.std.proofs.Common.{◌<◌, arith}
 use Rattle.tree_json.specs.Value.{value_size, members_size, members_of}
 use Rattle.tree_json.specs.View.{view, entries}
-use Rattle.search_form.proofs.Sizes.{member_falls}
+use Rattle.search_form.specs.Sizes.{member_falls}
 use Rattle.search_form.proofs.judge.+forms.Goals as goal
 
 pub each_has_form-has_form-requires : goal.each_has_form-has_form-requires
