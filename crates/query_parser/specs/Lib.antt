@@ -1,0 +1,7 @@
+-- To believe, in this order.
+pub mod Readings
+pub mod Queries
+pub mod Sorts
+pub mod InnerHits
+pub mod Buckets
+pub mod Search

@@ -1,0 +1,270 @@
+//! The definitions of inner hits that a body has.
+ghost use Rattle.std.specs.Prelude.{◌≡◌, ◌++◌, ◌∷◌, [], map, codes, Option, Some, IfOk, OnOk};
+ghost use Rattle.tree_json.specs.Value.{members_of, member_of, elements_of};
+ghost use Rattle.tree_json.specs.View.{view, values, entries};
+ghost use Rattle.query_ast.specs.Definition.{definition, definitions_of};
+ghost use Rattle.query_ast.specs.Inner.View.{inner_of as seen};
+ghost use Rattle.search_walk.specs.Names.{buckets_in as buckets_value};
+ghost use Rattle.search_walk.specs.Refusal.{name_or};
+ghost use Rattle.search_form.specs.declared.form.Form.TheVariants.{Query, Sort, Buckets};
+ghost use Rattle.query_parser.specs.InnerHits.{below_if, children_if, parents_if, inner_of, held_by, owned_by, inner_at, inner_in, inner_among, inner_if, inner_of_body};
+
+use crate::queries::clause_under;
+use crate::readings::{child_in, copied, number_under, parent_in, unless_false};
+use crate::sorts::sorts_under;
+use mapping::Mapping;
+use query_ast::{InnerDef, InnerList, InnerOver, NoMemory};
+use search_form::{Form, element_of, form_at, single_of};
+use search_walk::{buckets_in, scope_inside, text_of, text_under};
+use std::alloc::Global;
+use tree_json::{Json, JsonObject, JsonText};
+
+fn below_if(scope: Option<u32>) -> InnerOver
+    ensures { result ≡ below_if scope }
+{
+    match scope {
+        Some(scope) => InnerOver::Below(scope),
+        None => InnerOver::Ignored,
+    }
+}
+
+fn children_if(relation: Option<u32>) -> InnerOver
+    ensures { result ≡ children_if relation }
+{
+    match relation {
+        Some(relation) => InnerOver::Children(relation),
+        None => InnerOver::Ignored,
+    }
+}
+
+fn parents_if(relation: Option<u32>) -> InnerOver
+    ensures { result ≡ parents_if relation }
+{
+    match relation {
+        Some(relation) => InnerOver::Parents(relation),
+        None => InnerOver::Ignored,
+    }
+}
+
+fn name_or<'a>(default: &'a [u8], inner: &'a JsonObject) -> &'a [u8]
+    ensures { result.now ≡ name_or default.now (member_of (members_of inner.now) (codes "name")) }
+{
+    match inner.member(b"name") {
+        Some(name) => text_of(name),
+        None => default,
+    }
+}
+
+// A definition with those that it owns: the scope of its hits, what they are looked for in, and its name by default.
+fn defined(
+    alloc: Global,
+    mapping: &Mapping,
+    inside: Option<u32>,
+    over: InnerOver,
+    default: &[u8],
+    clause: &JsonObject,
+    inner: &JsonObject,
+    owned: Vec<InnerDef>,
+) -> Result<InnerDef, NoMemory>
+    ensures { IfOk result (λ def. seen def ≡ definition (inner_of mapping.now inside over default.now (members_of clause.now) (members_of inner.now)) (definitions_of (map seen owned.items))) }
+{
+    Ok(InnerDef {
+        name: copied(alloc, name_or(default, inner))?,
+        over,
+        query: clause_under(alloc, mapping, inside, b"query", clause)?,
+        from: number_under(100, 0, inner, b"from"),
+        size: number_under(100, 3, inner, b"size"),
+        sort: sorts_under(alloc, mapping, inside, inner)?,
+        source: unless_false(inner, b"_source"),
+        owned: InnerList::of(owned),
+    })
+}
+
+fn held_by(
+    alloc: Global,
+    mapping: &Mapping,
+    inside: Option<u32>,
+    over: InnerOver,
+    default: &[u8],
+    clause: &JsonObject,
+    owned: Vec<InnerDef>,
+) -> Result<Vec<InnerDef>, NoMemory>
+    ensures { IfOk result (λ defs. map seen defs.items ≡ held_by mapping.now inside over default.now (members_of clause.now) (member_of (members_of clause.now) (codes "inner_hits")) (map seen owned.items)) }
+{
+    match clause.member(b"inner_hits") {
+        Some(Json::Object(inner)) => {
+            let mut held = Vec::with_capacity(alloc, 1)?;
+            held.push(defined(alloc, mapping, inside, over, default, clause, inner, owned)?)?;
+            Ok(held)
+        }
+        _ => Ok(owned),
+    }
+}
+
+// The definitions of an object, of which it owns those inside it where it has inner hits.
+fn owned_by(
+    alloc: Global,
+    mapping: &Mapping,
+    scope: Option<u32>,
+    form: Form,
+    object: &JsonObject,
+    owned: Vec<InnerDef>,
+) -> Result<Vec<InnerDef>, NoMemory>
+    ensures { IfOk result (λ defs. map seen defs.items ≡ owned_by mapping.now scope form (members_of object.now) (map seen owned.items)) }
+{
+    let inside = scope_inside(mapping, scope, form, object);
+    match form {
+        Form::Nested => {
+            let path = text_under(object, b"path");
+            Ok(held_by(
+                alloc,
+                mapping,
+                inside,
+                below_if(inside),
+                path,
+                object,
+                owned,
+            )?)
+        }
+        Form::HasChild => {
+            let over = children_if(child_in(mapping, scope, object));
+            let name = text_under(object, b"type");
+            Ok(held_by(alloc, mapping, inside, over, name, object, owned)?)
+        }
+        Form::HasParent => {
+            let over = parents_if(parent_in(mapping, scope, object));
+            let name = text_under(object, b"parent_type");
+            Ok(held_by(alloc, mapping, inside, over, name, object, owned)?)
+        }
+        _ => Ok(owned),
+    }
+}
+
+fn append(found: &mut Vec<InnerDef>, mut more: Vec<InnerDef>) -> Result<(), NoMemory>
+    ensures { OnOk result (map seen found.new.items ≡ map seen found.old.items ++ map seen more.items) }
+{
+    found.append(&mut more)?;
+    Ok(())
+}
+
+/// Appends the definitions that a value has.
+#[cycle(inner)]
+#[tactic(auto, using(search_form::specs::Sizes::sizes))]
+fn inner_at(
+    alloc: Global,
+    mapping: &Mapping,
+    scope: Option<u32>,
+    form: Form,
+    value: &Json,
+    found: &mut Vec<InnerDef>,
+) -> Result<(), NoMemory>
+    ensures { OnOk result (map seen found.new.items ≡ map seen found.old.items ++ inner_at mapping.now scope form (view value.now)) }
+{
+    match value {
+        Json::List(list) => Ok(inner_in(
+            alloc,
+            mapping,
+            scope,
+            element_of(form),
+            list.as_slice(),
+            found,
+        )?),
+        Json::Object(object) => {
+            let form = single_of(form);
+            let inside = scope_inside(mapping, scope, form, object);
+            let mut owned = Vec::new(alloc);
+            inner_among(alloc, mapping, inside, form, object.as_slice(), &mut owned)?;
+            let held = owned_by(alloc, mapping, scope, form, object, owned)?;
+            Ok(append(found, held)?)
+        }
+        Json::Null | Json::Bool(_) | Json::Whole(_) | Json::Text(_) => Ok(()),
+    }
+}
+
+#[cycle(inner)]
+#[tactic(auto, using(search_form::specs::Sizes::sizes))]
+fn inner_in(
+    alloc: Global,
+    mapping: &Mapping,
+    scope: Option<u32>,
+    form: Form,
+    elements: &[Json],
+    found: &mut Vec<InnerDef>,
+) -> Result<(), NoMemory>
+    ensures { OnOk result (map seen found.new.items ≡ map seen found.old.items ++ inner_in mapping.now scope form (elements_of (values elements.now))) }
+{
+    'elements: for element in elements {
+        inner_at(alloc, mapping, scope, form, element, found)?;
+    }
+    Ok(())
+}
+
+#[cycle(inner)]
+#[tactic(auto, using(search_form::specs::Sizes::sizes))]
+fn inner_among(
+    alloc: Global,
+    mapping: &Mapping,
+    scope: Option<u32>,
+    form: Form,
+    members: &[(JsonText, Json)],
+    found: &mut Vec<InnerDef>,
+) -> Result<(), NoMemory>
+    ensures { OnOk result (map seen found.new.items ≡ map seen found.old.items ++ inner_among mapping.now scope form (members_of (entries members.now))) }
+{
+    'members: for (name, value) in members {
+        inner_at(
+            alloc,
+            mapping,
+            scope,
+            form_at(form, name.as_slice()),
+            value,
+            found,
+        )?;
+    }
+    Ok(())
+}
+
+fn inner_under(
+    alloc: Global,
+    mapping: &Mapping,
+    form: Form,
+    name: &[u8],
+    body: &JsonObject,
+    found: &mut Vec<InnerDef>,
+) -> Result<(), NoMemory>
+    ensures { OnOk result (map seen found.new.items ≡ map seen found.old.items ++ inner_if mapping.now form (member_of (members_of body.now) name.now)) }
+{
+    match body.member(name) {
+        Some(value) => Ok(inner_at(alloc, mapping, Some(0), form, value, found)?),
+        None => Ok(()),
+    }
+}
+
+fn inner_of_buckets(
+    alloc: Global,
+    mapping: &Mapping,
+    body: &JsonObject,
+    found: &mut Vec<InnerDef>,
+) -> Result<(), NoMemory>
+    ensures { OnOk result (map seen found.new.items ≡ map seen found.old.items ++ inner_if mapping.now Buckets (buckets_value (members_of body.now))) }
+{
+    match buckets_in(body) {
+        Some(value) => Ok(inner_at(alloc, mapping, Some(0), Form::Buckets, value, found)?),
+        None => Ok(()),
+    }
+}
+
+/// The definitions that the search hit owns.
+pub(crate) fn inner_of_body(
+    alloc: Global,
+    mapping: &Mapping,
+    body: &JsonObject,
+) -> Result<InnerList, NoMemory>
+    ensures { IfOk result (λ defs. defs ≡ inner_of_body mapping.now (members_of body.now)) }
+{
+    let mut found = Vec::new(alloc);
+    inner_under(alloc, mapping, Form::Query, b"query", body, &mut found)?;
+    inner_under(alloc, mapping, Form::Sort, b"sort", body, &mut found)?;
+    inner_of_buckets(alloc, mapping, body, &mut found)?;
+    Ok(InnerList::of(found))
+}

@@ -1,0 +1,3 @@
+pub mod Firsts
+pub mod Twice
+pub mod Examples

@@ -1,0 +1,11 @@
+-- To believe, in this order: names, the walk, and what is refused.
+pub mod Kinds
+pub mod Names
+pub mod Sorts
+pub mod After
+pub mod Node
+pub mod Fault
+pub mod Refusal
+-- For proofs alone: what a node of the code is.
+pub mod View
+pub mod IsFirst
