@@ -54,6 +54,12 @@ pub no_entries : {X : Type 0} (cmp : X → X → Ordering) (read : Reader X) (ow
 unfolding column_at some_at counted_at
 no_entries cmp read own count entries head none = rw (head.field_is, head.count_is, none) refl
 
+pub head_there : (own other : List ℕ) (count : ℕ) (entries : List ℕ) → own ≡ other → HasHead own count entries → HasHead other count entries
+head_there own other count entries same head = subst (λ bytes. HasHead bytes count entries) {x = own} {y = other} same head
+
+pub no_head_there : (own other : List ℕ) → own ≡ other → HasNoHead own → HasNoHead other
+no_head_there own other same never = subst HasNoHead {x = own} {y = other} same never
+
 -- what follows the number of entries is no longer than the bytes
 pub head_within : (bytes : List ℕ) (at count : ℕ) (entries : List ℕ) → IsBytes bytes → at ≤ length bytes → HasHead (drop at bytes) count entries → length bytes ≡ at + 8 + length entries
 head_within bytes at count entries fits inside head =

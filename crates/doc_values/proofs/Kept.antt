@@ -1,18 +1,17 @@
 -- A column in place, by its rows.
-use Rattle.std.proofs.Common.{◌≡◌, ℕ, ◌+◌, ◌-◌, ◌*◌, ◌/◌, ◌<◌, ◌≤◌, ◌^◌, List, [], ◌∷◌, ◌++◌, length, get_or, drop, map, Some, refl, sym, ap, subst, ◌∙◌, arith, append_assoc, Contains, slice_get}
+use Rattle.std.proofs.Common.{◌≡◌, ℕ, ◌+◌, ◌/◌, ◌<◌, ◌≤◌, ◌^◌, List, [], ◌∷◌, ◌++◌, length, get_or, drop, map, Some, refl, sym, ap, subst, ◌∙◌, arith, append_assoc, Contains, slice_get}
 use Rattle.std.specs.List.{All, flat_map}
 use Rattle.std.specs.declared.cmp.Ordering.{Ordering}
-use Rattle.std.proofs.lemmas.List.{drop_at, drop-drop, length-append, length-map, get_or-map}
+use Rattle.std.proofs.lemmas.List.{drop_at, drop-drop, length-append, get_or-map}
 use Rattle.std.proofs.lemmas.List.Elements.{All-head, All-tail}
 use Rattle.std.proofs.lemmas.Option.{slice_get-get_or}
 use Rattle.part_text.specs.Text.{u32_text}
-use Rattle.part_text.specs.Front.{first_u32}
 use Rattle.part_text.specs.Reads.{first_u32-text, length-u32_text}
-use Rattle.part_text.specs.Places.{row, rows_of, places_from}
+use Rattle.part_text.specs.Places.{row, rows_of}
 use Rattle.part_text.specs.Placed.{rows_of-places_from, get_or-rows_of, places_are, length-places_from}
 use Rattle.doc_values.specs.Values.{documents, values_of}
-use Rattle.doc_values.specs.Text.{entry_text, column_text}
-use Rattle.doc_values.specs.Stands.{AreEntries, Stands, Belong}
+use Rattle.doc_values.specs.Text.{entry_text}
+use Rattle.doc_values.specs.Stands.{Stands, Belong}
 use Rattle.doc_values.specs.Kept.{values_in, entry_of, column_rows, documents_in, IsKept}
 use Rattle.doc_values.proofs.Numbers.{values_text, length-values_in}
 use Rattle.doc_values.proofs.Entries.{length-column_rows, get_or-column_rows, documents-column_rows}
@@ -46,37 +45,42 @@ entries_back {X} text front Fits (r ∷ rows) written small fit =
     ∙ ap (λ others. r ∷ others) (entries_back text front Fits rows written (All-tail Small r rows small) (All-tail Fit r rows fit))
 
 -- behind the field and the number of entries
-entries_there : {X : Type 0} (cmp : X → X → Ordering) (Fits : X → Type 0) (text : X → List ℕ) (bytes : List ℕ) (at field : ℕ) (rows : List (ℕ × List X)) (places : List ℕ) (end : ℕ) → Stands cmp Fits text bytes at (field, rows) places end
-    → drop (at + 8) bytes ≡ flat_map (entry_text text) rows ++ drop end bytes
-entries_there cmp Fits text bytes at field rows places end stands =
+entries_there : {X : Type 0} (cmp : X → X → Ordering) (Fits : X → Type 0) (text : X → List ℕ) (bytes : List ℕ) (at : ℕ) (column : ℕ × List (ℕ × List X)) (places : List ℕ) (end : ℕ) → Stands cmp Fits text bytes at column places end
+    → drop (at + 8) bytes ≡ flat_map (entry_text text) column.1 ++ drop end bytes
+entries_there {X} cmp Fits text bytes at column places end stands =
+    let field : ℕ = column.0 in
+    let rows : List (ℕ × List X) = column.1 in
     let entries = flat_map (entry_text text) rows in
     sym (drop-drop 8 at bytes)
     ∙ ap (drop 8) (stands.there ∙ append_assoc (u32_text field) (u32_text (length rows) ++ entries) (drop end bytes) ∙ ap (λ rest. u32_text field ++ rest) (append_assoc (u32_text (length rows)) entries (drop end bytes)))
     ∙ behind_eight field (length rows) (entries ++ drop end bytes)
 
-pub belong_rows : {X : Type 0} (cmp : X → X → Ordering) (Fits : X → Type 0) (text : X → List ℕ) (front : List ℕ → X) (bytes places : List ℕ) (rows : List (ℕ × List X)) → AreWritten text front Fits → Belong cmp Fits text bytes places rows
-    → column_rows front places bytes ≡ rows
+pub belong_rows : {X : Type 0} (cmp : X → X → Ordering) (Fits : X → Type 0) (text : X → List ℕ) (front : List ℕ → X) (bytes places : List ℕ) (column : ℕ × List (ℕ × List X)) → AreWritten text front Fits → Belong cmp Fits text bytes places column
+    → column_rows front places bytes ≡ column.1
 unfolding column_rows
-belong_rows cmp Fits text front bytes places rows written belong =
+belong_rows {X} cmp Fits text front bytes places column written belong =
     let it = belong.stands in
-    let there = entries_there cmp Fits text bytes belong.at belong.field rows places belong.end it in
+    let rows : List (ℕ × List X) = column.1 in
+    let there = entries_there cmp Fits text bytes belong.at column places belong.end it in
     ap (λ own. map (entry_of front) (rows_of own bytes)) it.placed
     ∙ ap (map (entry_of front)) (rows_of-places_from (entry_text text) (belong.at + 8) rows bytes (drop belong.end bytes) there)
     ∙ entries_back text front Fits rows written it.is.entries.numbered it.is.entries.fit
 
-pub belong_kept : {X : Type 0} (cmp : X → X → Ordering) (Fits : X → Type 0) (text : X → List ℕ) (front : List ℕ → X) (bytes places : List ℕ) (rows : List (ℕ × List X)) → AreWritten text front Fits → Belong cmp Fits text bytes places rows
+pub belong_kept : {X : Type 0} (cmp : X → X → Ordering) (Fits : X → Type 0) (text : X → List ℕ) (front : List ℕ → X) (bytes places : List ℕ) (column : ℕ × List (ℕ × List X)) → AreWritten text front Fits → Belong cmp Fits text bytes places column
     → IsKept cmp front places bytes
-belong_kept {X} cmp Fits text front bytes places rows written belong =
+belong_kept {X} cmp Fits text front bytes places column written belong =
     let it = belong.stands in
-    let there = entries_there cmp Fits text bytes belong.at belong.field rows places belong.end it in
-    let same = belong_rows cmp Fits text front bytes places rows written belong in
+    let field : ℕ = column.0 in
+    let rows : List (ℕ × List X) = column.1 in
+    let there = entries_there cmp Fits text bytes belong.at column places belong.end it in
+    let same = belong_rows cmp Fits text front bytes places column written belong in
     let inside : belong.at + 8 ≤ length bytes = omega (
       arith,
       it.ends,
       it.within,
-      length-append (u32_text belong.field) (u32_text (length rows) ++ flat_map (entry_text text) rows),
+      length-append (u32_text field) (u32_text (length rows) ++ flat_map (entry_text text) rows),
       length-append (u32_text (length rows)) (flat_map (entry_text text) rows),
-      length-u32_text belong.field,
+      length-u32_text field,
       length-u32_text (length rows),
     )
     in record {

@@ -26,12 +26,11 @@ pub record Stands {X : Type 0} (cmp : X → X → Ordering) (Fits : X → Type 0
   pub within : end ≤ length bytes
   pub placed : places ≡ places_from (entry_text text) (at + 8) column.1
 
--- the places are those of a column's entries, which have these rows
-pub record Belong {X : Type 0} (cmp : X → X → Ordering) (Fits : X → Type 0) (text : X → List ℕ) (bytes places : List ℕ) (rows : List (ℕ × List X)) : Type 0 where
+-- the places are those of this column's entries
+pub record Belong {X : Type 0} (cmp : X → X → Ordering) (Fits : X → Type 0) (text : X → List ℕ) (bytes places : List ℕ) (column : ℕ × List (ℕ × List X)) : Type 0 where
   pub at : ℕ
-  pub field : ℕ
   pub end : ℕ
-  pub stands : Stands cmp Fits text bytes at (field, rows) places end
+  pub stands : Stands cmp Fits text bytes at column places end
 
 -- a row by itself
 pub record IsRow {X : Type 0} (cmp : X → X → Ordering) (Fits : X → Type 0) (row : ℕ × List X) : Type 0 where

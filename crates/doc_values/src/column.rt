@@ -37,8 +37,8 @@ impl<'a, T: ColumnValue> Model for Column<'a, T> {
 impl<'a, T: ColumnValue> Column<'a, T> {
     /// The column whose entries stand at these places of bytes, as `places` finds them. Takes no memory.
     pub fn over(bytes: &'a [u8], places: &'a PlaceList) -> Column<'a, T>
-        requires { (rows : List (ℕ × List T)) × Belong T.cmp T.Fits T.text bytes.now places.now rows }
-        ensures { (rows : List (ℕ × List T)) → Belong T.cmp T.Fits T.text bytes.now places.now rows → result ≡ rows }
+        requires { (column : ℕ × List (ℕ × List T)) × Belong T.cmp T.Fits T.text bytes.now places.now column }
+        ensures { (column : ℕ × List (ℕ × List T)) → Belong T.cmp T.Fits T.text bytes.now places.now column → result ≡ column.1 }
     {
         Column {
             bytes,

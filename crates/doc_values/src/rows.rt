@@ -1,9 +1,10 @@
 //! Rows of values, as a column is written from them.
 
-ghost use Rattle.std.specs.Prelude.{◌≡◌, ◌<◌, ◌^◌, ◌↔◌, length, IsTrue};
+ghost use Rattle.std.specs.Prelude.{◌≡◌, ◌++◌, ℕ, List, ◌<◌, ◌^◌, ◌↔◌, length, IsTrue};
 ghost use Rattle.std.specs.List.{All};
 ghost use Rattle.std.specs.List.Sorted.{IsStrictlyIncreasing};
 ghost use Rattle.doc_values.specs.Values.{documents, AreValues};
+ghost use Rattle.doc_values.specs.Text.{column_text};
 ghost use Rattle.doc_values.specs.Stands.{AreEntries, IsColumn, IsRow};
 
 use crate::ColumnValue;
@@ -133,3 +134,9 @@ fn is_row<T: ColumnValue>(row: &(u32, ValueList<T>))
     let _document = row.0;
     let _values = row.1.as_slice();
 }
+
+/// No bytes begin with the text of two columns, so that a column has one spelling. Does nothing.
+pub fn columns_have_one_text<T: ColumnValue>()
+    ensures { (column other : ℕ × List (ℕ × List T)) (rest more : List ℕ) → IsColumn T.cmp T.Fits column → IsColumn T.cmp T.Fits other
+        → column_text T.text column ++ rest ≡ column_text T.text other ++ more → (column ≡ other) × (rest ≡ more) }
+{}

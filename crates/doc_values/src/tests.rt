@@ -67,6 +67,7 @@ fn numbers(rt: HostRuntime) -> Result<(), Fail> {
 
 #[test]
 fn ordinals(rt: HostRuntime) -> Result<(), Fail> {
+    columns_have_one_text::<u64>();
     let rows = column(&rt, rt.alloc(), 2u64, 5)?;
     let mut bytes = Vec::new(rt.alloc());
     OrdinalColumn::written(&rows, &mut bytes)?;

@@ -1,8 +1,9 @@
 //! What a column keeps: values of eight bytes, in an order.
 
-ghost use Rattle.std.specs.Prelude.{◌≡◌, ◌≤◌, ◌<◌, ◌^◌, ◌++◌, ℕ, List, length, Option, OnOk, OnErr, FitsSigned};
+ghost use Rattle.std.specs.Prelude.{◌≡◌, ◌≤◌, ◌++◌, ℕ, List, length, Option, OnOk, OnErr, FitsSigned};
 ghost use Rattle.std.specs.Int.{w64};
 ghost use Rattle.part_text.specs.Text.{u64_text, i64_text};
+ghost use Rattle.doc_values.specs.Values.{IsOrdinal};
 ghost use Rattle.part_text.specs.Reading.{Gives, u64_at, i64_at};
 ghost use Rattle.part_text.specs.Front.{first_u64, first_i64};
 ghost use Rattle.part_text.specs.Reads.{Reads, u64_reads, i64_reads, first_u64-text, first_i64-text, length-u64_text, length-i64_text};
@@ -77,7 +78,7 @@ impl ColumnValue for i64 {
 impl ColumnValue for u64 {
     ghost text = { u64_text };
 
-    ghost Fits = { λ value. value < 2 ^ 64 };
+    ghost Fits = { IsOrdinal };
 
     ghost read = { u64_at };
 

@@ -1,5 +1,6 @@
 -- What was read from a place on stands there, and where nothing was read no roots stand.
-use Rattle.std.proofs.Common.{◌≡◌, ℕ, ◌+◌, ◌-◌, ◌<◌, ◌≤◌, ◌^◌, List, [], ◌++◌, length, drop, Some, None, refl, sym, ap, ◌∙◌, arith}
+use Rattle.std.proofs.Common.{◌≡◌, ℕ, ◌+◌, ◌-◌, ◌<◌, ◌≤◌, ◌^◌, List, [], ◌++◌, length, drop, Option, Some, None, refl, sym, ap, ◌∙◌, arith}
+use Rattle.std.specs.List.{All}
 use Rattle.std.proofs.lemmas.List.{drop_at, drop-drop, length-append, length-drop}
 use Rattle.std.proofs.lemmas.Option.{none-some}
 use Rattle.part_text.specs.Reads.{IsBytes, IsBytes-drop}
@@ -7,7 +8,7 @@ use Rattle.part_text.specs.Places.{places_from}
 use Rattle.part_text.specs.Placed.{ArePlaced}
 use Rattle.stored_sources.specs.declared.root.Root.{Root}
 use Rattle.stored_sources.specs.Text.{root_text, roots_text}
-use Rattle.stored_sources.specs.Stands.{AreRoots, Stands}
+use Rattle.stored_sources.specs.Stands.{IsRoot, AreRoots, Stands}
 use Rattle.stored_sources.specs.Reading.{root_at, roots_at, roots_take, roots_again}
 
 pub no_roots : (bytes : List ℕ) (at count : ℕ) → roots_at count (drop at bytes) ≡ None → (own : List Root) (rest : List ℕ) → length own ≡ count → AreRoots own → drop at bytes ≡ roots_text own ++ rest → ⊥
@@ -43,3 +44,13 @@ found bytes at count rest places fits inside few placed =
         placed = placed.placed ∙ ap (λ place. places_from root_text place roots) starts;
       };
     }
+
+some_is : {A : Type 0} (x y : A) → ◌≡◌ {A = Option A} (Some x) (Some y) → x ≡ y
+some_is x y e = cc
+
+-- roots and what stands behind them are one way to part the bytes
+pub one_text : (roots others : List Root) (rest more : List ℕ) → length roots ≡ length others → All IsRoot roots → All IsRoot others → roots_text roots ++ rest ≡ roots_text others ++ more → (roots ≡ others) × (rest ≡ more)
+one_text roots others rest more long are other_are same =
+    let e : (roots, rest) ≡ (others, more) = some_is (roots, rest) (others, more)
+    (sym (roots_again roots rest are) ∙ ap (roots_at (length roots)) same ∙ ap (λ n. roots_at n (roots_text others ++ more)) long ∙ roots_again others more other_are) in
+    (ap (λ (p : List Root × List ℕ). p.0) e, ap (λ (p : List Root × List ℕ). p.1) e)

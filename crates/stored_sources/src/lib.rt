@@ -9,9 +9,11 @@ mod kept;
 mod placing;
 mod root;
 mod sources;
+#[cfg(test)]
+mod tests;
 mod walk;
 mod written;
 
 pub use part_text::{NoMemory, PlaceList};
-pub use root::{Bytes, Join, JoinValue, Root, RowList};
+pub use root::{Bytes, Join, JoinValue, Root, RowList, roots_have_one_text};
 pub use sources::StoredSources;

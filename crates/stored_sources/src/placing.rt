@@ -1,6 +1,6 @@
 //! Where roots stand in bytes, found by reading them once.
 
-ghost use Rattle.std.specs.Prelude.{◌≡◌, ◌-◌, ◌<◌, ◌≤◌, length, drop, None, IfOk, IfSome, IsNone};
+ghost use Rattle.std.specs.Prelude.{◌≡◌, ◌-◌, ◌*◌, ◌<◌, ◌≤◌, length, drop, None, IfOk, IfSome, IsNone};
 ghost use Rattle.part_text.specs.Reading.{many_at};
 ghost use Rattle.part_text.specs.Placed.{ArePlaced};
 ghost use Rattle.stored_sources.specs.Text.{root_text};
@@ -22,6 +22,17 @@ pub(crate) fn from_place(bytes: &[u8], at: u64) -> Option<&[u8]>
     }
 }
 
+/// The bytes of the shortest root: an empty id and source, its numbers, and no join value.
+const SHORTEST_ROOT: usize = 21;
+
+/// So many roots, or as many as bytes can hold where these are fewer.
+fn most_roots(count: u32, bytes: &[u8]) -> usize
+    ensures bytes { result * SHORTEST_ROOT ≤ length bytes.now }
+    ensures count { result ≤ count }
+{
+    (bytes.len() / SHORTEST_ROOT).min(count as usize)
+}
+
 /// The places of so many roots at the front of bytes that reach up to `end`, and the bytes behind them; None where so
 /// many roots don't stand there.
 pub(crate) fn placed_roots<'a>(
@@ -36,6 +47,7 @@ pub(crate) fn placed_roots<'a>(
         ArePlaced (λ root. tt {0}) root_text (λ before. root_at) count bytes.now (end - length bytes.now) it.1.now it.0)) }
 {
     let mut places = PlaceList::beginning_at(alloc, end - bytes.len() as u64)?;
+    places.reserve(most_roots(count, bytes))?;
     let mut rest = bytes;
     'roots: for _ in 0..count {
         let Some((_, after)) = root_at(rest) else {

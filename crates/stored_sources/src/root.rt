@@ -1,6 +1,8 @@
 //! What a segment stores of a root.
 
-ghost use Rattle.std.specs.Prelude.{◌≡◌, ◌<◌, ◌^◌, ◌↔◌, length, IsTrue};
+ghost use Rattle.std.specs.Prelude.{◌≡◌, ◌++◌, ℕ, List, ◌<◌, ◌^◌, ◌↔◌, length, IsTrue};
+ghost use Rattle.stored_sources.specs.declared.root.Root.{Root};
+ghost use Rattle.stored_sources.specs.Text.{roots_text};
 ghost use Rattle.stored_sources.specs.Stands.{IsJoin, IsRoot, AreRoots};
 
 use std::marker::Model;
@@ -176,3 +178,9 @@ fn is_short(bytes: &[u8]) -> bool
 {
     bytes.len() <= u32::MAX as usize
 }
+
+/// No bytes begin with the texts of two lists of so many roots, so that roots have one spelling. Does nothing.
+pub fn roots_have_one_text()
+    ensures { (roots others : List Root) (rest more : List ℕ) → length roots ≡ length others → AreRoots roots → AreRoots others
+        → roots_text roots ++ rest ≡ roots_text others ++ more → (roots ≡ others) × (rest ≡ more) }
+{}

@@ -1,4 +1,4 @@
-use Rattle.std.proofs.Common.{◌+◌, ◌-◌, ◌≤◌, ℕ, List, None, length, arith}
+use Rattle.std.proofs.Common.{◌∙◌, ◌-◌, ◌≤◌, ℕ, List, None, length, arith}
 use Rattle.part_text.specs.Reading.{many_at}
 use Rattle.part_text.specs.Reads.{IsBytes}
 use Rattle.part_text.specs.Walks.{walked_none}
@@ -9,7 +9,7 @@ use Rattle.doc_values.proofs.placing.placed_entries.Goals as goal
 
 pub entries-init : goal.entries-init
 entries-init g c =
-    placing_start (λ (entry : ℕ × List g.row.T.Denot). entry.0) (entry_text g.T.ColumnValue.text) (entry_at g.T.Ord.cmp g.T.ColumnValue.read) c.args.count c.args.bytes.now (c.args.end - length c.args.bytes.now) c.in_ok-places.places c.in_ok-places.ensures
+    placing_start (λ (entry : ℕ × List g.row.T.Denot). entry.0) (entry_text g.T.ColumnValue.text) (entry_at g.T.Ord.cmp g.T.ColumnValue.read) c.args.count c.args.bytes.now (c.args.end - length c.args.bytes.now) c.reserve.new.self (c.in_ok-reserve.ensures ∙ c.in_ok-places.ensures)
 
 pub returns-in_default-clause-none : goal.returns-in_default-clause-none
 returns-in_default-clause-none g c = λ _.

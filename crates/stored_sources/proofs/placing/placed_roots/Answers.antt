@@ -1,4 +1,4 @@
-use Rattle.std.proofs.Common.{◌+◌, ◌-◌, ◌≤◌, None, Some, length, refl, arith}
+use Rattle.std.proofs.Common.{◌∙◌, ◌+◌, ◌-◌, ◌≤◌, None, Some, length, refl, arith}
 use Rattle.part_text.specs.Reading.{IsKeyed}
 use Rattle.part_text.specs.Reads.{IsBytes}
 use Rattle.part_text.specs.Walks.{walked_none}
@@ -10,7 +10,7 @@ use Rattle.stored_sources.proofs.placing.placed_roots.Goals as goal
 
 pub roots-init : goal.roots-init
 unfolding roots_at
-roots-init c = (None, placing_start (λ _. tt {0}) root_text (λ _. root_at) c.args.count c.args.bytes.now (c.args.end - length c.args.bytes.now) c.in_ok-places.places c.in_ok-places.ensures)
+roots-init c = (None, placing_start (λ _. tt {0}) root_text (λ _. root_at) c.args.count c.args.bytes.now (c.args.end - length c.args.bytes.now) c.reserve.new.self (c.in_ok-reserve.ensures ∙ c.in_ok-places.ensures))
 
 pub returns-in_default-clause-none : goal.returns-in_default-clause-none
 returns-in_default-clause-none c = λ _.

@@ -1,5 +1,4 @@
-use Rattle.doc_values.specs.Kept.{IsKept}
-use Rattle.doc_values.proofs.Kept.{AreWritten, belong_rows, belong_kept}
+use Rattle.doc_values.proofs.Kept.{belong_rows, belong_kept}
 use Rattle.doc_values.proofs.column.Column.over.Goals as goal
 
 pub invariant_of-result : goal.invariant_of-result
@@ -9,7 +8,7 @@ invariant_of-result g c =
     (record { long = g.met.T.ColumnValue.long; shows = g.met.T.ColumnValue.shows }) c.requires.1)
 
 pub returns : goal.returns
-returns g c = λ rows belong.
+returns g c = λ column belong.
     rw c.as_slice.ensures
-    (belong_rows g.T.Ord.cmp g.T.ColumnValue.Fits g.T.ColumnValue.text g.T.ColumnValue.front c.args.bytes.now c.args.places.now rows
+    (belong_rows g.T.Ord.cmp g.T.ColumnValue.Fits g.T.ColumnValue.text g.T.ColumnValue.front c.args.bytes.now c.args.places.now column
     (record { long = g.met.T.ColumnValue.long; shows = g.met.T.ColumnValue.shows }) belong)
