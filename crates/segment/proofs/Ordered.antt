@@ -24,9 +24,9 @@ less_not_itself term less = let no : Less ≡ Equal = sym less ∙ tied_itself t
 in_order : (terms : List (ℕ × List ℕ)) (place later : ℕ) (term : ℕ × List ℕ) → AreAscending terms → slice_get terms place ≡ Some term → slice_get terms later ≡ Some term → place < later → ⊥
 in_order terms place later term ascend at at_later earlier =
     less_not_itself term (
-        sym (ap (λ first. term_cmp first term) (get_or_from_slice_get terms place term term at))
-        ∙ sym (ap (term_cmp (get_or terms place term)) (get_or_from_slice_get terms later term term at_later))
-        ∙ Less-from_sorted term_cmp terms place later term ascend earlier (slice_get_within terms later term at_later))
+    sym (ap (λ first. term_cmp first term) (get_or_from_slice_get terms place term term at))
+    ∙ sym (ap (term_cmp (get_or terms place term)) (get_or_from_slice_get terms later term term at_later))
+    ∙ Less-from_sorted term_cmp terms place later term ascend earlier (slice_get_within terms later term at_later))
 
 -- a term has one ordinal
 pub one_ordinal : (terms : List (ℕ × List ℕ)) (one other : ℕ) (term : ℕ × List ℕ) → AreAscending terms → slice_get terms one ≡ Some term → slice_get terms other ≡ Some term → one ≡ other

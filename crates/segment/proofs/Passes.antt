@@ -37,7 +37,6 @@ answer_all P xs at was past = (λ _. pass_all P xs at was past, λ _. refl)
 pub answer_fails : {X : Type 0} (P : X → Type 0) (xs : List X) (at : ℕ) (x : X) → slice_get xs at ≡ Some x → (P x → ⊥) → IsTrue false ↔ All P xs
 answer_fails P xs at x is never = (λ no. absurd (false≢true no), λ all. absurd (never (all_at P xs at x all is)))
 
-
 -- an element that fails its test
 pub answer_not : {X : Type 0} (P : X → Type 0) (xs : List X) (at : ℕ) (x : X) (test : Bool) → slice_get xs at ≡ Some x → (IsTrue test ↔ P x) → test ≡ false → IsTrue false ↔ All P xs
 answer_not P xs at x test is law fails = answer_fails P xs at x is (λ own. false≢true (sym fails ∙ law.1 own))

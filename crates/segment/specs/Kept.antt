@@ -196,8 +196,7 @@ found_kept {X} cmp Fits text read bytes (own ∷ kept) field places each found =
     elim (split (own.0 == field)) [
       | inl holds ↦
           let same : places ≡ own.1 = same_Some places own.1 (rw holds at found) in
-          let known : (column_in cmp read bytes own.1).0 == field ≡ true = ap (λ k. k == field) (sym here.field) ∙ holds in
-          (
+          let known : (column_in cmp read bytes own.1).0 == field ≡ true = ap (λ k. k == field) (sym here.field) ∙ holds in (
             subst (λ ps. Belong cmp Fits text bytes ps (column_in cmp read bytes ps)) (sym same) here.belong,
             rw known (ap (λ ps. Some (column_in cmp read bytes ps).1) same),
           )

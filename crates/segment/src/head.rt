@@ -7,9 +7,9 @@ ghost use Rattle.segment.specs.Parts.{IsHead};
 ghost use Rattle.segment.specs.Once.{IsTaken, IsNowhere, IsOnce};
 ghost use Rattle.segment.specs.Heads.{HasLength, AreSizes, sizes_text, AreScopes, scopes_text};
 
+use crate::NoMemory;
 use crate::taken::{number_at, words_at};
 use block_bits::{BitList, BitSet, words_are_of_one_set};
-use crate::NoMemory;
 use std::alloc::Global;
 
 /// The number of documents and the documents of each scope at the front of bytes, and the bytes behind them; None exactly

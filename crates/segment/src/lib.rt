@@ -29,8 +29,8 @@ pub use columns::{ColumnList, Columns};
 pub use live_bits::LiveBits;
 pub use refusal::SegmentRefusal;
 pub use segment::Segment;
-pub use stored_sources::{Bytes, Join, JoinValue, Root};
 use std::alloc::{AllocError, AllocFailed};
+pub use stored_sources::{Bytes, Join, JoinValue, Root};
 
 /// Memory ran out. What the call was to change is as it was.
 #[derive(Clone, Copy, Debug, PartialEq, Eq)]

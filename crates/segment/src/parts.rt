@@ -12,14 +12,13 @@ ghost use Rattle.segment.specs.Rows.{AreRowsAt, NoRows};
 ghost use Rattle.segment.specs.Tails.{AreFieldsAt, NoFields};
 ghost use Rattle.segment.specs.declared.columns.Columns.{Columns};
 
-use crate::ByField;
 use crate::head::head_at;
 use crate::presence::present_at;
 use crate::values::columns_at;
+use crate::{ByField, NoMemory};
 use block_bits::{BitList, BitSet, words_are_of_one_set};
 use doc_values::{NumberColumn, OrdinalColumn};
-use crate::NoMemory;
-use part_text::{PlaceList};
+use part_text::PlaceList;
 use postings::PostingsTable;
 use std::alloc::Global;
 use std::marker::Model;

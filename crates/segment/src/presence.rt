@@ -6,10 +6,9 @@ ghost use Rattle.segment.specs.Fields.{AreByField};
 ghost use Rattle.segment.specs.Parts.{IsPresence};
 ghost use Rattle.segment.specs.Once.{IsTaken, IsNowhere};
 
-use crate::ByField;
 use crate::taken::{number_at, numbers_at};
+use crate::{ByField, NoMemory};
 use block_bits::BitSet;
-use crate::NoMemory;
 use std::alloc::Global;
 
 /// The text fields of a segment with so many documents, at the front of bytes, and the bytes behind them; None exactly where

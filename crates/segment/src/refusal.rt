@@ -2,7 +2,6 @@
 
 use std::alloc::AllocError;
 
-
 /// Why there is no segment.
 #[derive(Clone, Copy, Debug, PartialEq, Eq)]
 pub enum SegmentRefusal {

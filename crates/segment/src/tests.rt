@@ -1,26 +1,21 @@
 //! The segment of one document by hand, and each public call once.
 
-ghost use Rattle.std.specs.Prelude.{◌≡◌, ◌<◌};
-
 use crate::*;
 use std::test::Fail;
 
 /// A root with the id `1`, the number 0, the mapping generation 1 and the source `{"k":"a"}`: field 0 is a keyword field.
 const ONE: [u8; 116] = [
     b'S', b'E', b'G', b'2', 1, 0, 0, 0, 1, 0, 0, 0, 1, 0, 0, 0, 0, 0, 0, 0, 1, 0, 0, 0, b'1', 0, 0,
-    0, 0, 0, 0, 0, 0, 1, 0, 0, 0, 9, 0, 0, 0, b'{', b'"', b'k', b'"', b':', b'"', b'a', b'"',
-    b'}', 0, 1, 0, 0, 0, 0, 0, 0, 0, 0, 0, 0, 0, 1, 0, 0, 0, b'a', 1, 0, 0, 0, 0, 0, 0, 0, 0, 0, 0,
-    0, 1, 0, 0, 0, 0, 0, 0, 0, 1, 0, 0, 0, 0, 0, 0, 0, 1, 0, 0, 0, 0, 0, 0, 0, 0, 0, 0, 0, 0, 0, 0,
-    0, 0, 0, 0, 0,
+    0, 0, 0, 0, 0, 0, 1, 0, 0, 0, 9, 0, 0, 0, b'{', b'"', b'k', b'"', b':', b'"', b'a', b'"', b'}',
+    0, 1, 0, 0, 0, 0, 0, 0, 0, 0, 0, 0, 0, 1, 0, 0, 0, b'a', 1, 0, 0, 0, 0, 0, 0, 0, 0, 0, 0, 0, 1,
+    0, 0, 0, 0, 0, 0, 0, 1, 0, 0, 0, 0, 0, 0, 0, 1, 0, 0, 0, 0, 0, 0, 0, 0, 0, 0, 0, 0, 0, 0, 0, 0,
+    0, 0, 0,
 ];
 
 #[test]
 fn one_document(rt: HostRuntime) -> Result<(), Fail> {
     let bytes = Bytes::of(ONE.to_vec(rt.alloc())?);
-    let segment = match Segment::of_bytes(rt.alloc(), bytes) {
-        Ok(segment) => segment,
-        Err(_) => return Err(Fail),
-    };
+    let segment = Segment::of_bytes(rt.alloc(), bytes)?;
     assert_eq!(rt; segment.bytes(), ONE.as_slice());
     assert_eq!(rt; segment.docs(), 1);
     assert_eq!(rt; segment.roots(), 1);
@@ -33,7 +28,10 @@ fn one_document(rt: HostRuntime) -> Result<(), Fail> {
     assert_eq!(rt; live.documents().count(), 1);
     if segment.roots() > 0 {
         assert_eq!(rt; segment.root_id(0), b"1".as_slice());
-        assert_eq!(rt; (segment.root_number(0), segment.root_generation(0)), (0, 1));
+        assert_eq!(rt;
+            (segment.root_number(0), segment.root_generation(0)),
+            (0, 1)
+        );
     }
     Ok(())
 }

@@ -8,10 +8,9 @@ ghost use Rattle.segment.specs.Fields.{AreByField};
 ghost use Rattle.segment.specs.Once.{IsNowhere};
 ghost use Rattle.segment.specs.Kept.{IsColumnAt, AreColumnsAt};
 
-use crate::ByField;
 use crate::taken::number_at;
+use crate::{ByField, NoMemory};
 use doc_values::{Column, ColumnValue};
-use crate::NoMemory;
 use part_text::{PlaceList, first_u32};
 use std::alloc::Global;
 

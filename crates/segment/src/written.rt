@@ -7,10 +7,9 @@ ghost use Rattle.doc_values.specs.Text.{column_text};
 ghost use Rattle.segment.specs.Text.{scope_text, head_text, rows_part, ordinals_text, numbers_text, marked_places, presence_text, present_text, segment_text};
 ghost use Rattle.segment.specs.Parts.{AreParts};
 
-use crate::{ColumnList, Columns};
+use crate::{ColumnList, Columns, NoMemory};
 use block_bits::BitSet;
 use doc_values::{Column, ColumnValue};
-use crate::NoMemory;
 use part_text::{put_u32, put_u64};
 use std::alloc::Global;
 use stored_sources::StoredSources;
