@@ -16,21 +16,3 @@ fn extents_come_from_the_first_hole_with_room(rt: HostRuntime) -> Result<(), Fai
     assert_eq!(rt; pool.holes().as_slice(), left.as_slice());
     Ok(())
 }
-
-#[test]
-fn extents_must_fit(rt: HostRuntime) -> Result<(), Fail> {
-    let shared = ExtentList::of(vec![in rt.alloc();
-        Extent { at: 0, len: 100 },
-        Extent { at: 64, len: 64 },
-    ]?);
-    assert_eq!(rt;
-        ExtentPool::over(rt.alloc(), 1024, &shared).err(),
-        Some(PoolRefusal::Overlap)
-    );
-    let long = ExtentList::of(vec![in rt.alloc(); Extent { at: 0, len: 65 }]?);
-    assert_eq!(rt;
-        ExtentPool::over(rt.alloc(), 64, &long).err(),
-        Some(PoolRefusal::BeyondLimit)
-    );
-    Ok(())
-}

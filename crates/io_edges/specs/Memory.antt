@@ -9,17 +9,20 @@ pub record SourceState : Type 0 where
   pub call : ℕ
   pub faults : ℕ
 
--- a sink: the bytes taken; of the failed calls, `no_room` counts those that found no memory
+-- a sink: the bytes taken, and how many it may take in all without memory; of the failed calls, `no_room` counts those
+-- that found no memory
 pub record SinkState : Type 0 where
   pub taken : List ℕ
+  pub reserved : ℕ
   pub fails : List ℕ
   pub call : ℕ
   pub faults : ℕ
   pub no_room : ℕ
 
--- a disk: the bytes of its file
+-- a disk: the bytes of its file, and how many it may have in all without memory
 pub record DiskState : Type 0 where
   pub bytes : List ℕ
+  pub reserved : ℕ
   pub fails : List ℕ
   pub call : ℕ
   pub faults : ℕ

@@ -7,7 +7,7 @@ ghost use Rattle.io_edges.specs.Faults.{HasCause};
 use std::alloc::{AllocError, AllocFailed};
 
 /// A call on the outside failed, and the object's count of faults rose. A read that failed has given nothing, and a
-/// sink has taken nothing.
+/// sink has taken nothing. A call that didn't fail left the count as it was.
 #[derive(Clone, Copy, Debug, PartialEq, Eq)]
 pub struct Failed;
 
@@ -69,14 +69,13 @@ pub trait Disk {
     fn len(&mut self) -> Result<u64, Failed>
         ensures cause { HasCause (faults self.old) (faults self.new) result };
 
-    /// Reads bytes from a place on, counted in bytes from the file's start, into the front of the piece and answers how
-    /// many: at most the piece's length, and 0 bytes into a piece that isn't empty only from the file's end on.
+    /// Reads bytes from an offset of the file on into the front of the piece, and answers how many: at most the piece's
+    /// length.
     fn read(&mut self, at: u64, into: &mut [u8]) -> Result<usize, Failed>
         ensures bound { IfOk result (λ count. count ≤ length into.new) }
         ensures cause { HasCause (faults self.old) (faults self.new) result };
 
-    /// Writes all of the bytes at a place, counted in bytes from the file's start, and zeros into a gap between the
-    /// file's end and the place. A write of nothing changes nothing.
+    /// Writes all of the bytes at an offset of the file.
     fn write_at(&mut self, at: u64, bytes: &[u8]) -> Result<(), Failed>
         ensures cause { HasCause (faults self.old) (faults self.new) result };
 

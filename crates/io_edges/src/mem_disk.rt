@@ -1,6 +1,7 @@
 //! A disk in memory.
 
-ghost use Rattle.std.specs.Prelude.{◌≡◌, ◌≤◌, ◌+◌, ◌-◌, ◌⊎◌, ◌↔◌, ◌++◌, true, false, length, min, take, drop, replicate, IfOk, OnOk, OnErr, IsErr, MatchResult};
+ghost use Rattle.std.specs.Prelude.{◌≡◌, ◌≤◌, ◌<◌, ◌+◌, ◌-◌, ◌⊎◌, ◌↔◌, ◌++◌, true, false, length, min, take, drop, replicate, IfOk, OnOk, OnErr, IsErr, MatchResult};
+ghost use Rattle.std.specs.Vec.{vec_capacity};
 ghost use Rattle.io_edges.specs.Faults.{HasCause, Rose};
 ghost use Rattle.io_edges.specs.Calls.{is_listed};
 ghost use Rattle.io_edges.specs.Memory.{written, disk_after_call, disk_after_fault};
@@ -10,8 +11,9 @@ use crate::edges::{Disk, Failed, NoMemory};
 use std::alloc::Global;
 use std::marker::Model;
 
-/// A disk whose file is in memory. A call fails where its number is in the list, and else only where there is no
-/// memory for what it writes, which `no_room` counts apart. A call that failed left the file as it was.
+/// A disk whose file is in memory. A call fails where its number is in the list, and else only where what it writes ends
+/// behind what is reserved and there is no memory for more, which `no_room` counts apart. A call that failed left the
+/// file as it was.
 #[derive(Drop)]
 pub struct MemDisk {
     bytes: Vec<u8>,
@@ -22,17 +24,18 @@ pub struct MemDisk {
 }
 
 impl Model for MemDisk {
+    ghost use Rattle.std.specs.Vec.{vec_capacity};
     ghost use Rattle.io_edges.specs.Memory.{DiskState};
 
     ghost Value = { DiskState };
 
-    ghost view = { λ d. record { bytes = d.bytes.items; fails = d.fails; call = d.call; faults = d.failed; no_room = d.no_room } };
+    ghost view = { λ d. record { bytes = d.bytes.items; reserved = vec_capacity d.bytes; fails = d.fails; call = d.call; faults = d.failed; no_room = d.no_room } };
 }
 
 impl MemDisk {
     /// A disk whose file has these bytes, and whose first call has the number 0. NoMemory: there was none for the disk.
     pub fn over(_alloc: Global, bytes: Vec<u8>, fails: CallList) -> Result<MemDisk, NoMemory>
-        ensures { IfOk result (λ d. d ≡ record { bytes = bytes.items; fails = fails; call = 0; faults = 0; no_room = 0 }) }
+        ensures { IfOk result (λ d. d ≡ record { bytes = bytes.items; reserved = vec_capacity bytes; fails = fails; call = 0; faults = 0; no_room = 0 }) }
     {
         Ok(MemDisk {
             bytes,
@@ -105,9 +108,10 @@ impl Disk for MemDisk {
     fn write_at(&mut self, at: u64, bytes: &[u8]) -> Result<(), Failed>
         ensures cause { HasCause self.old.faults self.new.faults result }
         ensures listed { is_listed self.old.fails self.old.call ≡ true → IsErr result }
-        ensures room { OnErr result ((is_listed self.old.fails self.old.call ≡ true) ⊎ Rose self.old.no_room self.new.no_room) }
-        ensures ok { OnOk result (self.new ≡ record (disk_after_call self.old) { bytes = written at bytes.now self.old.bytes }) }
-        ensures err { OnErr result (self.new ≡ disk_after_fault self.old) }
+        ensures room { OnErr result ((is_listed self.old.fails self.old.call ≡ true) ⊎ (Rose self.old.no_room self.new.no_room × (self.old.reserved < at + length bytes.now))) }
+        ensures ok { OnOk result (self.new ≡ record (disk_after_call self.old) { bytes = written at bytes.now self.old.bytes; reserved = self.new.reserved }) }
+        ensures reserved { self.old.reserved ≤ self.new.reserved }
+        ensures err { OnErr result (self.new ≡ record (disk_after_fault self.old) { reserved = self.new.reserved }) }
     {
         self.begin()?;
         if put(&mut self.bytes, at as usize, bytes).is_err() {
@@ -134,6 +138,8 @@ impl Disk for MemDisk {
 fn put(file: &mut Vec<u8>, at: usize, bytes: &[u8]) -> Result<(), NoMemory>
     ensures ok { OnOk result (file.new.items ≡ written at bytes.now file.old.items) }
     ensures err { OnErr result (file.new.items ≡ file.old.items) }
+    ensures short { OnErr result (vec_capacity file.old < at + length bytes.now) }
+    ensures reserved { vec_capacity file.old ≤ vec_capacity file.new }
 {
     if bytes.is_empty() {
         return Ok(());
@@ -150,6 +156,8 @@ fn put(file: &mut Vec<u8>, at: usize, bytes: &[u8]) -> Result<(), NoMemory>
 fn lengthen(file: &mut Vec<u8>, len: usize) -> Result<(), NoMemory>
     ensures ok { OnOk result (file.new.items ≡ file.old.items ++ replicate (len - length file.old.items) 0) }
     ensures err { OnErr result (file.new.items ≡ file.old.items) }
+    ensures short { OnErr result (vec_capacity file.old < len) }
+    ensures reserved { vec_capacity file.old ≤ vec_capacity file.new }
 {
     let longer = file.len().max(len);
     file.resize(longer, 0)?;
@@ -159,7 +167,8 @@ fn lengthen(file: &mut Vec<u8>, len: usize) -> Result<(), NoMemory>
 // Writes the bytes over those that stand at a place.
 fn overwrite(file: &mut Vec<u8>, at: usize, bytes: &[u8])
     requires { at + length bytes.now ≤ length file.old.items }
-    ensures { file.new.items ≡ take at file.old.items ++ (bytes.now ++ drop (at + length bytes.now) file.old.items) }
+    ensures bytes { file.new.items ≡ take at file.old.items ++ (bytes.now ++ drop (at + length bytes.now) file.old.items) }
+    ensures reserved { vec_capacity file.new ≡ vec_capacity file.old }
 {
     overwrite_front(file.as_mut_slice().split_at_mut(at).1, bytes);
 }

@@ -105,21 +105,6 @@ fn disk(rt: HostRuntime) -> Result<(), Fail> {
 }
 
 #[test]
-fn disk_with_calls_that_fail(rt: HostRuntime) -> Result<(), Fail> {
-    let alloc = rt.alloc();
-    let fails = CallList::of(vec![in alloc; 0, 2, 3, 4]?);
-    let mut disk = MemDisk::over(alloc, Vec::from_slice(alloc, b"abc")?, fails)?;
-    assert!(rt; disk.write_at(1, b"X").is_err());
-    assert!(rt; disk.sync().is_ok());
-    assert!(rt; disk.sync().is_err());
-    assert!(rt; disk.len().is_err());
-    assert!(rt; disk_gives(&mut disk, 0, 2, None));
-    assert!(rt; holds(&mut disk, b"abc"));
-    assert_eq!(rt; disk.no_room(), 0);
-    Ok(())
-}
-
-#[test]
 fn word(rt: HostRuntime) -> Result<(), Fail> {
     let word = Word::of(String::from_str(rt.alloc(), "größe")?);
     assert_eq!(rt; word.as_str(), "größe");

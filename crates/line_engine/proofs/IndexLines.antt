@@ -1,5 +1,5 @@
 -- The action line of `index`, and a first line by way of its value.
-use Rattle.std.proofs.Common.{◌≡◌, ℕ, ◌≤◌, cond, ◌&&◌, nat_le, List, length, codes, Option, Some, None, option_map, sym, ap, ◌∙◌, le-leb}
+use Rattle.std.proofs.Common.{◌≡◌, ℕ, ◌≤◌, ◌<◌, cond, List, length, codes, Option, Some, None, option_map, sym, ap, ◌∙◌, le-leb, arith}
 use Rattle.tree_json.specs.OneText.{one_text}
 use Rattle.tree_json.specs.Reading.{Reading, bad_json, fraction, value}
 use Rattle.tree_json.specs.Value.{JsonValue}
@@ -8,13 +8,13 @@ use Rattle.line_engine.specs.Action.{Command, index, command_of, asked_in, asked
 use Rattle.line_engine.specs.Read.{AsksAs, IsRefusedFirst, no_action_of}
 use Rattle.line_engine.specs.declared.action.NoAction.TheVariants.{NoMemory}
 
-command_is : (id : List ℕ) → 1 ≤ length id → length id ≤ 512 → command_of (one_text (codes "index") (codes "_id") id) ≡ Some (index id)
-command_is id some short = ap (λ b. option_map index (cond (b && nat_le (length id) 512) (Some id) None)) (le-leb 1 (length id) some) ∙ ap (λ b. option_map index (cond b (Some id) None)) (le-leb (length id) 512 short)
+command_is : (id : List ℕ) → 1 ≤ length id → command_of (one_text (codes "index") (codes "_id") id) ≡ Some (index id)
+command_is id some = ap (λ b. option_map index (cond b (Some id) None)) (le-leb 1 (length id) some)
 
-pub index_line : (line : Reading) (outer inner id : List ℕ) → line ≡ value (one_text outer inner id) → outer ≡ codes "index" → inner ≡ codes "_id" → 1 ≤ length id → length id ≤ 512 → AsksAs line (Some (index id))
-index_line line outer inner id reads first second some short = record {
+pub index_line : (line : Reading) (outer inner id : List ℕ) → line ≡ value (one_text outer inner id) → outer ≡ codes "index" → inner ≡ codes "_id" → 0 < length id → AsksAs line (Some (index id))
+index_line line outer inner id reads first second some = record {
   asks = λ source. ap (λ l. asked_in l source) reads ∙ ap (λ o. asked_in (value (one_text o inner id)) source) first ∙ ap (λ i. asked_in (value (one_text (codes "index") i id)) source) second
-      ∙ ap (λ command. asked_by command source) (command_is id some short);
+      ∙ ap (λ command. asked_by command source) (command_is id (omega (arith, some)));
 }
 
 pub value_line : (line : Reading) (v : JsonValue) (command : Option Command) → line ≡ value v → command ≡ command_of v → AsksAs line command

@@ -9,7 +9,7 @@ use Rattle.std.specs.Str.{bytes_eq}
 use Rattle.std.specs.BTreeMap.{BTreeMap, is_at, insert_entry}
 use Rattle.std.specs.String.{string_bytes}
 use Rattle.tree_objects.specs.Tree.{Tree, ComesFirst, IsLiveList, has_id, number_of, without}
-use Rattle.line_engine.specs.Machine.{with_put}
+use Rattle.line_engine.specs.Write.{with_put}
 use Rattle.line_engine.specs.Live.{tree_at, trees_of, AreBelow, Key, get_by_id, IsIndexed}
 use Rattle.line_engine.specs.declared.live.Stored.{Stored}
 

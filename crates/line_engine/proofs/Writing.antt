@@ -1,8 +1,8 @@
 -- What the sink took, write after write.
-use Rattle.std.proofs.Common.{◌≡◌, ℕ, List, [], ◌++◌, length, take, drop, Option, Some, None, refl, sym, ap, subst, ◌∙◌, append_assoc}
+use Rattle.std.proofs.Common.{◌≡◌, ℕ, List, [], ◌++◌, ◌<◌, length, take, drop, Option, Some, None, refl, sym, ap, subst, ◌∙◌, append_assoc}
 use Rattle.std.proofs.lemmas.List.{append-nil, take-append-drop, nil_from_length}
 use Rattle.std.specs.Io.KnownBytes.{Appends, Keeps}
-use Rattle.line_engine.specs.Served.{TakesFront}
+use Rattle.line_engine.specs.Served.{TakesPart}
 
 pub appends_none : (taken : Option (List ℕ)) → Appends taken taken []
 appends_none None = tt
@@ -41,11 +41,13 @@ written_all old new piece rest written none =
     let all : written.done ≡ piece = sym (append-nil written.done) ∙ (ap (λ (bytes : List ℕ). written.done ++ bytes) (sym (nil_from_length rest none)) ∙ sym written.parts) in
     subst (λ (bytes : List ℕ). Appends old new bytes) all written.bytes
 
-pub written_part : (old mid new : Option (List ℕ)) (piece rest : List ℕ) → Written old mid piece rest → Keeps mid new → TakesFront old new piece
-written_part old mid new piece rest written kept = record {
+pub written_part : (old mid new : Option (List ℕ)) (piece rest : List ℕ) → Written old mid piece rest → 0 < length rest → Keeps mid new → TakesPart old new piece
+written_part old mid new piece rest written some kept = record {
   part = written.done;
+  rest = rest;
+  parts = written.parts;
+  some = some;
   written = appends_kept old mid new written.done written.bytes kept;
-  front = (rest, written.parts);
 }
 
 pub ruleset writes = (written_none, written_more, written_all, written_part)

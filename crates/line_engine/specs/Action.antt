@@ -1,23 +1,24 @@
--- What a request asks for: an action, or the refusal of what isn't one.
+-- What a request asks for: an action, or the refusal of what hasn't the form of one. Forms are judged without the state.
 use Rattle.std.specs.Prelude.{ℕ, Bool, true, false, List, length, codes, nat_le, if◌then◌else◌, ◌&&◌, Option, Some, None, option_map}
 use Rattle.std.specs.Str.{bytes_eq}
 use Rattle.tree_json.specs.Value.{JsonValue, text, object, Members, no_members, member, is_object}
 use Rattle.tree_json.specs.Reading.{Reading, reading, bad_json, fraction, value}
-use Rattle.query_ast.specs.Clause.{Clause, match_all}
-use Rattle.query_ast.specs.Page.{Search}
-use Rattle.line_engine.specs.Request.{ReadLine, in_full, too_long, SourceLine, not_taken, missing, given}
-use Rattle.line_engine.specs.declared.refusal.Refusal.{Refusal}
-use Rattle.line_engine.specs.declared.refusal.Refusal.TheVariants.{BadJson, FractionNumber, LineTooLong, BadRequest, MissingSource}
+use Rattle.line_reader.specs.Request.{ReadLine, in_full, too_long, SourceLine, not_taken, missing, given}
+use Rattle.line_engine.specs.declared.search.ParsedQuery.{ParsedQuery}
+use Rattle.line_engine.specs.declared.search.ParsedQuery.TheVariants.{MatchAll}
+use Rattle.line_engine.specs.declared.search.ParsedSearch.{ParsedSearch}
+use Rattle.reply_text.specs.declared.refusal.Refusal.{Refusal}
+use Rattle.reply_text.specs.declared.refusal.Refusal.TheVariants.{BadJson, FractionNumber, LineTooLong, BadRequest, MissingSource}
 
 -- what a first line says: to index a source under an id, or to search
 pub data Command : Type 0 where
   index : List ℕ → Command
-  search : Search → Command
+  search : ParsedSearch → Command
 
--- what is done: a source is indexed under an id, or trees are searched
+-- what is asked for: to index a source under an id, or to search
 pub data Action : Type 0 where
   index_source : List ℕ → JsonValue → Action
-  search_trees : Search → Action
+  search_trees : ParsedSearch → Action
 
 pub data Asked : Type 0 where
   refused : Refusal → Asked
@@ -29,12 +30,9 @@ single_of no_members = None
 single_of (member name only no_members) = Some (name, only)
 single_of (member name first (member other second rest)) = None
 
--- an id is a text of 1 to 512 bytes
-abbrev pub longest_id : ℕ
-longest_id = 512
-
+-- an id is a text that isn't empty
 abbrev pub id_of : JsonValue → Option (List ℕ)
-id_of (text id) = if nat_le 1 (length id) && nat_le (length id) longest_id then Some id else None
+id_of (text id) = if nat_le 1 (length id) then Some id else None
 id_of _ = None
 
 -- the action line of `index` has the one name `_id`
@@ -47,27 +45,27 @@ is_empty_object (object no_members) = true
 is_empty_object _ = false
 
 -- `match_all` scores 1
-abbrev pub everything : Clause
-everything = match_all 1
+abbrev pub everything : ParsedQuery
+everything = MatchAll 1
 
 -- a query is an object with one name
-abbrev pub query_in : Option (List ℕ × JsonValue) → Option Clause
+abbrev pub query_in : Option (List ℕ × JsonValue) → Option ParsedQuery
 query_in None = None
 query_in (Some it) = if bytes_eq it.0 (codes "match_all") && is_empty_object it.1 then Some everything else None
 
-abbrev pub query_of : JsonValue → Option Clause
+abbrev pub query_of : JsonValue → Option ParsedQuery
 query_of (object members) = query_in (single_of members)
 query_of _ = None
 
-abbrev pub searching : Clause → Search
-searching clause = record { query = clause }
+abbrev pub searching : ParsedQuery → ParsedSearch
+searching query = record { query = query }
 
-abbrev pub search_in : Option (List ℕ × JsonValue) → Option Search
+abbrev pub search_in : Option (List ℕ × JsonValue) → Option ParsedSearch
 search_in None = None
 search_in (Some it) = if bytes_eq it.0 (codes "query") then option_map searching (query_of it.1) else None
 
 -- a query that is left out is `match_all`
-abbrev pub search_of : Members → Option Search
+abbrev pub search_of : Members → Option ParsedSearch
 search_of no_members = Some (searching everything)
 search_of (member name first rest) = search_in (single_of (member name first rest))
 

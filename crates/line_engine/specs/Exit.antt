@@ -1,7 +1,15 @@
--- The exit status of each way to end.
+-- The ways to end, and the exit status of each.
 use Rattle.std.specs.Prelude.{ℕ}
+use Rattle.line_reader.specs.declared.stop.Stop.{Stop}
+use Rattle.line_reader.specs.declared.stop.Stop.TheVariants.{End, Limit, Fault}
 use Rattle.line_engine.specs.declared.status.Status.{Status}
 use Rattle.line_engine.specs.declared.status.Status.TheVariants.{Done, BadWords, ReadFault, WriteFault, DiskFault, NotAStore, Damaged, SessionLimit, NoMemory}
+
+-- how a session ends where there is no further request
+abbrev pub status_of : Stop → Status
+status_of End = Done
+status_of Limit = SessionLimit
+status_of Fault = ReadFault
 
 abbrev pub exit_status : Status → ℕ
 exit_status Done = 0

@@ -1,4 +1,4 @@
--- A number that tells most ids apart. Ids of one fingerprint are told apart by their bytes.
+-- A number that tells most ids apart. Ids of one fingerprint are outcome_of apart by their bytes.
 use Rattle.std.specs.Prelude.{ℕ, ◌+◌, ◌*◌, ◌%◌, ◌^◌, List, [], ◌∷◌}
 
 -- a polynomial in 31 over the bytes, in 64 bits

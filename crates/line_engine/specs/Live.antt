@@ -1,5 +1,5 @@
 -- How the live trees are kept: by sequence number, and the sequence number of each by id.
-use Rattle.std.specs.Prelude.{◌≡◌, ◌<◌, ℕ, Bool, List, Option, String, map}
+use Rattle.std.specs.Prelude.{◌≡◌, ◌<◌, ℕ, List, Option, String, map}
 use Rattle.std.specs.List.{AllByRecursion}
 use Rattle.std.specs.BTreeMap.{BTreeMap, get_by}
 use Rattle.std.specs.Cmp.Lexicographic.{slice_cmp}
@@ -7,16 +7,13 @@ use Rattle.std.specs.Global.{Global}
 use Rattle.std.specs.Ordering.{nat_cmp, ordering_then}
 use Rattle.std.specs.declared.cmp.Ordering.{Ordering}
 use Rattle.std.specs.String.{string_bytes}
-use Rattle.tree_json.specs.Text.{compact, compact_elements}
 use Rattle.tree_objects.specs.Tree.{Tree, IsLiveList, number_of}
-use Rattle.query_ast.specs.Page.{Hit, hit_of, default_sort}
 use Rattle.line_engine.specs.Fingerprint.{fingerprint}
-use Rattle.line_engine.specs.Machine.{new_tree}
-use Rattle.line_engine.specs.Reply.{hit_value, hit_values}
+use Rattle.line_engine.specs.Write.{new_tree}
 use Rattle.line_engine.specs.declared.live.Stored.{Stored}
 
 abbrev pub tree_at : ℕ × Stored → Tree
-tree_at entry = new_tree (string_bytes entry.1.id) entry.1.source entry.0
+tree_at entry = new_tree (string_bytes entry.1.id) entry.1.source entry.0 entry.1.generation
 
 abbrev pub trees_of : List (ℕ × Stored) → List Tree
 trees_of entries = map tree_at entries
@@ -43,15 +40,3 @@ get_by_id numbers id = get_by (id_cmp id) numbers
 pub record IsIndexed (trees : BTreeMap ℕ Stored) (numbers : BTreeMap Key ℕ) : Type 0 where
   pub live : IsLiveList (trees_of trees.entries)
   pub found : (id : List ℕ) → get_by_id numbers id ≡ number_of id (trees_of trees.entries)
-
--- a tree as a hit of a search without `sort`, in which each tree has this score
-abbrev pub scored : ℕ → Tree → Hit
-scored score tree = hit_of default_sort tree score
-
--- the text of a hit
-unfoldable pub hit_text : Hit → List ℕ
-hit_text hit = compact (hit_value hit)
-
--- the text of hits as the elements of a list; `later` says that one stands before them
-unfoldable pub hits_text : Bool → List Hit → List ℕ
-hits_text later hits = compact_elements later (hit_values hits)

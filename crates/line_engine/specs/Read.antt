@@ -3,11 +3,10 @@ use Rattle.std.specs.Prelude.{◌≡◌, ⊤, Option}
 use Rattle.tree_json.specs.Value.{JsonValue, object}
 use Rattle.tree_json.specs.declared.reader.JsonRefusal.{JsonRefusal}
 use Rattle.tree_json.specs.declared.reader.JsonRefusal.TheVariants as Json
-use Rattle.query_ast.specs.View.{search_of}
 use Rattle.line_engine.specs.Action.{Command, index, search, Asked, refused, asked_in, asked_by}
-use Rattle.line_engine.specs.Request.{SourceLine}
+use Rattle.line_reader.specs.Request.{SourceLine}
 use Rattle.tree_json.specs.Reading.{Reading}
-use Rattle.line_engine.specs.declared.refusal.Refusal.TheVariants.{BadJson, FractionNumber}
+use Rattle.reply_text.specs.declared.refusal.Refusal.TheVariants.{BadJson, FractionNumber}
 use Rattle.line_engine.specs.declared.action.Command as Declared
 use Rattle.line_engine.specs.declared.action.Command.TheVariants.{Index, Search}
 use Rattle.line_engine.specs.declared.action.NoAction.{NoAction}
@@ -15,7 +14,7 @@ use Rattle.line_engine.specs.declared.action.NoAction.TheVariants.{Refused, NoMe
 
 abbrev pub command_view : Declared.Command → Command
 command_view (Index id) = index id
-command_view (Search body) = search (search_of body)
+command_view (Search body) = search body
 
 abbrev pub no_action_of : JsonRefusal → NoAction
 no_action_of Json.BadJson = Refused BadJson

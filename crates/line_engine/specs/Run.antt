@@ -1,101 +1,122 @@
 -- What the program may do: runs of the machine, and what a call of `serve` leaves read and written.
-use Rattle.std.specs.Prelude.{◌≡◌, ℕ, ◌≤◌, ◌⊎◌, List, [], ◌∷◌, ◌++◌, length, Option, ⊤}
-use Rattle.std.specs.Io.KnownBytes.{Consumes, Appends, IsAtEnd, Keeps}
+use Rattle.std.specs.Prelude.{◌≡◌, ◌<◌, ℕ, ◌⊎◌, List, [], ◌∷◌, ◌++◌, length, map, Option, ⊤}
+use Rattle.std.specs.Io.KnownBytes.{Appends, Keeps}
 use Rattle.io_edges.specs.Faults.{Rose}
-use Rattle.line_engine.specs.Request.{Request, requests, whole_requests}
-use Rattle.line_engine.specs.Reply.{Reply, out_of_memory, reply_text}
-use Rattle.line_engine.specs.Machine.{State, step}
+use Rattle.line_reader.specs.Request.{Request}
+use Rattle.line_reader.specs.Given.{ReadsAll, ReadsWhole, ReadsToLimit, ReadsFirst}
+use Rattle.reply_text.specs.Text.{reply_text}
+use Rattle.reply_text.specs.declared.reply.Reply.{Reply}
+use Rattle.reply_text.specs.declared.reply.Reply.TheVariants.{OutOfMemory}
+use Rattle.line_engine.specs.State.{State}
+use Rattle.line_engine.specs.Machine.{step}
 use Rattle.line_engine.specs.declared.limits.Limits.{Limits}
 use Rattle.line_engine.specs.declared.status.Status.{Status}
 use Rattle.line_engine.specs.declared.status.Status.TheVariants.{Done, BadWords, ReadFault, WriteFault, DiskFault, NotAStore, Damaged, SessionLimit, NoMemory}
 
--- A request is answered as the machine does, or by out_of_memory with the state as it was.
+-- the reply and the state of the machine's step
+pub record Stepped (limits : Limits) (before : State) (request : Request) (reply : Reply) (after : State) : Type 0 where
+  pub reply_is : reply ≡ (step limits before request).reply
+  pub state_is : after ≡ (step limits before request).state
+
+-- there was no memory, and the state is as it was
+pub record WantsMemory (before : State) (reply : Reply) (after : State) : Type 0 where
+  pub reply_is : reply ≡ OutOfMemory
+  pub state_is : after ≡ before
+
+-- what a request may be answered, and the state that this may leave
 abbrev pub MayStep : Limits → State → Request → Reply → State → Type 0
-MayStep limits before request reply after =
-    ((reply ≡ (step limits before request).reply) × (after ≡ (step limits before request).state))
-    ⊎ ((reply ≡ out_of_memory) × (after ≡ before))
+MayStep limits before request reply after = Stepped limits before request reply after ⊎ WantsMemory before reply after
 
--- the texts of the replies to a list of requests, one after the other
-abbrev pub MayRun : Limits → State → List Request → List ℕ → State → Type 0
-MayRun limits before [] out after = (out ≡ []) × (after ≡ before)
-MayRun limits before (request ∷ requests) out after =
-    (reply : Reply) × (mid : State) × (rest : List ℕ)
-    × (MayStep limits before request reply mid × (out ≡ reply_text reply ++ rest) × MayRun limits mid requests rest after)
+-- a request, its reply and the state afterwards
+pub record Turn : Type 0 where
+  pub request : Request
+  pub reply : Reply
+  pub after : State
 
--- `front` is the list or a front of it
-abbrev pub IsFront : {X : Type 0} → List X → List X → Type 0
-IsFront {X} front all = (rest : List X) × (all ≡ front ++ rest)
+abbrev pub requests_of : List Turn → List Request
+requests_of turns = map (λ (turn : Turn). turn.request) turns
+
+-- the texts of the replies, one after the other
+abbrev pub text_of : List Turn → List ℕ
+text_of [] = []
+text_of (turn ∷ turns) = reply_text turn.reply ++ text_of turns
+
+abbrev pub last_state : State → List Turn → State
+last_state start [] = start
+last_state start (turn ∷ turns) = last_state turn.after turns
+
+-- each turn may follow the one before
+abbrev pub IsChain : Limits → State → List Turn → Type 0
+IsChain limits before [] = ⊤
+IsChain limits before (turn ∷ turns) = MayStep limits before turn.request turn.reply turn.after × IsChain limits turn.after turns
+
+-- A run of the machine over these requests.
+pub record MayRun (limits : Limits) (start : State) (requests : List Request) (turns : List Turn) : Type 0 where
+  pub chain : IsChain limits start turns
+  pub asked : requests_of turns ≡ requests
 
 -- Below, `left` and `left'` are the bytes that the source has before and after a call, where it tells them, and
 -- `taken` and `taken'` those that the sink has taken.
 
--- The input was read to its end, and each of its requests is answered.
-pub record AnswersAll (limits : Limits) (start : State) (left left' taken taken' : Option (List ℕ)) : Type 0 where
-  pub input : List ℕ
-  pub out : List ℕ
-  pub after : State
-  pub read : Consumes left left' input
-  pub ended : IsAtEnd left'
-  pub within : length input ≤ limits.session_bytes
-  pub written : Appends taken taken' out
-  pub run : MayRun limits start (requests input) out after
+-- Writing the last reply failed: the sink has taken the others, and of the last a part that isn't all of it.
+pub record WritesPart (taken taken' : Option (List ℕ)) (turns : List Turn) : Type 0 where
+  pub answered : List Turn
+  pub last : Turn
+  pub parts : turns ≡ answered ++ last ∷ []
+  pub part : List ℕ
+  pub rest : List ℕ
+  pub text : reply_text last.reply ≡ part ++ rest
+  pub some : 0 < length rest
+  pub written : Appends taken taken' (text_of answered ++ part)
 
--- The source failed: each request that had ended before is answered.
-pub record AnswersRead (limits : Limits) (start : State) (left left' taken taken' : Option (List ℕ)) : Type 0 where
-  pub input : List ℕ
-  pub out : List ℕ
-  pub after : State
-  pub read : Consumes left left' input
-  pub within : length input ≤ limits.session_bytes
-  pub written : Appends taken taken' out
-  pub run : MayRun limits start (whole_requests input) out after
+-- Which requests a session has read, by the status that it ends with. The statuses marked by ⊥ never come from one.
+abbrev pub HasRead : Status → ℕ → Option (List ℕ) → Option (List ℕ) → List Request → Type 0
+HasRead Done most left left' requests = ReadsAll most left left' requests
+HasRead ReadFault most left left' requests = ReadsWhole most left left' requests
+HasRead WriteFault most left left' requests = ReadsFirst most left left' requests
+HasRead SessionLimit most left left' requests = ReadsToLimit most left left' requests
+HasRead NoMemory most left left' requests = (requests ≡ []) × Keeps left left'
+HasRead BadWords most left left' requests = ⊥
+HasRead DiskFault most left left' requests = ⊥
+HasRead NotAStore most left left' requests = ⊥
+HasRead Damaged most left left' requests = ⊥
 
--- The source gave one byte more than a session may have: each request that ended within the limit is answered.
-pub record AnswersWithin (limits : Limits) (start : State) (left left' taken taken' : Option (List ℕ)) : Type 0 where
-  pub input : List ℕ
-  pub more : ℕ
-  pub out : List ℕ
-  pub after : State
-  pub read : Consumes left left' (input ++ more ∷ [])
-  pub within : length input ≡ limits.session_bytes
-  pub written : Appends taken taken' out
-  pub run : MayRun limits start (whole_requests input) out after
+-- what it has written
+abbrev pub HasWritten : Status → Option (List ℕ) → Option (List ℕ) → List Turn → Type 0
+HasWritten Done taken taken' turns = Appends taken taken' (text_of turns)
+HasWritten ReadFault taken taken' turns = Appends taken taken' (text_of turns)
+HasWritten WriteFault taken taken' turns = WritesPart taken taken' turns
+HasWritten SessionLimit taken taken' turns = Appends taken taken' (text_of turns)
+HasWritten NoMemory taken taken' turns = Keeps taken taken'
+HasWritten BadWords taken taken' turns = ⊥
+HasWritten DiskFault taken taken' turns = ⊥
+HasWritten NotAStore taken taken' turns = ⊥
+HasWritten Damaged taken taken' turns = ⊥
 
--- The sink failed: what it took is a front of the replies to the first requests.
-pub record AnswersFront (limits : Limits) (start : State) (left left' taken taken' : Option (List ℕ)) : Type 0 where
-  pub input : List ℕ
-  pub answered : List Request
-  pub replies : List ℕ
-  pub out : List ℕ
-  pub after : State
-  pub read : Consumes left left' input
-  pub within : length input ≤ limits.session_bytes
-  pub among : IsFront answered (whole_requests input) ⊎ (IsAtEnd left' × IsFront answered (requests input))
-  pub written : Appends taken taken' out
-  pub front : IsFront out replies
-  pub run : MayRun limits start answered replies after
+-- A session that ended with this status: the requests that were read are answered by a run of the machine, and the
+-- replies are what was written.
+pub record Serves (status : Status) (limits : Limits) (start : State) (left left' taken taken' : Option (List ℕ)) : Type 0 where
+  pub requests : List Request
+  pub turns : List Turn
+  pub run : MayRun limits start requests turns
+  pub reads : HasRead status limits.session_bytes left left' requests
+  pub writes : HasWritten status taken taken' turns
 
--- Nothing was read and nothing written.
-pub record Untouched (left left' taken taken' : Option (List ℕ)) : Type 0 where
-  pub source : Keeps left left'
-  pub sink : Keeps taken taken'
+-- how many calls failed on the source, on the sink and on the disk
+pub record Counts : Type 0 where
+  pub source : ℕ
+  pub sink : ℕ
+  pub disk : ℕ
 
--- What a session has read and written, by the status that it ends with. Want of memory is said before the first request
--- alone; the other statuses, marked by ⊥, never come from a session.
-abbrev pub Serves : Status → Limits → State → Option (List ℕ) → Option (List ℕ) → Option (List ℕ) → Option (List ℕ) → Type 0
-Serves Done limits start left left' taken taken' = AnswersAll limits start left left' taken taken'
-Serves ReadFault limits start left left' taken taken' = AnswersRead limits start left left' taken taken'
-Serves WriteFault limits start left left' taken taken' = AnswersFront limits start left left' taken taken'
-Serves SessionLimit limits start left left' taken taken' = AnswersWithin limits start left left' taken taken'
-Serves NoMemory limits start left left' taken taken' = Untouched left left' taken taken'
-Serves BadWords limits start left left' taken taken' = ⊥
-Serves DiskFault limits start left left' taken taken' = ⊥
-Serves NotAStore limits start left left' taken taken' = ⊥
-Serves Damaged limits start left left' taken taken' = ⊥
-
--- A fault is answered only where the count of that object rose: `read` and `read'` count the source's faults before and
--- after, `write` and `write'` the sink's.
-abbrev pub IsCaused : Status → ℕ → ℕ → ℕ → ℕ → Type 0
-IsCaused ReadFault read read' write write' = Rose read read'
-IsCaused WriteFault read read' write write' = Rose write write'
-IsCaused _ read read' write write' = ⊤
+-- A fault is answered only where the count of that object rose. The counts of source and sink stay but for that; the disk
+-- may fail under a request that is answered so, and then the session goes on.
+abbrev pub IsCaused : Status → Counts → Counts → Type 0
+IsCaused Done before after = (after.source ≡ before.source) × (after.sink ≡ before.sink)
+IsCaused BadWords before after = after ≡ before
+IsCaused ReadFault before after = Rose before.source after.source × (after.sink ≡ before.sink)
+IsCaused WriteFault before after = Rose before.sink after.sink × (after.source ≡ before.source)
+IsCaused DiskFault before after = Rose before.disk after.disk × (after.source ≡ before.source) × (after.sink ≡ before.sink)
+IsCaused NotAStore before after = after ≡ before
+IsCaused Damaged before after = after ≡ before
+IsCaused SessionLimit before after = (after.source ≡ before.source) × (after.sink ≡ before.sink)
+IsCaused NoMemory before after = after ≡ before

@@ -4,26 +4,22 @@ ghost use Rattle.std.specs.Prelude.{◌≡◌, option_map, IfOk, IfErr, IfSome, 
 ghost use Rattle.tree_json.specs.Reading.{reading, value};
 ghost use Rattle.tree_json.specs.Value.{object, members_of};
 ghost use Rattle.tree_json.specs.View.{view, entries};
-ghost use Rattle.query_ast.specs.View.{clause_of, search_of as search_view};
 ghost use Rattle.line_engine.specs.Action.{index, asked_of, asked_by, command_of as command_said, command_in as command_inside, command_with as command_under, command_named as command_by_name, index_in, index_with, id_of, query_in, query_of, search_in, search_of, single_of, is_empty_object, action};
-ghost use Rattle.line_engine.specs.View.{first_of, source_of};
+ghost use Rattle.line_reader.specs.View.{first_line_of, source_line_of};
 ghost use Rattle.line_engine.specs.Seen.{action_view};
 ghost use Rattle.line_engine.specs.Read.{command_view, IsRefused, IsRefusedFirst, AsksAs, IsNoObject};
 
-use crate::line::{FirstLine, SourceLine};
-use crate::refusal::Refusal;
-use query_ast::{Query, SearchBody};
+use crate::search::{ParsedQuery, ParsedSearch};
+use line_reader::{FirstLine, SourceLine};
+use reply_text::Refusal;
 use std::alloc::Global;
 use tree_json::{CompactText, Json, JsonObject, JsonReader, JsonRefusal, JsonText, NoMemory};
-
-/// The most bytes of an `_id`.
-const LONGEST_ID: usize = 512;
 
 /// What a first line says.
 #[derive(Drop)]
 enum Command {
     Index(JsonText),
-    Search(SearchBody),
+    Search(ParsedSearch),
 }
 
 /// What a request asks for.
@@ -32,11 +28,11 @@ pub(crate) enum Action {
     /// A source is put under an id.
     Index(JsonText, CompactText),
     /// The live trees are searched.
-    Search(SearchBody),
+    Search(ParsedSearch),
 }
 
 /// Why there is no action.
-#[derive(Clone, Copy, Debug, PartialEq, Eq)]
+#[derive(Drop)]
 pub(crate) enum NoAction {
     Refused(Refusal),
     NoMemory,
@@ -76,8 +72,8 @@ pub(crate) fn action_of(
     first: FirstLine<'_>,
     second: SourceLine<'_>,
 ) -> Result<Action, NoAction>
-    ensures ok { IfOk result (λ a. asked_of (first_of first.entry) (source_of second.entry) ≡ action (action_view a)) }
-    ensures refused { IfErr result (IsRefused (asked_of (first_of first.entry) (source_of second.entry))) }
+    ensures ok { IfOk result (λ a. asked_of (first_line_of first.entry) (source_line_of second.entry) ≡ action (action_view a)) }
+    ensures refused { IfErr result (IsRefused (asked_of (first_line_of first.entry) (source_line_of second.entry))) }
 {
     match first {
         FirstLine::TooLong => Err(NoAction::Refused(Refusal::LineTooLong)),
@@ -116,8 +112,7 @@ fn index_id(
     let Some(it) = reader.one_text(line) else {
         return Ok(None);
     };
-    let len = it.text.len();
-    if it.outer == "index" && it.inner == "_id" && 1 <= len && len <= LONGEST_ID {
+    if it.outer == "index" && it.inner == "_id" && !it.text.is_empty() {
         Ok(Some(JsonText::of_str(alloc, it.text)?))
     } else {
         Ok(None)
@@ -130,8 +125,8 @@ fn action_by(
     command: Option<Command>,
     second: SourceLine<'_>,
 ) -> Result<Action, NoAction>
-    ensures ok { IfOk result (λ a. asked_by (option_map command_view command) (source_of second.entry) ≡ action (action_view a)) }
-    ensures refused { IfErr result (IsRefused (asked_by (option_map command_view command) (source_of second.entry))) }
+    ensures ok { IfOk result (λ a. asked_by (option_map command_view command) (source_line_of second.entry) ≡ action (action_view a)) }
+    ensures refused { IfErr result (IsRefused (asked_by (option_map command_view command) (source_line_of second.entry))) }
 {
     match command {
         None => Err(NoAction::Refused(Refusal::BadRequest)),
@@ -146,8 +141,8 @@ fn index_action(
     id: JsonText,
     second: SourceLine<'_>,
 ) -> Result<Action, NoAction>
-    ensures ok { IfOk result (λ a. index_with id (source_of second.entry) ≡ action (action_view a)) }
-    ensures refused { IfErr result (IsRefused (index_with id (source_of second.entry))) }
+    ensures ok { IfOk result (λ a. index_with id (source_line_of second.entry) ≡ action (action_view a)) }
+    ensures refused { IfErr result (IsRefused (index_with id (source_line_of second.entry))) }
 {
     match second {
         SourceLine::NotTaken => Err(NoAction::Refused(Refusal::BadRequest)),
@@ -254,11 +249,10 @@ fn id(value: Json) -> Option<JsonText>
 {
     match value {
         Json::Text(id) => {
-            let len = id.as_slice().len();
-            if 1 <= len && len <= LONGEST_ID {
-                Some(id)
-            } else {
+            if id.as_slice().is_empty() {
                 None
+            } else {
+                Some(id)
             }
         }
         Json::Null => None,
@@ -270,17 +264,17 @@ fn id(value: Json) -> Option<JsonText>
 }
 
 #[tactic(auto, using(crate::proofs::Members::search_of_some))]
-fn search(members: &JsonObject) -> Option<SearchBody>
-    ensures { option_map search_view result ≡ search_of (members_of members.now) }
+fn search(members: &JsonObject) -> Option<ParsedSearch>
+    ensures { result ≡ search_of (members_of members.now) }
 {
     if members.as_slice().is_empty() {
-        return Some(SearchBody {
-            query: Query::MatchAll { boost: 1 },
+        return Some(ParsedSearch {
+            query: ParsedQuery::MatchAll(1),
         });
     }
     let (name, value) = only(members.as_slice())?;
     if name.as_slice() == b"query".as_slice() {
-        Some(SearchBody {
+        Some(ParsedSearch {
             query: query(value)?,
         })
     } else {
@@ -288,8 +282,8 @@ fn search(members: &JsonObject) -> Option<SearchBody>
     }
 }
 
-fn query(value: &Json) -> Option<Query>
-    ensures { option_map clause_of result ≡ query_of (view value.now) }
+fn query(value: &Json) -> Option<ParsedQuery>
+    ensures { result ≡ query_of (view value.now) }
 {
     match value {
         Json::Object(members) => query_single(members),
@@ -297,12 +291,12 @@ fn query(value: &Json) -> Option<Query>
     }
 }
 
-fn query_single(members: &JsonObject) -> Option<Query>
-    ensures { option_map clause_of result ≡ query_in (single_of (members_of members.now)) }
+fn query_single(members: &JsonObject) -> Option<ParsedQuery>
+    ensures { result ≡ query_in (single_of (members_of members.now)) }
 {
     let (name, value) = only(members.as_slice())?;
     if name.as_slice() == b"match_all".as_slice() && is_empty(value) {
-        Some(Query::MatchAll { boost: 1 })
+        Some(ParsedQuery::MatchAll(1))
     } else {
         None
     }

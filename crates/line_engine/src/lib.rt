@@ -1,31 +1,26 @@
 //! The engine of lines: requests in, replies out.
 //!
-//! It reads lines from a source, answers each request and writes the reply to a sink. `specs/` has the plain machine
-//! over trees that says what each reply is, and what a run of it is. The one contract that others use is that of
-//! `run`: what the sink takes is such a run over the requests of what the source gives. It stands on `tree_json` for
-//! values, `query_ast` for the meaning of a search, `io_edges` for the outside and `source_steps` for the counter.
+//! It reads requests from a source, answers each and writes the reply to a sink. `specs/` has the plain machine over
+//! trees that says what each reply is, and what a run of it is. The one contract that others use is that of `run`: what
+//! the sink takes is such a run over the requests of what the source gives. It stands on `line_reader` for requests,
+//! `tree_json` for values, `query_ast` for the meaning of a search, `reply_text` for replies, `io_edges` for the outside
+//! and `source_steps`. Begin with `specs/Run`.
 #![tactic(auto)]
 
 mod action;
 mod engine;
-mod fetch;
 mod fingerprint;
-mod input;
 mod limits;
-mod line;
-mod line_buffer;
 mod live;
-mod page;
+mod no_memory;
 mod program;
-mod refusal;
-mod reply;
+mod search;
 mod session;
 mod status;
 
 pub use engine::{Answered, Engine};
 pub use limits::Limits;
-pub use line::{FirstLine, SourceLine, takes_source};
+pub use no_memory::NoMemory;
 pub use program::run;
-pub use refusal::NoMemory;
 pub use session::serve;
 pub use status::Status;

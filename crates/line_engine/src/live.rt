@@ -1,30 +1,32 @@
 //! The live trees of an index.
 
-ghost use Rattle.std.specs.Prelude.{◌≡◌, ◌<◌, ◌≤◌, ◌++◌, [], false, length, map, take, OnOk, OnErr, IfOk, None};
+ghost use Rattle.std.specs.Prelude.{◌≡◌, ◌<◌, ◌≤◌, [], true, length, map, take, OnOk, OnErr, IfOk, None};
 ghost use Rattle.std.specs.BTreeMap.{is_at};
 ghost use Rattle.std.specs.Map.{remove_entry};
 ghost use Rattle.std.specs.Ordering.{nat_cmp};
 ghost use Rattle.std.specs.String.{string_bytes};
 ghost use Rattle.tree_objects.specs.Tree.{IsLiveList};
-ghost use Rattle.line_engine.specs.Machine.{with_put, new_tree, result_of};
 ghost use Rattle.line_engine.specs.Fingerprint.{fingerprint};
-ghost use Rattle.line_engine.specs.Live.{IsIndexed, AreBelow, trees_of, get_by_id, scored, hits_text};
-ghost use Rattle.tree_json.specs.Output.{room_of};
+ghost use Rattle.line_engine.specs.Live.{IsIndexed, AreBelow, trees_of, get_by_id};
+ghost use Rattle.line_engine.specs.Write.{with_put, new_tree, result_of};
+ghost use Rattle.query_ast.specs.Search.{whole_hit};
 
 use crate::fingerprint::fingerprint_of;
-use crate::page::write_hits;
-use crate::refusal::NoMemory;
-use crate::reply::WriteResult;
+use crate::no_memory::NoMemory;
+use crate::search::first_hits;
+use query_ast::HitList;
+use reply_text::WriteResult;
 use std::alloc::Global;
 use std::collections::BTreeMap;
 use std::marker::Model;
-use tree_json::{CompactText, JsonText, OutText};
+use tree_json::{CompactText, JsonText};
 
 /// A tree as it is kept, under its sequence number.
 #[derive(Drop)]
 pub(crate) struct Stored {
     pub(crate) id: String,
     pub(crate) source: CompactText,
+    pub(crate) generation: u64,
 }
 
 /// The live trees, by sequence number and by id. One is found in time that grows with the logarithm of their number.
@@ -73,36 +75,55 @@ impl LiveTrees {
         self.trees.len() as u64
     }
 
-    /// Puts a tree with the next number in place of the one with its id, or as a new one, and says which.
+    /// What becomes of the tree with this key's id when one is put.
+    pub(crate) fn result_of(&self, key: &(u64, String)) -> WriteResult
+        requires { key.now.0 ≡ fingerprint (string_bytes key.now.1) }
+        ensures { result ≡ result_of (string_bytes key.now.1) self.now }
+    {
+        match self.numbers.get(key) {
+            Some(_number) => WriteResult::Updated,
+            None => WriteResult::Created,
+        }
+    }
+
+    /// Puts a tree with the next number, of this mapping generation, in place of the one with its id, or as a new one.
     pub(crate) fn put(
         &mut self,
         number: u64,
-        id: JsonText,
+        generation: u64,
+        key: (u64, String),
         source: CompactText,
-    ) -> Result<WriteResult, NoMemory>
-        requires { AreBelow number self.old }
-        ensures what { IfOk result (λ what. what ≡ result_of id self.old) }
-        ensures ok { OnOk result (self.new ≡ with_put (new_tree id source number) self.old) }
+    ) -> Result<(), NoMemory>
+        requires above { AreBelow number self.old }
+        requires key { key.0 ≡ fingerprint (string_bytes key.1) }
+        ensures ok { OnOk result (self.new ≡ with_put (new_tree (string_bytes key.1) source number generation) self.old) }
         ensures err { OnErr result (self.new ≡ self.old) }
     {
-        let key = (fingerprint_of(id.as_slice()), id.into_string());
         put_stored(
             self.alloc,
             &mut self.trees,
             &mut self.numbers,
             number,
+            generation,
             key,
             source,
         )
     }
 
-    /// Writes the first hits, each with this score, as the elements of a list.
-    pub(crate) fn write_hits(&self, score: u32, out: &mut OutText) -> Result<(), NoMemory>
-        ensures ok { OnOk result (out.new.bytes ≡ out.old.bytes ++ hits_text false (map (scored score) (take 10 self.now))) }
-        ensures room { room_of out.old ≤ room_of out.new }
+    /// The first trees as hits with this score.
+    pub(crate) fn first_hits(&self, alloc: Global, score: u32) -> Result<HitList, NoMemory>
+        ensures { IfOk result (λ hits. hits ≡ map (whole_hit score true) (take 10 self.now)) }
     {
-        write_hits(&self.trees, score, out)
+        first_hits(alloc, &self.trees, score)
     }
+}
+
+/// The key of an id: its fingerprint, and the id.
+pub(crate) fn key_of(id: JsonText) -> (u64, String)
+    ensures fingerprint { result.0 ≡ fingerprint (string_bytes result.1) }
+    ensures id { string_bytes result.1 ≡ id }
+{
+    (fingerprint_of(id.as_slice()), id.into_string())
 }
 
 // Puts a tree under a number above all others, and takes the one with its id out.
@@ -111,29 +132,33 @@ fn put_stored(
     trees: &mut BTreeMap<u64, Stored>,
     numbers: &mut BTreeMap<(u64, String), u64>,
     number: u64,
+    generation: u64,
     key: (u64, String),
     source: CompactText,
-) -> Result<WriteResult, NoMemory>
+) -> Result<(), NoMemory>
     requires indexed { IsIndexed trees.old numbers.old }
     requires above { AreBelow number (trees_of trees.old.entries) }
     requires key { key.0 ≡ fingerprint (string_bytes key.1) }
-    ensures what { IfOk result (λ what. what ≡ result_of (string_bytes key.1) (trees_of trees.old.entries)) }
-    ensures ok { OnOk result (trees_of trees.new.entries ≡ with_put (new_tree (string_bytes key.1) source number) (trees_of trees.old.entries)) }
+    ensures ok { OnOk result (trees_of trees.new.entries ≡ with_put (new_tree (string_bytes key.1) source number generation) (trees_of trees.old.entries)) }
     ensures err { OnErr result (trees_of trees.new.entries ≡ trees_of trees.old.entries) }
     ensures indexed { IsIndexed trees.new numbers.new }
 {
     match numbers.get_mut(&key) {
         Some(kept) => {
             let (_, id) = key;
-            trees.insert(number, Stored { id, source })?;
+            trees.insert(
+                number,
+                Stored {
+                    id,
+                    source,
+                    generation,
+                },
+            )?;
             take_out(trees, *kept);
             *kept = number;
-            Ok(WriteResult::Updated)
+            Ok(())
         }
-        None => {
-            put_new(alloc, trees, numbers, number, key, source)?;
-            Ok(WriteResult::Created)
-        }
+        None => put_new(alloc, trees, numbers, number, generation, key, source),
     }
 }
 
@@ -143,6 +168,7 @@ fn put_new(
     trees: &mut BTreeMap<u64, Stored>,
     numbers: &mut BTreeMap<(u64, String), u64>,
     number: u64,
+    generation: u64,
     key: (u64, String),
     source: CompactText,
 ) -> Result<(), NoMemory>
@@ -150,12 +176,19 @@ fn put_new(
     requires above { AreBelow number (trees_of trees.old.entries) }
     requires key { key.0 ≡ fingerprint (string_bytes key.1) }
     requires new { get_by_id numbers.old (string_bytes key.1) ≡ None }
-    ensures ok { OnOk result (trees_of trees.new.entries ≡ with_put (new_tree (string_bytes key.1) source number) (trees_of trees.old.entries)) }
+    ensures ok { OnOk result (trees_of trees.new.entries ≡ with_put (new_tree (string_bytes key.1) source number generation) (trees_of trees.old.entries)) }
     ensures err { OnErr result (trees_of trees.new.entries ≡ trees_of trees.old.entries) }
     ensures indexed { IsIndexed trees.new numbers.new }
 {
     let id = String::from_str(alloc, key.1.as_str())?;
-    trees.insert(number, Stored { id, source })?;
+    trees.insert(
+        number,
+        Stored {
+            id,
+            source,
+            generation,
+        },
+    )?;
     match numbers.insert(key, number) {
         Ok(_none) => Ok(()),
         Err(_failed) => {

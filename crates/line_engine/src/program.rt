@@ -1,9 +1,9 @@
 //! The program's call.
 
-ghost use Rattle.std.specs.Prelude.{◌≡◌, ◌≤◌, ◌↔◌, false, true};
+ghost use Rattle.std.specs.Prelude.{◌≡◌, ◌↔◌, false, true};
 ghost use Rattle.line_engine.specs.Limit.{standard_limits};
-ghost use Rattle.line_engine.specs.Machine.{empty_state};
-ghost use Rattle.line_engine.specs.Run.{Serves, IsCaused, Untouched};
+ghost use Rattle.line_engine.specs.Run.{Serves, IsCaused};
+ghost use Rattle.line_engine.specs.State.{empty_state};
 ghost use Rattle.line_engine.specs.Word.{is_serve};
 
 use crate::limits::Limits;
@@ -24,11 +24,11 @@ pub fn run<S: Source, K: Sink, D: Disk>(
     disk: &mut D,
 ) -> Status
     ensures bad_words { (result ≡ Status.BadWords) ↔ (is_serve words.now ≡ false) }
-    ensures untouched { result ≡ Status.BadWords → Untouched (S.left source.old) (S.left source.new) (K.taken sink.old) (K.taken sink.new) }
     ensures serves { is_serve words.now ≡ true → Serves result standard_limits empty_state (S.left source.old) (S.left source.new) (K.taken sink.old) (K.taken sink.new) }
-    ensures cause { IsCaused result (S.faults source.old) (S.faults source.new) (K.faults sink.old) (K.faults sink.new) }
-    ensures source_later { S.faults source.old ≤ S.faults source.new }
-    ensures sink_later { K.faults sink.old ≤ K.faults sink.new }
+    ensures cause { IsCaused result (record { source = S.faults source.old; sink = K.faults sink.old; disk = D.faults disk.old })
+        (record { source = S.faults source.new; sink = K.faults sink.new; disk = D.faults disk.new }) }
+    ensures bad_words_untouched { result ≡ Status.BadWords → (source.new ≡ source.old) × (sink.new ≡ sink.old) }
+    ensures no_memory_untouched { result ≡ Status.NoMemory → (source.new ≡ source.old) × (sink.new ≡ sink.old) }
     ensures disk { disk.new ≡ disk.old }
 {
     if is_serve_command(words) {

@@ -1,27 +1,26 @@
 //! A session: requests from a source, replies to a sink.
 
-ghost use Rattle.std.specs.Prelude.{◌≡◌, ◌≤◌, ◌<◌, ◌+◌, ◌^◌, false, [], ℕ, List, Option, OnOk, OnErr, IfOk, IfNone, IfSome};
+ghost use Rattle.std.specs.Prelude.{◌≡◌, ◌≤◌, ◌<◌, ◌+◌, ◌^◌, false, [], ℕ, List, Option, OnOk, OnErr, IfOk, IfErr};
 ghost use Rattle.std.specs.Io.KnownBytes.{Appends};
-ghost use Rattle.io_edges.specs.Faults.{Rose, HasCause};
+ghost use Rattle.io_edges.specs.Faults.{HasCause};
+ghost use Rattle.line_reader.specs.Given.{HasGiven};
+ghost use Rattle.line_reader.specs.Seen.{KnowsEnd, ahead};
 ghost use Rattle.tree_json.specs.Output.{room_of};
+ghost use Rattle.line_engine.specs.Faithful.{reply_bytes};
 ghost use Rattle.line_engine.specs.Limit.{AreLimits};
-ghost use Rattle.line_engine.specs.Machine.{State, empty_state};
-ghost use Rattle.line_engine.specs.Reply.{reply_text, out_of_memory as out_of_memory_reply};
+ghost use Rattle.reply_text.specs.Text.{reply_text};
+ghost use Rattle.reply_text.specs.declared.reply.Reply.TheVariants.{OutOfMemory};
 ghost use Rattle.line_engine.specs.Run.{Serves, IsCaused};
-ghost use Rattle.line_engine.specs.Served.{Served, Replies, RepliesPart, TakesFront, IsNext, IsLast, reply_bytes, request_in};
+ghost use Rattle.line_engine.specs.Served.{Served, TakesPart};
+ghost use Rattle.line_engine.specs.State.{State, empty_state};
 ghost use Rattle.line_engine.specs.declared.limits.Limits.{Limits};
-ghost use Rattle.line_engine.specs.Fetch.{ahead, source_asked};
-ghost use Rattle.line_engine.specs.View.{source_of};
 
 use crate::engine::{Answered, Engine};
-use crate::fetch::{Asked, Next, fetch};
-use crate::input::Input;
 use crate::limits::Limits;
-use crate::line::SourceLine;
-use crate::line_buffer::LineBuffer;
-use crate::refusal::NoMemory;
+use crate::no_memory::NoMemory;
 use crate::status::Status;
 use io_edges::{Disk, Failed, Sink, Source};
+use line_reader::LineReader;
 use source_steps::Steps;
 use std::alloc::Global;
 use std::marker::Brand;
@@ -35,9 +34,7 @@ const REPLY_ROOM: u64 = 4_096;
 #[derive(Drop)]
 struct Session {
     engine: Engine,
-    input: Input,
-    first: LineBuffer,
-    second: LineBuffer,
+    reader: LineReader,
     out: OutText,
 }
 
@@ -52,9 +49,9 @@ pub fn serve<S: Source, K: Sink, D: Disk>(
 ) -> Status
     requires { AreLimits limits.now }
     ensures serves { Serves result limits.now empty_state (S.left source.old) (S.left source.new) (K.taken sink.old) (K.taken sink.new) }
-    ensures cause { IsCaused result (S.faults source.old) (S.faults source.new) (K.faults sink.old) (K.faults sink.new) }
-    ensures source_later { S.faults source.old ≤ S.faults source.new }
-    ensures sink_later { K.faults sink.old ≤ K.faults sink.new }
+    ensures cause { IsCaused result (record { source = S.faults source.old; sink = K.faults sink.old; disk = D.faults disk.old })
+        (record { source = S.faults source.new; sink = K.faults sink.new; disk = D.faults disk.new }) }
+    ensures untouched { result ≡ Status.NoMemory → (source.new ≡ source.old) × (sink.new ≡ sink.old) }
     ensures disk { disk.new ≡ disk.old }
 {
     serve_counted::<S, K, D, Brand>(alloc, limits, source, sink, disk, Blank::new(1))
@@ -74,9 +71,9 @@ fn serve_counted<S: Source, K: Sink, D: Disk, L: Ledger>(
     requires parts { L.parts ≡ blank.parts }
     requires some { 0 < blank.parts }
     ensures serves { Serves result limits.now empty_state (S.left source.old) (S.left source.new) (K.taken sink.old) (K.taken sink.new) }
-    ensures cause { IsCaused result (S.faults source.old) (S.faults source.new) (K.faults sink.old) (K.faults sink.new) }
-    ensures source_later { S.faults source.old ≤ S.faults source.new }
-    ensures sink_later { K.faults sink.old ≤ K.faults sink.new }
+    ensures cause { IsCaused result (record { source = S.faults source.old; sink = K.faults sink.old; disk = D.faults disk.old })
+        (record { source = S.faults source.new; sink = K.faults sink.new; disk = D.faults disk.new }) }
+    ensures untouched { result ≡ Status.NoMemory → (source.new ≡ source.old) × (sink.new ≡ sink.old) }
     ensures disk { disk.new ≡ disk.old }
 {
     let mut steps = Steps::<L>::start(blank);
@@ -89,20 +86,17 @@ fn serve_counted<S: Source, K: Sink, D: Disk, L: Ledger>(
 // Takes all the memory that reading a request and the usual reply need.
 fn open(alloc: Global, limits: &Limits) -> Result<Session, NoMemory>
     requires { AreLimits limits.now }
-    ensures engine { IfOk result (λ session. session.engine ≡ record { limits = limits.now; state = empty_state; calls = 0 }) }
-    ensures input { IfOk result (λ session. session.input ≡ record { unread = []; allowance = limits.now.session_bytes; ended = false }) }
+    ensures engine { IfOk result (λ session. session.engine ≡ record { limits = limits.now; live = []; next = 0; calls = 0 }) }
+    ensures input { IfOk result (λ session. session.reader.input ≡ record { unread = []; allowance = limits.now.session_bytes; ended = false }) }
+    ensures given { IfOk result (λ session. (start : Option (List ℕ)) → HasGiven limits.now.session_bytes start start session.reader.input []) }
     ensures room { IfOk result (λ session. 4096 ≤ room_of session.out) }
 {
-    let first = LineBuffer::new(alloc)?;
-    let second = LineBuffer::new(alloc)?;
-    let input = Input::new(alloc, limits.session_bytes)?;
+    let reader = LineReader::new(alloc, limits.session_bytes)?;
     let mut out = OutText::empty(alloc);
     out.reserve(REPLY_ROOM)?;
     Ok(Session {
         engine: Engine::over(alloc, limits)?,
-        input,
-        first,
-        second,
+        reader,
         out,
     })
 }
@@ -114,130 +108,68 @@ fn serve_all<S: Source, K: Sink, D: Disk, L: Ledger>(
     disk: &mut D,
     steps: &mut Steps<L>,
 ) -> Status
-    requires going { session.old.input.ended ≡ false }
-    requires calls { session.old.engine.calls + ahead session.old.input ≤ 2 ^ 50 }
+    requires known { KnowsEnd session.old.reader.input (S.left source.old) }
+    requires calls { session.old.engine.calls + ahead session.old.reader.input ≤ 2 ^ 50 }
     ensures serves { (limits : Limits) (start : State) (left taken : Option (List ℕ)) →
-        Served limits start left (S.left source.old) taken (K.taken sink.old) session.old.input session.old.engine →
+        Served limits start left (S.left source.old) taken (K.taken sink.old) session.old.reader.input session.old.engine →
         Serves result limits start left (S.left source.new) taken (K.taken sink.new) }
-    ensures cause { IsCaused result (S.faults source.old) (S.faults source.new) (K.faults sink.old) (K.faults sink.new) }
-    ensures source_later { S.faults source.old ≤ S.faults source.new }
-    ensures sink_later { K.faults sink.old ≤ K.faults sink.new }
+    ensures cause { IsCaused result (record { source = S.faults source.old; sink = K.faults sink.old; disk = D.faults disk.old })
+        (record { source = S.faults source.new; sink = K.faults sink.new; disk = D.faults disk.new }) }
+    ensures memory { ¬ (result ≡ Status.NoMemory) }
     ensures disk { disk.new ≡ disk.old }
 {
     'requests: loop {
-        if let Some(status) = serve_next(session, source, sink, disk, steps) {
+        if let Err(status) = serve_next(session, source, sink, disk, steps) {
             return status;
         }
     }
 }
 
-// Reads, answers and writes one request; the status where there is no further one.
+// Reads, answers and writes one request, or says how the session ends.
 fn serve_next<S: Source, K: Sink, D: Disk, L: Ledger>(
     session: &mut Session,
     source: &mut S,
     sink: &mut K,
     disk: &mut D,
     steps: &mut Steps<L>,
-) -> Option<Status>
-    requires going { session.old.input.ended ≡ false }
-    requires calls { session.old.engine.calls + ahead session.old.input ≤ 2 ^ 50 }
-    ensures served { IfNone result ((limits : Limits) (start : State) (left taken : Option (List ℕ)) →
-        Served limits start left (S.left source.old) taken (K.taken sink.old) session.old.input session.old.engine →
-        Served limits start left (S.left source.new) taken (K.taken sink.new) session.new.input session.new.engine) }
-    ensures serves { IfSome result (λ status. (limits : Limits) (start : State) (left taken : Option (List ℕ)) →
-        Served limits start left (S.left source.old) taken (K.taken sink.old) session.old.input session.old.engine →
+) -> Result<(), Status>
+    requires known { KnowsEnd session.old.reader.input (S.left source.old) }
+    requires calls { session.old.engine.calls + ahead session.old.reader.input ≤ 2 ^ 50 }
+    ensures served { OnOk result ((limits : Limits) (start : State) (left taken : Option (List ℕ)) →
+        Served limits start left (S.left source.old) taken (K.taken sink.old) session.old.reader.input session.old.engine →
+        Served limits start left (S.left source.new) taken (K.taken sink.new) session.new.reader.input session.new.engine) }
+    ensures serves { IfErr result (λ status. (limits : Limits) (start : State) (left taken : Option (List ℕ)) →
+        Served limits start left (S.left source.old) taken (K.taken sink.old) session.old.reader.input session.old.engine →
         Serves status limits start left (S.left source.new) taken (K.taken sink.new)) }
-    ensures cause { IfSome result (λ status. IsCaused status (S.faults source.old) (S.faults source.new) (K.faults sink.old) (K.faults sink.new)) }
-    ensures going { IfNone result (session.new.input.ended ≡ false) }
-    ensures ahead { IfNone result (ahead session.new.input < ahead session.old.input) }
-    ensures calls { IfNone result (session.new.engine.calls + ahead session.new.input ≤ 2 ^ 50) }
-    ensures source_later { S.faults source.old ≤ S.faults source.new }
-    ensures sink_later { K.faults sink.old ≤ K.faults sink.new }
+    ensures cause { IfErr result (λ status. IsCaused status (record { source = S.faults source.old; sink = K.faults sink.old; disk = D.faults disk.old })
+        (record { source = S.faults source.new; sink = K.faults sink.new; disk = D.faults disk.new })) }
+    ensures source_same { OnOk result (S.faults source.new ≡ S.faults source.old) }
+    ensures sink_same { OnOk result (K.faults sink.new ≡ K.faults sink.old) }
+    ensures memory { IfErr result (λ status. ¬ (status ≡ Status.NoMemory)) }
+    ensures known { OnOk result (KnowsEnd session.new.reader.input (S.left source.new)) }
+    ensures ahead { OnOk result (ahead session.new.reader.input < ahead session.old.reader.input) }
+    ensures calls { OnOk result (session.new.engine.calls + ahead session.new.reader.input ≤ 2 ^ 50) }
     ensures disk { disk.new ≡ disk.old }
 {
-    match fetch(
-        source,
-        &mut session.input,
-        &mut session.first,
-        &mut session.second,
-    ) {
-        Next::Request(asked) => serve_asked(session, asked, sink, disk, steps),
-        Next::End => Some(Status::Done),
-        Next::Limit => Some(Status::SessionLimit),
-        Next::Fault => Some(Status::ReadFault),
-    }
-}
-
-// Answers the request in the buffers and writes the reply; the status where there is no further request.
-fn serve_asked<K: Sink, D: Disk, L: Ledger>(
-    session: &mut Session,
-    asked: Asked,
-    sink: &mut K,
-    disk: &mut D,
-    steps: &mut Steps<L>,
-) -> Option<Status>
-    requires { session.old.engine.calls < 2 ^ 50 }
-    ensures next { IfNone result (IsNext session.old.input session.old.engine session.new.engine (request_in asked session.old.first session.old.second) (K.taken sink.old) (K.taken sink.new)) }
-    ensures ends { IfSome result (λ status. IsLast status session.old.input session.old.engine session.new.engine (request_in asked session.old.first session.old.second) (K.taken sink.old) (K.taken sink.new)) }
-    ensures cause { IfSome result (λ status. IsCaused status 0 0 (K.faults sink.old) (K.faults sink.new)) }
-    ensures input { session.new.input ≡ session.old.input }
-    ensures limits { session.new.engine.limits ≡ session.old.engine.limits }
-    ensures calls { session.new.engine.calls ≡ session.old.engine.calls + 1 }
-    ensures sink_later { K.faults sink.old ≤ K.faults sink.new }
-    ensures disk { disk.new ≡ disk.old }
-{
-    if reply_to(session, asked, sink, disk, steps).is_err() {
-        return Some(Status::WriteFault);
-    }
-    if session.input.has_ended() {
-        return Some(Status::Done);
-    }
-    None
-}
-
-// Answers the request in the buffers, and writes the reply.
-fn reply_to<K: Sink, D: Disk, L: Ledger>(
-    session: &mut Session,
-    asked: Asked,
-    sink: &mut K,
-    disk: &mut D,
-    steps: &mut Steps<L>,
-) -> Result<(), Failed>
-    requires { session.old.engine.calls < 2 ^ 50 }
-    ensures replies { OnOk result (Replies session.old.engine session.new.engine (request_in asked session.old.first session.old.second) (K.taken sink.old) (K.taken sink.new)) }
-    ensures part { OnErr result (RepliesPart session.old.engine session.new.engine (request_in asked session.old.first session.old.second) (K.taken sink.old) (K.taken sink.new)) }
-    ensures cause { HasCause (K.faults sink.old) (K.faults sink.new) result }
-    ensures input { session.new.input ≡ session.old.input }
-    ensures limits { session.new.engine.limits ≡ session.old.engine.limits }
-    ensures calls { session.new.engine.calls ≡ session.old.engine.calls + 1 }
-    ensures disk { disk.new ≡ disk.old }
-{
+    session.reader.next_request(source)?;
     session.out.clear();
     let answered = session.engine.answer(
         disk,
-        session.first.as_first(),
-        source_line(asked, &session.second),
+        session.reader.first_line(),
+        session.reader.source_line(),
         &mut session.out,
         steps,
     );
-    write_reply(sink, answered, &session.out)
-}
-
-// The source line of a request that was read.
-fn source_line(asked: Asked, second: &LineBuffer) -> SourceLine<'_>
-    ensures { source_of result ≡ source_asked asked second.now }
-{
-    match asked {
-        Asked::WithSource => second.as_source(),
-        Asked::WithoutSource => SourceLine::Missing,
-        Asked::Alone => SourceLine::NotTaken,
+    match write_reply(sink, answered, &session.out) {
+        Ok(()) => Ok(()),
+        Err(Failed) => Err(Status::WriteFault),
     }
 }
 
 // Writes the reply, or the fixed one where there was no memory for it.
 fn write_reply<K: Sink>(sink: &mut K, answered: Answered, out: &OutText) -> Result<(), Failed>
     ensures bytes { OnOk result (Appends (K.taken sink.old) (K.taken sink.new) (reply_bytes answered out.now.bytes)) }
-    ensures part { OnErr result (TakesFront (K.taken sink.old) (K.taken sink.new) (reply_bytes answered out.now.bytes)) }
+    ensures part { OnErr result (TakesPart (K.taken sink.old) (K.taken sink.new) (reply_bytes answered out.now.bytes)) }
     ensures cause { HasCause (K.faults sink.old) (K.faults sink.new) result }
 {
     match answered {
@@ -249,7 +181,7 @@ fn write_reply<K: Sink>(sink: &mut K, answered: Answered, out: &OutText) -> Resu
 // The reply where there is no memory. It needs none.
 #[tactic(auto, using(crate::proofs::Serving::out_of_memory_text))]
 fn out_of_memory() -> &'static [u8]
-    ensures { result.now ≡ reply_text out_of_memory_reply }
+    ensures { result.now ≡ reply_text OutOfMemory }
 {
     b"{\"error\":{\"reason\":\"out_of_memory\"}}\n"
 }
@@ -258,7 +190,7 @@ fn out_of_memory() -> &'static [u8]
 #[tactic(auto, using(crate::proofs::Writing::writes))]
 fn write_whole<K: Sink>(sink: &mut K, piece: &[u8]) -> Result<(), Failed>
     ensures bytes { OnOk result (Appends (K.taken sink.old) (K.taken sink.new) piece.now) }
-    ensures part { OnErr result (TakesFront (K.taken sink.old) (K.taken sink.new) piece.now) }
+    ensures part { OnErr result (TakesPart (K.taken sink.old) (K.taken sink.new) piece.now) }
     ensures cause { HasCause (K.faults sink.old) (K.faults sink.new) result }
 {
     let mut rest = piece;

@@ -3,6 +3,8 @@
 ghost use Rattle.std.specs.Prelude.{◌≡◌};
 ghost use Rattle.line_engine.specs.Exit.{exit_status};
 
+use line_reader::Stop;
+
 /// How the program ends. The number is its exit status.
 #[derive(Clone, Copy, Debug, PartialEq, Eq)]
 pub enum Status {
@@ -32,5 +34,20 @@ impl Status {
         ensures { result ≡ exit_status self }
     {
         self as u8
+    }
+}
+
+impl From<Stop> for Status {
+    ghost use Rattle.std.specs.Prelude.{◌≡◌};
+    ghost use Rattle.line_engine.specs.Exit.{status_of};
+
+    ghost from_gives = { λ stop status. status ≡ status_of stop };
+
+    fn from(stop: Stop) -> Status {
+        match stop {
+            Stop::End => Status::Done,
+            Stop::Limit => Status::SessionLimit,
+            Stop::Fault => Status::ReadFault,
+        }
     }
 }

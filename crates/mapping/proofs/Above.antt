@@ -4,7 +4,7 @@ use Rattle.std.proofs.lemmas.Bool.{false≢true, eqb-true, eq-eqb, ltb-true, lt-
 use Rattle.std.proofs.lemmas.Cmp.{nat_cmp_total, tied_itself}
 use Rattle.std.proofs.lemmas.List.{get_or_past}
 use Rattle.std.specs.Cmp.Lexicographic.{slice_cmp}
-use Rattle.mapping.specs.Names.{dot, goes_on, lies_above}
+use Rattle.mapping_body.specs.Names.{dot, goes_on, lies_above}
 use Rattle.mapping.specs.Mapping.{Mapping, root_scope, scope_at, outer, is_above, IsAbove, home_of, reaches, included}
 use Rattle.mapping.specs.IsMapping.{IsMapping}
 

@@ -4,7 +4,7 @@ use Rattle.std.proofs.lemmas.List.{get_or-map, length-map}
 use Rattle.std.proofs.lemmas.Slice.Eq.{bytes_eq-Decides}
 use Rattle.std.specs.List.{position_from}
 use Rattle.mapping.specs.Mapping.{Mapping, Field, no_field, field_at, field_named, scope_named}
-use Rattle.mapping.proofs.Walks.{split}
+use Rattle.mapping_body.proofs.Walks.{split}
 
 -- what is found at a place has the name that was looked for
 placed : (n : Seq ℕ) (names : Seq (Seq ℕ)) (at i : ℕ) → position_from (λ other. bytes_eq other n) at names ≡ Some i

@@ -1,24 +1,17 @@
 -- What is kept of a mapping, looked up.
 use Rattle.std.proofs.Common.{◌≡◌, ℕ, zero, suc, ◌+◌, ◌-◌, ◌<◌, ◌≤◌, ◌==◌, ◌&&◌, ◌||◌, List as Seq, [], ◌∷◌, map, length, drop, subst, get_or, refl, sym, ap, ◌∙◌, arith, Bool, cond, Some, option_map, bytes_eq}
 use Rattle.std.proofs.lemmas.List.{length-map, get_or-map}
-use Rattle.std.specs.List.{position_from}
 use Rattle.mapping.specs.declared.scope.ScopePath.{ScopePath}
 use Rattle.mapping.specs.declared.scope.Scope.{Scope as Part}
-use Rattle.mapping.specs.Mapping.{Mapping, Scope, root_scope, scope_at, reaches}
+use Rattle.tree_json.specs.Value.{JsonValue}
+use Rattle.mapping_body.specs.declared.draft.Draft.{Draft as Made}
+use Rattle.mapping_body.specs.declared.relation.Relation.{Relation as Tied}
+use Rattle.mapping_body.specs.Fields.{Draft, draft_paths, drafts_of}
+use Rattle.mapping_body.specs.Kept.{made_of, relation_of}
+use Rattle.mapping_body.specs.Names.{place_of}
+use Rattle.mapping_body.specs.Relations.{relations_of}
+use Rattle.mapping.specs.Mapping.{Mapping, Scope, field_at, field_by, field_named, mapping_of, no_field, no_relation, reaches, relation_at, root_scope, scope_at, scope_paths}
 use Rattle.mapping.specs.Stored.{Parts, root_part, scope_seen, scope_parts, part_at, reaches_among}
-use Rattle.mapping.specs.Names.{place_of}
-use Rattle.mapping.proofs.Walks.{split}
-
--- the place one further on
-further : (t : Seq ℕ → Bool) (at : ℕ) (xs : Seq (Seq ℕ)) → position_from t (at + 1) xs ≡ option_map (λ n. n + 1) (position_from t at xs)
-further t at [] = refl
-further t at (x ∷ xs) =
-    split (t x)
-    (λ same. rw same refl)
-    (λ other. rw other (further t (at + 1) xs))
-
-pub place_behind : (path : Seq ℕ) (xs : Seq (Seq ℕ)) → position_from (λ other. bytes_eq other path) 1 xs ≡ option_map (λ n. n + 1) (place_of path xs)
-place_behind path xs = further (λ other. bytes_eq other path) 0 xs
 
 pub length_kept : {A B : Type 0} (f : A → B) (xs : Seq A) (ys : Seq B) → map f xs ≡ ys → length ys ≡ length xs
 length_kept f xs ys e = ap length (sym e) ∙ length-map xs f
@@ -27,13 +20,6 @@ pub at_kept : {A B : Type 0} (f : A → B) (xs : Seq A) (ys : Seq B) (i : ℕ) (
 at_kept f xs ys i x e kept h is = ap (λ zs. get_or zs i e) (sym kept) ∙ get_or-map f xs i x e h ∙ ap f (sym is)
 
 -- ---- scopes
-
-pub place_first : (ps : Seq ScopePath) (path : Seq ℕ) (x : ScopePath) → 0 < length ps → x ≡ get_or ps 0 x
-    → place_of path (map (λ p. p.bytes.items) ps) ≡ cond (bytes_eq x.bytes.items path) (Some 0) (option_map (λ n. n + 1) (place_of path (map (λ p. p.bytes.items) (drop 1 ps))))
-place_first [] path x h e = absurd (omega arith)
-place_first (p ∷ ps) path x h e =
-    let motive : ScopePath → Type 0 = λ y. cond (bytes_eq p.bytes.items path) (Some 0) (position_from (λ other. bytes_eq other path) 1 (map (λ q. q.bytes.items) ps)) ≡ cond (bytes_eq y.bytes.items path) (Some 0) (option_map (λ n. n + 1) (place_of path (map (λ q. q.bytes.items) ps))) in
-    subst motive (sym e) (ap (cond (bytes_eq p.bytes.items path) (Some 0)) (place_behind path (map (λ q. q.bytes.items) ps)))
 
 pub scope_kept : (ss : Seq Part) (scopes : Seq Scope) (i : ℕ) (x : Part) → map scope_seen ss ≡ map scope_parts scopes → i < length scopes → x ≡ get_or ss i x
     → scope_parts (get_or scopes i root_scope) ≡ scope_seen x
@@ -76,3 +62,38 @@ part_missing (s ∷ ss) zero h = absurd (omega arith)
 part_missing (s ∷ ss) (suc i) h = let more : length ss ≤ i = omega arith in part_missing ss i more
 
 pub ruleset parts = (part_found, part_missing)
+
+-- ---- fields and relations, as bodies keep them
+
+pub field_count : (bodies : Seq JsonValue) (dynamic : Bool) (ds : Seq Made) → map made_of ds ≡ drafts_of bodies → length (mapping_of bodies dynamic).fields ≡ length ds
+field_count bodies dynamic ds e = length-map (drafts_of bodies) (field_by (scope_paths (drafts_of bodies))) ∙ ap length (sym e) ∙ length-map ds made_of
+
+pub field_seen : (bodies : Seq JsonValue) (dynamic : Bool) (ds : Seq Made) (i : ℕ) (x : Made) → map made_of ds ≡ drafts_of bodies → i < length ds → x ≡ get_or ds i x
+    → field_at (mapping_of bodies dynamic) i ≡ field_by (scope_paths (drafts_of bodies)) (made_of x)
+field_seen bodies dynamic ds i x e h is =
+    let many : i < length (drafts_of bodies) = omega (arith, ap length e, length-map ds made_of) in
+    let draft : get_or (drafts_of bodies) i (made_of x) ≡ made_of x = at_kept made_of ds (drafts_of bodies) i x (made_of x) e h is in
+    get_or-map (field_by (scope_paths (drafts_of bodies))) (drafts_of bodies) i (made_of x) no_field many ∙ ap (field_by (scope_paths (drafts_of bodies))) draft
+
+pub relations_are : (bodies : Seq JsonValue) (dynamic : Bool) → (mapping_of bodies dynamic).relations ≡ relations_of bodies
+relations_are bodies dynamic = refl
+
+pub relation_seen : (bodies : Seq JsonValue) (dynamic : Bool) (rs : Seq Tied) (i : ℕ) (x : Tied) → map relation_of rs ≡ relations_of bodies → i < length rs → x ≡ get_or rs i x
+    → relation_at (mapping_of bodies dynamic) i ≡ relation_of x
+relation_seen bodies dynamic rs i x e h is = at_kept relation_of rs (relations_of bodies) i x no_relation e h is
+
+pub relation_many : (bodies : Seq JsonValue) (dynamic : Bool) (rs : Seq Tied) → map relation_of rs ≡ relations_of bodies → length (mapping_of bodies dynamic).relations ≡ length rs
+relation_many bodies dynamic rs e = ap length (sym e) ∙ length-map rs relation_of
+
+by_path : (paths : Seq (Seq ℕ)) (ds : Seq Draft) → map (λ f. f.path) (map (field_by paths) ds) ≡ draft_paths ds
+by_path paths [] = refl
+by_path paths (d ∷ ds) = ap (λ (rest : Seq (Seq ℕ)). d.path ∷ rest) (by_path paths ds)
+
+pub field_place : (bodies : Seq JsonValue) (dynamic : Bool) (path : Seq ℕ) → place_of path (draft_paths (drafts_of bodies)) ≡ field_named (mapping_of bodies dynamic) path
+field_place bodies dynamic path = ap (place_of path) (sym (by_path (scope_paths (drafts_of bodies)) (drafts_of bodies)))
+
+pub field_many : (bodies : Seq JsonValue) (dynamic : Bool) → length (mapping_of bodies dynamic).fields ≡ length (drafts_of bodies)
+field_many bodies dynamic = length-map (drafts_of bodies) (field_by (scope_paths (drafts_of bodies)))
+
+pub bodies_are : (bodies : Seq JsonValue) (dynamic : Bool) → (mapping_of bodies dynamic).bodies ≡ bodies
+bodies_are bodies dynamic = refl

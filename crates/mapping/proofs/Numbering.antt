@@ -8,7 +8,7 @@ use Rattle.std.proofs.lemmas.List.Sorted.{All-permutation, sum_by-IsPermutation}
 use Rattle.std.specs.List.{AllByRecursion, flat_map, range_with_len, count_by}
 use Rattle.mapping.specs.Mapping.{Mapping, outer, kids}
 use Rattle.mapping.specs.IsMapping.{IsMapping}
-use Rattle.mapping.proofs.Walks.{split}
+use Rattle.mapping_body.proofs.Walks.{split}
 use Rattle.mapping.proofs.Nearest.{append_nil}
 
 -- ---- what holds of each

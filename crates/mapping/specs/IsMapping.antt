@@ -1,9 +1,11 @@
 -- How the scopes and the fields of a mapping stand to one another: what proofs about the objects of a tree ask of it.
-use Rattle.std.specs.Prelude.{ℕ, ◌-◌, ◌<◌, ◌≤◌, ◌≡◌, true, false, List, length, map}
+use Rattle.std.specs.Prelude.{ℕ, ◌-◌, ◌<◌, ◌≤◌, ◌≡◌, true, false, List, length, map, Some}
 use Rattle.std.specs.List.{range_with_len}
 use Rattle.std.specs.List.Sorted.{IsPermutation}
-use Rattle.mapping.specs.Names.{AreAscending, lies_above, names_between}
-use Rattle.mapping.specs.Mapping.{Mapping, field_at, scope_at, home_of, outer, root_scope, IsAbove}
+use Rattle.mapping_body.specs.Names.{AreAscending, lies_above, names_between}
+use Rattle.mapping.specs.Mapping.{Mapping, field_at, field_named, kind_at, relation_at, scope_at, home_of, outer, root_scope, IsAbove}
+use Rattle.mapping_body.specs.declared.kind.Kind.TheVariants.{Nested}
+use Rattle.mapping_body.specs.Relations.{IsAncestor}
 
 -- of the scopes that lie above a path, the nearest: no other lies between
 pub record IsNearestAbove (m : Mapping) (path : List ℕ) (scope : ℕ) : Type 0 where
@@ -31,3 +33,9 @@ pub record IsMapping (m : Mapping) : Type 0 where
   -- the order has the number of each nested path once, by the byte order of the paths
   pub numbers : IsPermutation (range_with_len 1 (length m.scopes - 1)) m.order
   pub ascending : AreAscending (map (λ n. (scope_at m n).path) m.order)
+  -- a scope is nested exactly where a field of kind nested has its path
+  pub has_field : (n : ℕ) → 0 < n → n < length m.scopes → (f : ℕ) × (f < length m.fields) × (field_named m (scope_at m n).path ≡ Some f) × (kind_at m f ≡ Nested)
+  pub has_scope : (f : ℕ) → f < length m.fields → kind_at m f ≡ Nested → (n : ℕ) × (0 < n) × (n < length m.scopes) × ((scope_at m n).path ≡ (field_at m f).path)
+  -- a parent is a relation of the mapping, and none is its own ancestor
+  pub parents : (r p : ℕ) → (relation_at m r).parent ≡ Some p → p < length m.relations
+  pub founded : (r : ℕ) → IsAncestor m.relations r r → ⊥

@@ -1,12 +1,15 @@
--- What the bodies of a mapping say together: numbered fields, scopes and relations.
-use Rattle.std.specs.Prelude.{ℕ, zero, suc, ◌+◌, ◌-◌, ◌≡◌, ◌==◌, Bool, true, false, ◌&&◌, ◌||◌, not, if◌then◌else◌, nat_le, nat_lt, List, [], ◌∷◌, ◌++◌, length, map, filter, codes, Option, Some, None, is_some, option_and_then, get_or}
-use Rattle.std.specs.List.{range_with_len}
-use Rattle.tree_json.specs.Value.{JsonValue}
-use Rattle.mapping.specs.declared.kind.Kind.{Kind}
-use Rattle.mapping.specs.declared.kind.Kind.TheVariants.{Object}
-use Rattle.mapping.specs.Names.{has_dot, joined, in_byte_order, place_of, lies_above, names_between}
-use Rattle.mapping.specs.Body.{Property, properties_of, kind_of, is_nested, is_true, member_named, index_of}
-use Rattle.mapping.specs.Relations.{Relation, relations_of}
+-- A mapping: what bodies say together, as numbered fields with their homes, scopes and relations.
+use Rattle.std.specs.Prelude.{ℕ, zero, suc, ◌+◌, ◌≡◌, ◌==◌, Bool, true, false, ◌&&◌, ◌||◌, if◌then◌else◌, nat_le, nat_lt, List, [], ◌∷◌, length, map, filter, Option, Some, None, option_and_then, get_or}
+use Rattle.std.specs.List.{list_any}
+use Rattle.tree_json.specs.Value.{JsonValue, null}
+use Rattle.mapping_body.specs.declared.kind.Kind.{Kind}
+use Rattle.mapping_body.specs.declared.kind.Kind.TheVariants.{Object}
+use Rattle.mapping_body.specs.Names.{has_dot, joined, place_of, lies_above, names_between}
+use Rattle.mapping_body.specs.Body.{is_nested, index_of}
+use Rattle.mapping_body.specs.Bodies.{is_number}
+use Rattle.mapping_body.specs.Fields.{Draft, draft_paths, drafts_of}
+use Rattle.mapping_body.specs.Order.{order_from}
+use Rattle.mapping_body.specs.Relations.{Relation, relation_names, relations_of}
 
 -- a field: its path, its kind, the scope that is its home, and the mapping generation that added it, from 1
 pub record Field : Type 0 where
@@ -25,47 +28,16 @@ pub record Scope : Type 0 where
   pub in_root : Bool
   pub since : ℕ
 
--- A mapping: the JSON bodies that made it, in order, the name of its index, its fields from number 0, its scopes with
+-- A mapping: the JSON bodies that made it, in order, whether sources add to it, the name of its index, its fields from number 0, its scopes with
 -- the root as number 0, the numbers of the nested scopes in byte order of their paths, and its relations from number 0.
 pub record Mapping : Type 0 where
   pub bodies : List JsonValue
+  pub dynamic : Bool
   pub index : List ℕ
   pub fields : List Field
   pub scopes : List Scope
   pub order : List ℕ
   pub relations : List Relation
-
--- ---- from bodies to fields
-
--- a field as a body says it, before homes are known
-pub record Draft : Type 0 where
-  pub path : List ℕ
-  pub kind : Kind
-  pub in_parent : Bool
-  pub in_root : Bool
-  pub since : ℕ
-
-abbrev pub draft_of : ℕ → Property → Draft
-draft_of g p = record {
-  path = p.path;
-  kind = kind_of p.form;
-  in_parent = is_true (member_named p.form (codes "include_in_parent"));
-  in_root = is_true (member_named p.form (codes "include_in_root"));
-  since = g;
-}
-
-abbrev pub draft_paths : List Draft → List (List ℕ)
-draft_paths ds = map (λ d. d.path) ds
-
--- the fields that a body adds stand behind those that are known, in byte order of their paths
-abbrev pub with_body : ℕ → List Draft → JsonValue → List Draft
-with_body g known body =
-    known ++ in_byte_order (λ d. d.path)
-    (filter (λ d. not (is_some (place_of d.path (draft_paths known)))) (map (draft_of g) (properties_of body)))
-
-abbrev pub drafts_from : ℕ → List Draft → List JsonValue → List Draft
-drafts_from g known [] = known
-drafts_from g known (body ∷ bodies) = drafts_from (g + 1) (with_body g known body) bodies
 
 -- ---- scopes and homes
 
@@ -106,29 +78,23 @@ field_by paths d = record { path = d.path; kind = d.kind; home = nearest paths d
 abbrev pub fields_by : List Draft → List Field
 fields_by ds = map (field_by (scope_paths ds)) ds
 
-abbrev pub order_by : List (List ℕ) → List ℕ
-order_by paths = in_byte_order (λ n. get_or paths n []) (range_with_len 1 (length paths - 1))
-
 -- ---- the mapping
 
-abbrev pub index_named : List JsonValue → List ℕ
-index_named [] = codes "main"
-index_named (body ∷ bodies) = index_of body
-
-abbrev pub mapping_by : List JsonValue → List Draft → Mapping
-mapping_by bodies ds = record {
+abbrev pub mapping_by : List JsonValue → Bool → List Draft → Mapping
+mapping_by bodies dynamic ds = record {
   bodies = bodies;
-  index = index_named bodies;
+  dynamic = dynamic;
+  index = index_of (get_or bodies 0 null);
   fields = fields_by ds;
   scopes = scopes_by ds;
-  order = order_by (scope_paths ds);
+  order = order_from 1 (scope_paths ds);
   relations = relations_of bodies;
 }
 
 -- Fields are numbered from 0, scopes of nested paths from 1 and relations from 0, in order of the bodies that add them
 -- and, within one body, in byte order of their paths. Plain objects, nested fields and the join field are numbered too.
-unfoldable pub mapping_of : List JsonValue → Mapping
-mapping_of bodies = mapping_by bodies (drafts_from 1 [] bodies)
+abbrev pub mapping_of : List JsonValue → Bool → Mapping
+mapping_of bodies dynamic = mapping_by bodies dynamic (drafts_of bodies)
 
 -- ---- look-ups
 
@@ -168,7 +134,7 @@ abbrev pub scope_named : Mapping → List ℕ → Option ℕ
 scope_named m path = place_of path (map (λ s. s.path) m.scopes)
 
 abbrev pub relation_named : Mapping → List ℕ → Option ℕ
-relation_named m name = place_of name (map (λ r. r.name) m.relations)
+relation_named m name = place_of name (relation_names m.relations)
 
 -- the nested field of a scope, and none for the root
 abbrev pub scope_field_of : Mapping → ℕ → Option ℕ
@@ -182,7 +148,15 @@ names_to m f = names_between (scope_at m (home_of m f)).path (field_at m f).path
 abbrev pub kids : Mapping → ℕ → List ℕ
 kids m s = filter (λ n. outer m n == s) m.order
 
+-- some relation has this one as its parent
+abbrev pub is_parent : Mapping → ℕ → Bool
+is_parent m r = list_any (λ other. is_number r other.parent) m.relations
+
 -- ---- what stands in the mapping of a generation
+
+-- the last generation
+abbrev pub generation_of : Mapping → ℕ
+generation_of m = length m.bodies
 
 abbrev pub knows : Mapping → ℕ → ℕ → Bool
 knows m g f = nat_le (field_at m f).since g

@@ -1,25 +1,16 @@
-//! Mappings: what their bodies say together, as numbered fields, scopes and relations.
+//! Mappings: what their bodies say together, as numbered fields with their homes, scopes and relations.
 //!
-//! Stands on `tree_json`. `specs/Mapping` says what a mapping is and `specs/IsMapping` what holds of each; the look-ups of
-//! `Mapping` answer as these say. Others cite the look-ups and the law `scopes_form_chains`. Begin with `specs/Body`.
+//! Stands on `mapping_body`, which says which bodies are a mapping. `specs/Mapping` says what a mapping is, `specs/IsMapping`
+//! what holds of each, and `specs/Growth` how a further body adds to it; the look-ups of `Mapping` answer as these say.
+//! Others cite the look-ups and the law `scopes_form_chains`. Begin with `specs/Mapping`.
 #![tactic(auto)]
 
-mod body;
-mod copy;
-mod judge;
-mod kind;
 mod law;
 mod mapping;
-mod names;
-mod order;
-mod property;
-mod refusal;
-mod relation;
 mod scope;
 #[cfg(test)]
 mod tests;
 
-pub use kind::Kind;
 pub use law::scopes_form_chains;
-pub use mapping::Mapping;
-pub use refusal::{MappingRefusal, NoMemory};
+pub use mapping::{Growth, Mapping};
+pub use mapping_body::{Bytes, Kind, Limit, MappingRefusal, NoMemory};

@@ -1,41 +1,39 @@
-//! A mapping, read from a body, and its look-ups.
-ghost use Rattle.std.specs.Prelude.{◌≡◌, ℕ, List, [], ◌∷◌, ◌-◌, ◌<◌, ◌≤◌, ◌^◌, map, length, drop, ◌==◌, ◌&&◌, ◌||◌, IfOk, IfErr, IfSome, IsOk, IsErrOf, IsTrue, ◌↔◌, Some, None, Option, option_map};
-ghost use Rattle.std.specs.List.{range_with_len};
+//! A mapping, and its look-ups.
+ghost use Rattle.std.specs.Prelude.{◌≡◌, ℕ, List, [], ◌++◌, ◌∷◌, ◌<◌, ◌≤◌, ◌-◌, ◌^◌, map, length, ◌==◌, ◌&&◌, ◌||◌, IfOk, IfSome, IsErrOf, IsTrue, ◌↔◌, Some, None, true, false, get_or};
+ghost use Rattle.tree_json.specs.Value.{null};
 ghost use Rattle.tree_json.specs.View.{view};
+ghost use Rattle.mapping_body.specs.Bodies.{AreBodies, adds, conflict_of, exceeded, is_number};
+ghost use Rattle.mapping_body.specs.Body.{is_body};
+ghost use Rattle.std.specs.List.{list_any};
+ghost use Rattle.mapping_body.specs.Kept.{relation_of};
+ghost use Rattle.mapping_body.specs.Names.{joined};
+ghost use Rattle.mapping_body.specs.declared.refusal.Limit.{Limit};
 ghost use Rattle.mapping.specs.IsMapping.{IsMapping};
-ghost use Rattle.mapping.specs.Mapping.{Mapping, mapping_of, field_at, relation_at, kind_at, home_of, around_of, field_named, field_below, scope_named, relation_named, relation_known, scope_field_of, reaches, included, knows, knows_relation};
-ghost use Rattle.mapping.specs.Names.{AreAscending, joined, place_of};
-ghost use Rattle.mapping.specs.Refusal.{first_refusal, IsFirst};
-ghost use Rattle.mapping.specs.Relations.{relations_of as relations_in};
-ghost use Rattle.mapping.specs.Seen.{relation_of};
+ghost use Rattle.mapping.specs.Mapping.{Mapping, mapping_of, field_at, relation_at, kind_at, home_of, around_of, field_named, field_below, scope_named, relation_named, relation_known, scope_field_of, reaches, included, knows, knows_relation, is_above, is_parent, generation_of};
+ghost use Rattle.mapping.specs.Growth.{IsGrown};
 ghost use Rattle.mapping.specs.Stored.{scope_seen, part_at, reaches_among};
 
-use crate::body::index_of;
-use crate::copy::copied;
-use crate::judge::{refusal_of_forms, refusal_of_rest};
-use crate::kind::Kind;
-use crate::names::{Below, Whole, has_dot, number_of};
-use crate::property::{draft_below, outline_below};
-use crate::refusal::{MappingRefusal, NoMemory};
-use crate::relation::{Relation, pairs_of, relations_of};
-use crate::scope::{Field, Scope, ScopePath, fields, scope_paths, scopes};
+use crate::scope::{Scope, ScopePath, homes, scope_paths, scopes};
+use mapping_body::{
+    Below, Bodies, Kind, MappingRefusal, NoMemory, Relation, Whole, has_dot, lies_above,
+    number_among, order_from,
+};
 use std::alloc::Global;
 use std::marker::Model;
 use tree_json::Json;
 
-/// A mapping: the fields, the scopes and the relations that a body says.
+/// A mapping: the fields, the scopes and the relations that its bodies say.
 #[derive(Drop)]
 pub struct Mapping {
-    body: Json,
-    fields: Vec<Field>,
+    bodies: Bodies,
+    dynamic: bool,
+    homes: Vec<u32>,
     paths: Vec<ScopePath>,
     scopes: Vec<Scope>,
-    relations: Vec<Relation>,
+    by_path: Vec<u32>,
 }
 
 impl Model for Mapping {
-    ghost use Rattle.std.specs.Prelude.{◌∷◌, []};
-    ghost use Rattle.tree_json.specs.View.{view as value};
     ghost use Rattle.mapping.specs.Code.{mapping_code};
     ghost use Rattle.mapping.specs.Mapping.{Mapping as Meaning, mapping_of};
     ghost use Rattle.mapping.specs.Stored.{IsKept};
@@ -44,27 +42,82 @@ impl Model for Mapping {
 
     ghost coded = { mapping_code };
 
-    ghost view = { λ a. mapping_of (value a.body ∷ []) };
+    ghost view = { λ a. mapping_of a.bodies a.dynamic };
 
-    ghost invariant = { λ a. IsKept (mapping_of (value a.body ∷ [])) a.fields.items a.paths.items a.scopes.items a.relations.items };
+    ghost invariant = { λ a. IsKept (mapping_of a.bodies a.dynamic) a.homes.items a.paths.items a.scopes.items a.by_path.items };
+}
+
+/// What becomes of a mapping by a further body.
+#[derive(Drop)]
+pub enum Growth {
+    /// The body adds no property and no relation.
+    Same,
+    /// The mapping with the body.
+    Added(Mapping),
 }
 
 impl Mapping {
-    /// The mapping that a body says. The refusals are looked for in the order of `MappingRefusal`, and the
-    /// first that holds is the answer.
+    /// The mapping of a first body, to which sources don't add.
     pub fn read(alloc: Global, body: &Json) -> Result<Mapping, MappingRefusal>
-        ensures mapping { IfOk result (λ m. m ≡ mapping_of (view body.now ∷ [])) }
+        ensures mapping { IfOk result (λ m. m ≡ mapping_of (view body.now ∷ []) false) }
         ensures is_mapping { IfOk result IsMapping }
-        ensures accepted { IsOk result → first_refusal (view body.now) ≡ None }
-        ensures bad_request { IsErrOf result MappingRefusal.BadRequest → first_refusal (view body.now) ≡ Some MappingRefusal.BadRequest }
-        ensures too_many_fields { IsErrOf result MappingRefusal.TooManyFields → first_refusal (view body.now) ≡ Some MappingRefusal.TooManyFields }
-        ensures too_deep { IsErrOf result MappingRefusal.TooDeep → first_refusal (view body.now) ≡ Some MappingRefusal.TooDeep }
-        ensures too_many_nested { IsErrOf result MappingRefusal.TooManyNested → first_refusal (view body.now) ≡ Some MappingRefusal.TooManyNested }
-        ensures bad_relations { IsErrOf result MappingRefusal.BadRelations → first_refusal (view body.now) ≡ Some MappingRefusal.BadRelations }
-        ensures too_large { IsErrOf result MappingRefusal.TooLarge → first_refusal (view body.now) ≡ Some MappingRefusal.TooLarge }
+        ensures bad_request { IsErrOf result MappingRefusal.BadRequest → is_body (view body.now) ≡ false }
+        ensures no_conflict { (path : List ℕ) → IsErrOf result (MappingRefusal.Conflict path) → ⊥ }
+        ensures too_much { (limit : Limit) → IsErrOf result (MappingRefusal.TooMuch limit) → (is_body (view body.now) ≡ true) × (exceeded (view body.now ∷ []) ≡ Some limit) }
     {
-        let relations = judged_relations(alloc, body)?;
-        Ok(built(alloc, body, relations)?)
+        let bodies = Bodies::read(alloc, body)?;
+        Ok(built(alloc, bodies, false)?)
+    }
+
+    /// The mapping with a further body. The body's `index` and `dynamic` are tested for their form alone.
+    pub fn grown(&self, alloc: Global, body: &Json) -> Result<Growth, MappingRefusal>
+        ensures grown { IfOk result (IsGrown self.now (view body.now)) }
+        ensures bad_request { IsErrOf result MappingRefusal.BadRequest → is_body (view body.now) ≡ false }
+        ensures conflict { (path : List ℕ) → IsErrOf result (MappingRefusal.Conflict path) → (is_body (view body.now) ≡ true) × (conflict_of self.now.bodies (view body.now) ≡ Some path) }
+        ensures too_much { (limit : Limit) → IsErrOf result (MappingRefusal.TooMuch limit) → (is_body (view body.now) ≡ true) × (conflict_of self.now.bodies (view body.now) ≡ None) × (adds self.now.bodies (view body.now) ≡ true) × (exceeded (self.now.bodies ++ view body.now ∷ []) ≡ Some limit) }
+    {
+        match self.bodies.grown(alloc, body)? {
+            Some(bodies) => Ok(Growth::Added(built(alloc, bodies, self.dynamic)?)),
+            None => Ok(Growth::Same),
+        }
+    }
+
+    /// Whether sources add to the mapping.
+    pub fn dynamic(&self) -> bool
+        ensures { result ≡ self.now.dynamic }
+    {
+        self.dynamic
+    }
+
+    /// Sets whether sources add to the mapping.
+    pub fn set_dynamic(&mut self, on: bool)
+        ensures { self.new ≡ mapping_of self.old.bodies on }
+    {
+        self.dynamic = on;
+    }
+
+    /// The number of the last body, which is the mapping's last generation.
+    pub fn generation(&self) -> u32
+        ensures generation { result ≡ generation_of self.now }
+        ensures bodies { AreBodies self.now.bodies }
+        ensures mapping { self.now ≡ mapping_of self.now.bodies self.now.dynamic }
+    {
+        self.bodies.count()
+    }
+
+    /// The body that made a generation.
+    pub fn body(&self, generation: u32) -> &Json
+        requires first { 0 < generation }
+        requires last { generation ≤ generation_of self.now }
+        ensures { view result.now ≡ get_or self.now.bodies (generation - 1) null }
+    {
+        self.bodies.body(generation)
+    }
+
+    pub fn index_name(&self) -> &[u8]
+        ensures { result.now ≡ self.now.index }
+    {
+        self.bodies.index_name()
     }
 
     /// The number of the field at a path, whose names are joined by dots.
@@ -72,7 +125,7 @@ impl Mapping {
         ensures number { result ≡ field_named self.now path.now }
         ensures bound { IfSome result (λ field. field < length self.now.fields) }
     {
-        number_of(self.fields.as_slice(), &Whole { name: path })
+        self.bodies.field(&Whole { name: path })
     }
 
     /// The field of a name below the path of a field, or below the root's, which is empty, if it stands in the mapping of
@@ -101,7 +154,7 @@ impl Mapping {
         ensures bound { IfSome result (λ field. field < length self.now.fields) }
         ensures path { IfSome result (λ field. (field_at self.now field).path ≡ joined path.now name.now) }
     {
-        number_of(self.fields.as_slice(), &Below { path, name })
+        self.bodies.field(&Below { path, name })
     }
 
     /// Whether a field stands in the mapping of a generation.
@@ -109,14 +162,14 @@ impl Mapping {
         requires { field < length self.now.fields }
         ensures { result ≡ knows self.now generation field }
     {
-        self.fields[field as usize].since <= generation
+        self.bodies.fields()[field as usize].since <= generation
     }
 
     pub fn kind(&self, field: u32) -> Kind
         requires { field < length self.now.fields }
         ensures { result ≡ kind_at self.now field }
     {
-        self.fields[field as usize].kind
+        self.bodies.fields()[field as usize].kind
     }
 
     /// The scope that is the home of a field: the nearest nested path strictly above it, or the root.
@@ -124,7 +177,7 @@ impl Mapping {
         requires { field < length self.now.fields }
         ensures { result ≡ home_of self.now field }
     {
-        self.fields[field as usize].home
+        self.homes[field as usize]
     }
 
     /// The path of a field: its names from the top, joined by dots.
@@ -132,7 +185,13 @@ impl Mapping {
         requires { field < length self.now.fields }
         ensures { result.now ≡ (field_at self.now field).path }
     {
-        self.fields[field as usize].path.as_slice()
+        self.bodies.fields()[field as usize].path.as_slice()
+    }
+
+    pub fn field_count(&self) -> u32
+        ensures { result ≡ length self.now.fields }
+    {
+        self.bodies.fields().len() as u32
     }
 
     /// The number of the scope at a path; the empty path is the root's, which is 0.
@@ -140,7 +199,18 @@ impl Mapping {
         ensures number { result ≡ scope_named self.now path.now }
         ensures bound { IfSome result (λ scope. scope < length self.now.scopes) }
     {
-        scope_number(self.paths.as_slice(), path)
+        number_among(
+            self.paths.as_slice(),
+            self.by_path.as_slice(),
+            &Whole { name: path },
+        )
+    }
+
+    /// The numbers of the nested scopes, in byte order of their paths.
+    pub fn order(&self) -> &[u32]
+        ensures { result.now ≡ self.now.order }
+    {
+        self.by_path.as_slice().split_at(1).1
     }
 
     /// The scope around a nested path, and none for the root.
@@ -155,6 +225,24 @@ impl Mapping {
         }
     }
 
+    /// Whether a scope lies above another; a number past the scopes lies nowhere.
+    pub fn is_above(&self, above: u32, below: u32) -> bool
+        ensures { result ≡ is_above self.now above below }
+    {
+        let paths = self.paths.as_slice();
+        let above = above as usize;
+        let below = below as usize;
+        if above < paths.len() {
+            if below < paths.len() {
+                lies_above(paths[above].bytes.as_slice(), paths[below].bytes.as_slice())
+            } else {
+                false
+            }
+        } else {
+            false
+        }
+    }
+
     /// The nested field of a scope, and none for the root.
     pub fn scope_field(&self, scope: u32) -> Option<u32>
         requires { scope < length self.now.scopes }
@@ -163,12 +251,9 @@ impl Mapping {
         if scope == 0 {
             None
         } else {
-            number_of(
-                self.fields.as_slice(),
-                &Whole {
-                    name: self.paths[scope as usize].bytes.as_slice(),
-                },
-            )
+            self.bodies.field(&Whole {
+                name: self.paths[scope as usize].bytes.as_slice(),
+            })
         }
     }
 
@@ -178,8 +263,17 @@ impl Mapping {
         requires scope { scope < length self.now.scopes }
         ensures { result ≡ included self.now field scope }
     {
-        let home = self.fields[field as usize].home;
+        let home = self.homes[field as usize];
         reaches(self.scopes.as_slice(), home, home, scope)
+    }
+
+    /// How many scopes there are, the root among them. What `is_mapping` says holds of every mapping: proofs about scopes
+    /// and objects ask for it, and find it here.
+    pub fn scope_count(&self) -> u32
+        ensures count { result ≡ length self.now.scopes }
+        ensures is_mapping { IsMapping self.now }
+    {
+        self.paths.len() as u32
     }
 
     /// The number of a relation, by its name.
@@ -187,7 +281,7 @@ impl Mapping {
         ensures number { result ≡ relation_named self.now name.now }
         ensures bound { IfSome result (λ relation. relation < length self.now.relations) }
     {
-        number_of(self.relations.as_slice(), &Whole { name })
+        self.bodies.relation(name)
     }
 
     /// The number of a relation that stands in the mapping of a generation, by its name.
@@ -210,7 +304,7 @@ impl Mapping {
         requires { relation < length self.now.relations }
         ensures { result ≡ knows_relation self.now generation relation }
     {
-        self.relations[relation as usize].since <= generation
+        self.bodies.relations()[relation as usize].since <= generation
     }
 
     /// The relation that is the parent of a relation, and none for a root relation.
@@ -218,55 +312,40 @@ impl Mapping {
         requires { relation < length self.now.relations }
         ensures { result ≡ (relation_at self.now relation).parent }
     {
-        self.relations[relation as usize].parent
+        self.bodies.relations()[relation as usize].parent
     }
 
-    /// The body as it was read.
-    pub fn body(&self) -> &Json
-        ensures { view result.now ∷ [] ≡ self.now.bodies }
+    /// Whether a relation has children.
+    pub fn is_parent_relation(&self, relation: u32) -> bool
+        ensures { result ≡ is_parent self.now relation }
     {
-        &self.body
+        some_has_parent(self.bodies.relations(), relation)
     }
 
-    pub fn index_name(&self) -> &[u8]
-        ensures { result.now ≡ self.now.index }
+    pub fn relation_count(&self) -> u32
+        ensures { result ≡ length self.now.relations }
     {
-        index_of(&self.body)
-    }
-
-    pub fn field_count(&self) -> u32
-        ensures { result ≡ length self.now.fields }
-    {
-        self.fields.len() as u32
-    }
-
-    /// How many scopes there are, the root among them. What `is_mapping` says holds of every mapping that was read:
-    /// proofs about scopes and objects ask for it, and find it here. A mapping of one body has its nested paths numbered
-    /// in byte order, which is what `by_number` says.
-    pub fn scope_count(&self) -> u32
-        ensures count { result ≡ length self.now.scopes }
-        ensures is_mapping { IsMapping self.now }
-        ensures by_number { self.now.order ≡ range_with_len 1 (length self.now.scopes - 1) }
-    {
-        self.paths.len() as u32
+        self.bodies.relations().len() as u32
     }
 }
 
-/// The number of the scope at a path.
-fn scope_number(paths: &[ScopePath], path: &[u8]) -> Option<u32>
-    requires ascending { AreAscending (map (λ p. p.bytes.items) (drop 1 paths.now)) }
-    requires short { length paths.now < 2 ^ 32 }
-    ensures { result ≡ place_of path.now (map (λ p. p.bytes.items) paths.now) }
+fn some_has_parent(relations: &[Relation], parent: u32) -> bool
+    ensures { result ≡ list_any (λ r. is_number parent r.parent) (map relation_of relations.now) }
 {
-    if paths.is_empty() {
-        return None;
+    'relations: for relation in relations {
+        if has_parent(relation, parent) {
+            return true;
+        }
     }
-    if paths[0].bytes.as_slice() == path {
-        return Some(0);
-    }
-    match number_of(paths.split_at(1).1, &Whole { name: path }) {
-        Some(number) => Some(number + 1),
-        None => None,
+    false
+}
+
+fn has_parent(relation: &Relation, parent: u32) -> bool
+    ensures { result ≡ is_number parent (relation_of relation.now).parent }
+{
+    match relation.parent {
+        Some(number) => number == parent,
+        None => false,
     }
 }
 
@@ -282,6 +361,7 @@ fn part_at(scopes: &[Scope], number: u32) -> Scope
             around: 0,
             in_parent: false,
             in_root: false,
+            since: 1,
         }
     }
 }
@@ -307,54 +387,27 @@ fn climbs(scopes: &[Scope], left: u32, scope: Scope, to: u32) -> bool
     (scope.in_parent && reaches(scopes, left, scope.around, to)) || (scope.in_root && to == 0)
 }
 
-/// The relations of a body that is a mapping, or the first refusal.
-fn judged_relations(alloc: Global, body: &Json) -> Result<Vec<Relation>, MappingRefusal>
-    ensures relations { IfOk result (λ rs. map relation_of rs.items ≡ relations_in (view body.now ∷ [])) }
-    ensures ascending { IfOk result (λ rs. AreAscending (map (λ r. r.name.items) rs.items)) }
-    ensures accepted { IsOk result → first_refusal (view body.now) ≡ None }
-    ensures refused { IfErr result (λ e. IsFirst e (first_refusal (view body.now))) }
+/// The mapping of bodies.
+fn built(alloc: Global, bodies: Bodies, dynamic: bool) -> Result<Mapping, NoMemory>
+    ensures mapping { IfOk result (λ m. m ≡ mapping_of bodies dynamic) }
+    ensures is_mapping { IfOk result IsMapping }
 {
-    let mut outlines = Vec::new(alloc);
-    outline_below(body, 0, &mut outlines)?;
-    if let Some(refusal) = refusal_of_forms(body, outlines.as_slice()) {
-        return Err(refusal);
-    }
-    let pairs = pairs_of(alloc, outlines.as_slice())?;
-    let relations = relations_of(alloc, pairs.as_slice())?;
-    if let Some(refusal) = refusal_of_rest(
-        alloc,
-        body,
-        outlines.as_slice(),
-        pairs.as_slice(),
-        relations.as_slice(),
-    )? {
-        return Err(refusal);
-    }
-    Ok(relations)
-}
-
-/// The mapping of a body, with its relations.
-fn built(alloc: Global, body: &Json, relations: Vec<Relation>) -> Result<Mapping, NoMemory>
-    requires accepted { first_refusal (view body.now) ≡ None }
-    requires relations { map relation_of relations.items ≡ relations_in (view body.now ∷ []) }
-    requires ascending { AreAscending (map (λ r. r.name.items) relations.items) }
-    ensures { IfOk result (λ m. m ≡ mapping_of (view body.now ∷ [])) }
-{
-    let mut drafts = Vec::new(alloc);
-    draft_below(alloc, b"", body, &mut drafts)?;
-    let paths = scope_paths(alloc, drafts.as_slice())?;
-    if !is_short(paths.len()) || !is_short(drafts.len()) || !is_short(relations.len()) {
+    let drafts = bodies.fields();
+    let paths = scope_paths(alloc, drafts)?;
+    if !is_short(paths.len()) {
         return Err(NoMemory);
     }
-    let scopes = scopes(alloc, drafts.as_slice(), paths.as_slice())?;
-    let fields = fields(alloc, drafts.as_slice(), paths.as_slice())?;
-    let body = copied(alloc, body)?;
+    let items = paths.as_slice();
+    let scopes = scopes(alloc, drafts, items)?;
+    let homes = homes(alloc, drafts, items)?;
+    let by_path = order_from(alloc, items, 0)?;
     Ok(Mapping {
-        body,
-        fields,
+        bodies,
+        dynamic,
+        homes,
         paths,
         scopes,
-        relations,
+        by_path,
     })
 }
 

@@ -1,13 +1,10 @@
-//! Scopes and fields, made of the fields that a body says.
-ghost use Rattle.std.specs.Prelude.{◌≡◌, ℕ, List, ◌<◌, ◌≤◌, ◌^◌, map, length, ◌++◌, IfOk, OnOk};
-ghost use Rattle.mapping.specs.Mapping.{nearest, scope_paths, field_by, scopes_by};
-ghost use Rattle.mapping.specs.Outline.{made_of};
-ghost use Rattle.mapping.specs.Stored.{field_of, scope_parts, scope_seen, nested_path, nested_scope};
+//! Scopes and the homes of fields, made of the fields that bodies say.
+ghost use Rattle.std.specs.Prelude.{◌≡◌, ◌<◌, ◌^◌, map, length, ◌++◌, IfOk, OnOk};
+ghost use Rattle.mapping_body.specs.Kept.{made_of};
+ghost use Rattle.mapping.specs.Mapping.{nearest, scope_paths, scopes_by};
+ghost use Rattle.mapping.specs.Stored.{scope_parts, scope_seen, nested_path, nested_scope};
 
-use crate::kind::Kind;
-use crate::names::{Named, lies_above};
-use crate::property::Draft;
-use crate::refusal::NoMemory;
+use mapping_body::{Draft, Kind, Named, NoMemory, lies_above};
 use std::alloc::Global;
 
 /// The path of a scope.
@@ -30,23 +27,7 @@ pub(crate) struct Scope {
     pub around: u32,
     pub in_parent: bool,
     pub in_root: bool,
-}
-
-/// A field with its number as its place in a list.
-#[derive(Drop)]
-pub(crate) struct Field {
-    pub path: Vec<u8>,
-    pub kind: Kind,
-    pub home: u32,
     pub since: u32,
-}
-
-impl Named for Field {
-    ghost name = { λ f. f.path.items };
-
-    fn name(&self) -> &[u8] {
-        &self.path
-    }
 }
 
 /// The paths of the scopes: the root's, and those of the nested fields.
@@ -108,6 +89,7 @@ pub(crate) fn scopes(
         around: 0,
         in_parent: false,
         in_root: false,
+        since: 1,
     })?;
     'drafts: for draft in drafts {
         push_scope(draft, paths, &mut scopes)?;
@@ -125,6 +107,7 @@ fn push_scope(draft: &Draft, paths: &[ScopePath], scopes: &mut Vec<Scope>) -> Re
                 around: nearest(paths, draft.path.as_slice()),
                 in_parent: draft.in_parent,
                 in_root: draft.in_root,
+                since: draft.since,
             })?;
             Ok(())
         }
@@ -132,30 +115,18 @@ fn push_scope(draft: &Draft, paths: &[ScopePath], scopes: &mut Vec<Scope>) -> Re
     }
 }
 
-/// The fields, each with its home.
-pub(crate) fn fields(
+/// The homes of fields.
+pub(crate) fn homes(
     alloc: Global,
     drafts: &[Draft],
     paths: &[ScopePath],
-) -> Result<Vec<Field>, NoMemory>
-    requires short { length paths.now < 2 ^ 32 }
-    ensures { IfOk result (λ fields. map field_of fields.items ≡ map (field_by (map (λ p. p.bytes.items) paths.now)) (map made_of drafts.now)) }
-{
-    let mut fields = Vec::with_capacity(alloc, drafts.len())?;
-    'drafts: for draft in drafts {
-        fields.push(field_made(alloc, draft, paths)?)?;
-    }
-    Ok(fields)
-}
-
-fn field_made(alloc: Global, draft: &Draft, paths: &[ScopePath]) -> Result<Field, NoMemory>
+) -> Result<Vec<u32>, NoMemory>
     requires { length paths.now < 2 ^ 32 }
-    ensures { IfOk result (λ f. field_of f ≡ field_by (map (λ p. p.bytes.items) paths.now) (made_of draft.now)) }
+    ensures { IfOk result (λ homes. homes.items ≡ map (λ d. nearest (map (λ p. p.bytes.items) paths.now) d.path) (map made_of drafts.now)) }
 {
-    Ok(Field {
-        path: draft.path.as_slice().to_vec(alloc)?,
-        kind: draft.kind,
-        home: nearest(paths, draft.path.as_slice()),
-        since: 1,
-    })
+    let mut homes = Vec::with_capacity(alloc, drafts.len())?;
+    'drafts: for draft in drafts {
+        homes.push(nearest(paths, draft.path.as_slice()))?;
+    }
+    Ok(homes)
 }

@@ -1,5 +1,5 @@
 //! Each public look-up once, on a body with two nested paths, a plain object and a join.
-use crate::{Kind, Mapping, MappingRefusal};
+use crate::{Growth, Kind, Mapping, MappingRefusal};
 use std::alloc::Global;
 use std::process::Abort;
 use std::test::Fail;
@@ -40,15 +40,48 @@ fn look_ups(rt: HostRuntime) -> Result<(), Fail> {
 }
 
 #[test]
-fn refusals(rt: HostRuntime) {
-    for (text, expected) in [
-        (r#"{"properties":{"a":{}}}"#, MappingRefusal::BadRequest),
-        (
-            r#"{"properties":{"a":{"type":"join","relations":{"p":"p"}}}}"#,
-            MappingRefusal::BadRelations,
+fn growth(rt: HostRuntime) -> Result<(), Fail> {
+    let mut mapping = Mapping::read(rt.alloc(), &json(&rt, rt.alloc(), OFFERS))?;
+    mapping.set_dynamic(true);
+    let same = mapping.grown(
+        rt.alloc(),
+        &json(
+            &rt,
+            rt.alloc(),
+            r#"{"properties":{"name":{"type":"text"}}}"#,
         ),
-    ] {
-        let answer = Mapping::read(rt.alloc(), &json(&rt, rt.alloc(), text));
-        assert_eq!(rt; answer.err(), Some(expected), "{text}");
-    }
+    )?;
+    let added = mapping.grown(
+        rt.alloc(),
+        &json(
+            &rt,
+            rt.alloc(),
+            r#"{"properties":{"boxes":{"type":"nested"}}}"#,
+        ),
+    )?;
+    let grown = match added {
+        Growth::Added(grown) => grown,
+        Growth::Same => mapping,
+    };
+    assert!(rt; matches!(same, Growth::Same));
+    assert_eq!(rt; grown.generation(), 2);
+    assert!(rt; grown.dynamic());
+    let boxes = grown.field(b"boxes").ok_or("no field")?;
+    assert_eq!(rt; boxes, 6);
+    assert!(rt; !grown.knows(1, boxes));
+    assert!(rt; grown.knows(2, boxes));
+    assert_eq!(rt; grown.scope(b"boxes"), Some(3));
+    assert!(rt; grown.order() == [3, 1, 2].as_slice());
+    assert!(rt; grown.is_above(1, 2));
+    assert!(rt; !grown.is_above(3, 9));
+    let conflict = grown.grown(
+        rt.alloc(),
+        &json(
+            &rt,
+            rt.alloc(),
+            r#"{"properties":{"name":{"type":"keyword"}}}"#,
+        ),
+    );
+    assert!(rt; matches!(conflict, Err(MappingRefusal::Conflict(_))));
+    Ok(())
 }

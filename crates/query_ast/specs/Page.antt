@@ -1,96 +1,84 @@
--- The hits of a search in their order, and a page of them (Elasticsearch reference, sort search results and paginate
--- search results).
-use Rattle.std.specs.Prelude.{ℕ, ℤ, pos, Bool, true, List, [], ◌∷◌, length, map, take, drop, filter_map, option_map, if◌then◌else◌}
-use Rattle.std.specs.Ordering.{nat_cmp, int_cmp, is_lt, ordering_then, ordering_reverse}
+-- Rows in order, and a page of them (Elasticsearch reference, sort search results and paginate search results). Rows are
+-- of any type: what a row is ordered by are its keys, one for each clause, and its tree's sequence number.
+use Rattle.std.specs.Prelude.{ℕ, ℤ, pos, Bool, true, false, List, [], ◌∷◌, take, drop, filter, Option, Some, None, if◌then◌else◌}
+use Rattle.std.specs.Ordering.{nat_cmp, int_cmp, is_lt, on, ordering_then, then_cmp}
 use Rattle.std.specs.declared.cmp.Ordering.{Ordering}
 use Rattle.std.specs.declared.cmp.Ordering.TheVariants.{Equal}
-use Rattle.tree_objects.specs.Tree.{Tree}
-use Rattle.tree_objects.specs.Object.{root}
-use Rattle.query_ast.specs.Clause.{Clause}
-use Rattle.query_ast.specs.Hit.{hit}
+use Rattle.tree_objects.specs.declared.field_value.FieldValue.{FieldValue}
+use Rattle.tree_objects.specs.declared.field_value.FieldValue.TheVariants.{Number, Written}
+use Rattle.query_ast.specs.Compare.{value_cmp, in_order}
+use Rattle.query_ast.specs.declared.sort.Direction.{Direction}
+use Rattle.query_ast.specs.declared.sort.Key.{Key}
+use Rattle.query_ast.specs.declared.sort.Key.TheVariants.{Null, Number as NumberKey, Written as WrittenKey}
+use Rattle.query_ast.specs.declared.sort.KeyRow.{KeyRow}
+use Rattle.query_ast.specs.declared.sort.Missing.{Missing}
+use Rattle.query_ast.specs.declared.sort.Missing.TheVariants.{Last, First, Given}
+use Rattle.query_ast.specs.declared.sort.Sort.{Sort}
 
--- what a sort clause compares hits by
-pub data SortKey : Type 0 where
-  score : SortKey
+-- ---- two keys of one clause
 
--- a sort clause: what is compared, and whether the greatest comes first
-pub record SortClause : Type 0 where
-  pub key : SortKey
-  pub descending : Bool
+-- null stands first or last as the clause says, whatever its direction
+abbrev pub rank : Bool → Key → ℕ
+rank null_first Null = if null_first then 0 else 2
+rank null_first (NumberKey z) = 1
+rank null_first (WrittenKey s) = 1
 
--- a sort key of a hit
-pub data Key : Type 0 where
-  number : ℤ → Key
+-- what a key shows; two nulls show the same
+abbrev pub shown : Key → FieldValue
+shown Null = Number (pos 0)
+shown (NumberKey z) = Number z
+shown (WrittenKey s) = Written s
 
--- a hit: the tree, its score, and one key for each sort clause
-pub record Hit : Type 0 where
-  pub tree : Tree
-  pub score : ℕ
-  pub keys : List Key
+-- the greatest first, or the least
+abbrev pub directed : Bool → Key → Key → Ordering
+directed true a b = value_cmp (shown b) (shown a)
+directed false a b = value_cmp (shown a) (shown b)
 
--- the hits that are given, and the number of all
-pub record Page : Type 0 where
-  pub hits : List Hit
-  pub total : ℕ
+abbrev pub key_cmp : Direction → Key → Key → Ordering
+key_cmp d = then_cmp (on (rank d.null_first) nat_cmp) (directed d.descending)
 
--- a search; what it leaves out has its default
-pub record Search : Type 0 where
-  pub query : Clause
+-- ---- two rows: clause by clause, and then by number. A row has a key for each clause; one that hadn't would have nulls.
 
--- without `sort` the one clause is `_score`, the greatest first
-abbrev pub default_sort : List SortClause
-default_sort = record { key = score; descending = true } ∷ []
+abbrev pub first_key : List Key → Key
+first_key [] = Null
+first_key (k ∷ ks) = k
 
-abbrev pub sort_of : Search → List SortClause
-sort_of search = default_sort
+abbrev pub later_keys : List Key → List Key
+later_keys [] = []
+later_keys (k ∷ ks) = ks
 
--- the defaults of `from` and `size`
-abbrev pub default_from : ℕ
-default_from = 0
+abbrev pub keys_cmp : List Direction → List Key → List Key → Ordering
+keys_cmp [] a b = Equal
+keys_cmp (d ∷ ds) a b = ordering_then (key_cmp d (first_key a) (first_key b)) (keys_cmp ds (later_keys a) (later_keys b))
 
-abbrev pub default_size : ℕ
-default_size = 10
+-- the keys of a row with its number
+abbrev pub place_cmp : List Direction → List Key × ℤ → List Key × ℤ → Ordering
+place_cmp ds a b = ordering_then (keys_cmp ds a.0 b.0) (int_cmp a.1 b.1)
 
-abbrev pub key_of : ℕ → SortKey → Key
-key_of given score = number (pos given)
+module _ {A : Type 0} (keys : A → List Key) (number : A → ℤ) where
+  abbrev pub comes_before : List Direction → A → A → Bool
+  comes_before ds a b = is_lt (place_cmp ds (keys a, number a) (keys b, number b))
 
-abbrev pub key_cmp : Key → Key → Ordering
-key_cmp (number a) (number b) = int_cmp a b
+  -- the row that `search_after` names to go on behind this one
+  abbrev pub after_row : A → KeyRow
+  after_row row = record { keys = keys row; place = 0; doc = 0; number = number row }
 
-abbrev pub directed : Bool → Ordering → Ordering
-directed descending order = if descending then ordering_reverse order else order
+  -- strictly behind the row of `search_after`, where there is one
+  abbrev pub comes_after : List Direction → Option KeyRow → A → Bool
+  comes_after ds None row = true
+  comes_after ds (Some after) row = is_lt (place_cmp ds (after.keys, after.number) (keys row, number row))
 
--- keys are compared clause by clause
-abbrev pub keys_cmp : List SortClause → List Key → List Key → Ordering
-keys_cmp [] firsts seconds = Equal
-keys_cmp (clause ∷ clauses) [] seconds = Equal
-keys_cmp (clause ∷ clauses) (a ∷ firsts) [] = Equal
-keys_cmp (clause ∷ clauses) (a ∷ firsts) (b ∷ seconds) = ordering_then (directed clause.descending (key_cmp a b)) (keys_cmp clauses firsts seconds)
+  -- The rows in order that come after that one, without the first `from` of them, and of the rest the first `size`. Rows
+  -- of one tree with equal keys stand in the order in which they are given, which is the document's.
+  unfoldable pub page_of : List Direction → Option KeyRow → ℕ → ℕ → List A → List A
+  page_of ds after from size rows = take size (drop from (filter (comes_after ds after) (in_order (comes_before ds) rows)))
 
--- hits with equal keys stand by sequence number
-abbrev pub comes_before : List SortClause → Hit → Hit → Bool
-comes_before clauses a b = is_lt (ordering_then (keys_cmp clauses a.keys b.keys) (nat_cmp a.tree.number b.tree.number))
+-- ---- the direction of a clause
 
--- a hit put into hits that are in order
-abbrev pub placed : List SortClause → Hit → List Hit → List Hit
-placed clauses new [] = new ∷ []
-placed clauses new (first ∷ rest) = if comes_before clauses new first then new ∷ first ∷ rest else first ∷ placed clauses new rest
+abbrev pub is_null_first : Missing → Bool
+is_null_first Last = false
+is_null_first First = true
+is_null_first (Given v) = false
 
-abbrev pub in_order : List SortClause → List Hit → List Hit
-in_order clauses [] = []
-in_order clauses (first ∷ rest) = placed clauses first (in_order clauses rest)
-
--- a tree as a hit with this score
-abbrev pub hit_of : List SortClause → Tree → ℕ → Hit
-hit_of clauses tree given = record { tree = tree; score = given; keys = map (λ (clause : SortClause). key_of given clause.key) clauses }
-
--- the live trees whose root hits the query, in the order of the trees
-abbrev pub hits_of : Search → List Tree → List Hit
-hits_of search live = filter_map (λ tree. option_map (hit_of (sort_of search) tree) (hit search.query (root tree) live)) live
-
--- the answer to a search over the live trees
-unfoldable pub page_of : Search → List Tree → Page
-page_of search live = record {
-  hits = take default_size (drop default_from (in_order (sort_of search) (hits_of search live)));
-  total = length (hits_of search live);
-}
+abbrev pub direction_of : Sort → Direction
+direction_of sort = record { descending = sort.descending; null_first = is_null_first sort.missing }

@@ -12,6 +12,15 @@ pub struct Exchange {
     pub reply: Vec<u8>,
 }
 
+/// A turn of a dialogue.
+#[derive(Clone, Copy)]
+pub struct Turn {
+    /// Where the request ends in the input.
+    pub asked: usize,
+    /// Where its reply ends in the output.
+    pub replied: usize,
+}
+
 /// A case of a case file.
 #[derive(Drop)]
 pub struct Case<'a> {
@@ -40,6 +49,19 @@ impl Case<'_> {
             output.extend_from_slice(exchange.reply.as_slice())?;
         }
         Ok(output)
+    }
+
+    /// The requests and their replies by where they end.
+    pub fn turns(&self, alloc: Global) -> Result<Vec<Turn>, AllocError> {
+        let mut turns = Vec::new(alloc);
+        let mut asked: usize = 0;
+        let mut replied: usize = 0;
+        for exchange in self.exchanges.as_slice() {
+            asked = asked.saturating_add(exchange.request.len());
+            replied = replied.saturating_add(exchange.reply.len());
+            turns.push(Turn { asked, replied })?;
+        }
+        Ok(turns)
     }
 
     /// How many bytes of the output the requests get whose last newline is among the first so many bytes of the input.

@@ -7,10 +7,10 @@ use anyhow::{Context, Result, bail, ensure};
 pub fn expand(text: &str, round: u64, into: &mut Vec<u8>) -> Result<()> {
     let start = into.len();
     let mut ends = true;
-    for (index, piece) in text.split("@[").enumerate() {
+    for (index, piece) in text.split("@(").enumerate() {
         let mut plain = piece;
         if index > 0 {
-            let (mark, rest) = piece.split_once("]@").context("a mark without its ]@")?;
+            let (mark, rest) = piece.split_once(")@").context("a mark without its )@")?;
             if mark == "end" {
                 ends = false;
             } else {

@@ -3,8 +3,11 @@
 ghost use Rattle.std.specs.Prelude.{◌≡◌};
 ghost use Rattle.io_edges.specs.Faults.{HasCause};
 
+use crate::case::Turn;
 use io_edges::{CallList, Disk, Failed, MemDisk, MemSink, MemSource, NoMemory, Sink, Source};
 use std::alloc::Global;
+use std::cell::Cell;
+use std::rc::Rc;
 
 // No call, or the call of this number.
 fn calls(alloc: Global, call: Option<u64>) -> Result<CallList, NoMemory> {
@@ -14,10 +17,50 @@ fn calls(alloc: Global, call: Option<u64>) -> Result<CallList, NoMemory> {
     }
 }
 
+/// The turns of a dialogue, and how many bytes of replies the sink has taken, which source and sink share.
+#[derive(Drop)]
+pub struct Dialogue {
+    turns: Vec<Turn>,
+    taken: Rc<Cell<usize>>,
+}
+
+impl Dialogue {
+    /// A dialogue of these turns, in which nothing was taken.
+    pub fn over(alloc: Global, turns: Vec<Turn>) -> Result<Dialogue, NoMemory> {
+        Ok(Dialogue {
+            turns,
+            taken: Rc::new(alloc, Cell::new(0))?,
+        })
+    }
+
+    // How many bytes the source may give behind the first `given` ones: those of the request there. None where the sink
+    // hasn't taken each reply to the requests before.
+    fn room_at(&self, given: usize) -> Option<usize> {
+        let mut replied: usize = 0;
+        for turn in self.turns.as_slice() {
+            if given < turn.asked {
+                return self.after(replied, turn.asked - given);
+            }
+            replied = turn.replied;
+        }
+        self.after(replied, usize::MAX)
+    }
+
+    // So much room, once the sink has taken so many bytes.
+    fn after(&self, replied: usize, room: usize) -> Option<usize> {
+        if self.taken.get() < replied {
+            None
+        } else {
+            Some(room)
+        }
+    }
+}
+
 /// A source in memory that gives its bytes in pieces.
 #[derive(Drop)]
 pub struct PieceSource<'a> {
     source: MemSource,
+    dialogue: Option<Dialogue>,
     pieces: &'a [usize],
     turn: usize,
     given: usize,
@@ -25,20 +68,31 @@ pub struct PieceSource<'a> {
 }
 
 impl<'a> PieceSource<'a> {
-    /// A source of these bytes. Each read gives at most so many, by turns, and the call of that number fails.
+    /// A source of these bytes. Each read gives at most so many, by turns, and the call of that number fails. In a
+    /// dialogue a read gives bytes of one request, and fails where a reply before it wasn't taken.
     pub fn over(
         alloc: Global,
         bytes: Vec<u8>,
         pieces: &'a [usize],
         fails: Option<u64>,
+        dialogue: Option<Dialogue>,
     ) -> Result<PieceSource<'a>, NoMemory> {
         Ok(PieceSource {
+            dialogue,
             source: MemSource::over(alloc, bytes, calls(alloc, fails)?)?,
             pieces,
             turn: 0,
             given: 0,
             failed: 0,
         })
+    }
+
+    /// The count of bytes taken that a sink in dialogue with it is to raise.
+    pub fn shared(&self) -> Result<Option<Rc<Cell<usize>>>, NoMemory> {
+        match &self.dialogue {
+            Some(dialogue) => Ok(Some(dialogue.taken.clone()?)),
+            None => Ok(None),
+        }
     }
 
     /// How many bytes it gave.
@@ -65,7 +119,15 @@ impl Source for PieceSource<'_> {
         }
         let most = self.pieces.get(self.turn).copied().unwrap_or(usize::MAX);
         self.turn = self.turn.saturating_add(1);
-        let room = most.min(into.len());
+        let allowed = match &self.dialogue {
+            Some(dialogue) => dialogue.room_at(self.given),
+            None => Some(usize::MAX),
+        };
+        let Some(allowed) = allowed else {
+            self.failed = self.failed.saturating_add(1);
+            return Err(Failed);
+        };
+        let room = most.min(into.len()).min(allowed);
         match self.source.read(into.split_at_mut(room).0) {
             Ok(count) => {
                 self.given = self.given.saturating_add(count);
@@ -83,14 +145,21 @@ impl Source for PieceSource<'_> {
 #[derive(Drop)]
 pub struct PieceSink {
     sink: MemSink,
+    shared: Option<Rc<Cell<usize>>>,
     most: usize,
     failed: u64,
 }
 
 impl PieceSink {
     /// A sink each of whose writes takes at most so many bytes, and whose call of that number fails.
-    pub fn over(alloc: Global, most: usize, fails: Option<u64>) -> Result<PieceSink, NoMemory> {
+    pub fn over(
+        alloc: Global,
+        most: usize,
+        fails: Option<u64>,
+        shared: Option<Rc<Cell<usize>>>,
+    ) -> Result<PieceSink, NoMemory> {
         Ok(PieceSink {
+            shared,
             sink: MemSink::over(alloc, calls(alloc, fails)?)?,
             most,
             failed: 0,
@@ -123,7 +192,12 @@ impl Sink for PieceSink {
     fn write(&mut self, piece: &[u8]) -> Result<usize, Failed> {
         let most = self.most.max(1).min(piece.len());
         match self.sink.write(piece.split_at(most).0) {
-            Ok(count) => Ok(count),
+            Ok(count) => {
+                if let Some(taken) = &self.shared {
+                    taken.set(taken.get().saturating_add(count));
+                }
+                Ok(count)
+            }
             Err(Failed) => {
                 self.failed = self.failed.saturating_add(1);
                 Err(Failed)

@@ -4,7 +4,7 @@ ghost use Rattle.std.specs.Prelude.{IsTrue};
 ghost use Rattle.line_engine.specs.Limit.{AreLimits};
 
 use crate::case::Case;
-use crate::outside::{CountedDisk, PieceSink, PieceSource};
+use crate::outside::{CountedDisk, Dialogue, PieceSink, PieceSource};
 use crate::settings::{Failing, Rose, Sweep};
 use anyhow::{Result, bail};
 use io_edges::{NoMemory, Word};
@@ -200,8 +200,14 @@ fn over_memory(
     setup: Setup<'_>,
 ) -> Result<Option<Ended>, NoMemory> {
     let failing = setup.failing;
-    let mut source = PieceSource::over(alloc, case.input(alloc)?, setup.pieces, failing.source)?;
-    let mut sink = PieceSink::over(alloc, setup.most, failing.sink)?;
+    let input = case.input(alloc)?;
+    let dialogue = if case.settings.dialogue {
+        Some(Dialogue::over(alloc, case.turns(alloc)?)?)
+    } else {
+        None
+    };
+    let mut source = PieceSource::over(alloc, input, setup.pieces, failing.source, dialogue)?;
+    let mut sink = PieceSink::over(alloc, setup.most, failing.sink, source.shared()?)?;
     let mut disk = CountedDisk::empty(alloc, failing.disk)?;
     let status = match &setup.limits {
         None => {

@@ -44,6 +44,8 @@ pub struct Settings<'a> {
     pub reads: Vec<Vec<usize>>,
     /// The most bytes that a write takes. The case is run with each of these.
     pub writes: Vec<usize>,
+    /// Whether a read gives one request's bytes, and fails where a reply before it wasn't taken.
+    pub dialogue: bool,
     pub failing: Failing,
     pub sweeps: Vec<Sweep>,
     pub status: u8,
@@ -60,6 +62,7 @@ impl<'a> Settings<'a> {
             limits: None,
             reads,
             writes: vec![in alloc; usize::MAX]?,
+            dialogue: false,
             failing: Failing::default(),
             sweeps: Vec::new(alloc),
             status: 0,
@@ -74,6 +77,7 @@ impl<'a> Settings<'a> {
             "words" => self.words = quoted(alloc, value)?,
             "reads" => self.reads = alternatives(alloc, value)?,
             "writes" => self.writes = numbers(alloc, value.split('|'))?,
+            "dialogue" => self.dialogue = true,
             "limit" => self.set_limit(value)?,
             "fail" => self.set_failing(value)?,
             "each" => self.sweeps.push(sweep_of(value)?)?,

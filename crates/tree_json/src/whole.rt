@@ -1,9 +1,9 @@
 //! Numbers in decimal.
-ghost use Rattle.std.specs.Prelude.{◌≡◌, ◌≤◌, ◌++◌, ◌+◌, length, decimal};
+ghost use Rattle.std.specs.Prelude.{◌≡◌, ◌≤◌, ◌++◌, ◌+◌, length, decimal, OnOk, OnErr};
 ghost use Rattle.std.specs.Fmt.{signed_decimal};
 ghost use Rattle.tree_json.specs.Output.{room_of};
 
-use crate::out_text::OutText;
+use crate::out_text::{NoMemory, OutText};
 use itoa::Buffer;
 
 /// The number of digits, with the sign of a negative number.
@@ -38,4 +38,16 @@ pub fn put_count(number: u64, into: &mut OutText)
     ensures room { room_of into.old ≤ room_of into.new }
 {
     into.push_spare(Buffer::new().format(number).as_bytes());
+}
+
+/// Appends the digits of a number without a sign, and makes room for them where there is none. After NoMemory nothing has
+/// changed.
+pub fn push_count(number: u64, into: &mut OutText) -> Result<(), NoMemory>
+    ensures bytes { OnOk result (into.new.bytes ≡ into.old.bytes ++ decimal number) }
+    ensures unchanged { OnErr result (into.new ≡ into.old) }
+    ensures room { room_of into.old ≤ room_of into.new }
+{
+    into.reserve(count_len(number))?;
+    put_count(number, into);
+    Ok(())
 }

@@ -10,7 +10,7 @@ use Rattle.mapping.specs.IsMapping.{IsMapping}
 use Rattle.tree_objects.specs.Tree.{Tree}
 use Rattle.tree_objects.specs.Object.{Object, root, inside, scope, content, items, numbered, place, around, given, children, way, below_along, below, objects, block_objects}
 use Rattle.tree_objects.specs.Enclosing.{stands_at, IsEnclosing}
-use Rattle.mapping.proofs.Walks.{split}
+use Rattle.mapping_body.proofs.Walks.{split}
 use Rattle.mapping.proofs.Above.{above_lt, above_in_range, is_above_through, outer_above, root_above}
 use Rattle.mapping.proofs.Nearest.{append_nil}
 use Rattle.mapping.proofs.Numbering.{IsKid, each_kid, one_kid}

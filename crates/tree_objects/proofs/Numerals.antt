@@ -4,7 +4,7 @@ use Rattle.std.proofs.lemmas.Bool.Decides.{nat_tests}
 use Rattle.std.specs.Char.{is_ascii_digit, digit_value}
 use Rattle.std.specs.List.{list_all}
 use Rattle.std.specs.Str.Parse.{digits_value_after}
-use Rattle.mapping.proofs.Walks.{split}
+use Rattle.mapping_body.proofs.Walks.{split}
 
 -- where two numbers agree up to the greatest, so do the numbers that further digits make of them
 pub after_same : (ds : List ℕ) (a b : ℕ) → min a (2 ^ 64 - 1) ≡ min b (2 ^ 64 - 1)

@@ -8,7 +8,7 @@ use Rattle.mapping.specs.Mapping.{Mapping, scope_at, outer, kids}
 use Rattle.mapping.specs.IsMapping.{IsMapping}
 use Rattle.tree_objects.specs.Tree.{Tree}
 use Rattle.tree_objects.specs.Object.{Object, root, inside, scope, place, content, items, numbered, given, children, objects, block_objects}
-use Rattle.mapping.proofs.Walks.{split}
+use Rattle.mapping_body.proofs.Walks.{split}
 use Rattle.mapping.proofs.Numbering.{times, times_counted, times_before}
 use Rattle.tree_objects.proofs.Inside.{children_each, each_from, each_flat, each_append}
 

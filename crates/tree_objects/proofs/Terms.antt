@@ -3,7 +3,7 @@ use Rattle.std.proofs.Common.{◌≡◌, List, [], ◌∷◌, ℕ, length, map, 
 use Rattle.std.proofs.lemmas.Bool.Decides.{nat_tests}
 use Rattle.std.specs.List.{list_any, list_all}
 use Rattle.tree_objects.specs.Fault.{is_long_term}
-use Rattle.mapping.proofs.Walks.{split}
+use Rattle.mapping_body.proofs.Walks.{split}
 
 pub list_any-map : {A B : Type 0} (t : B → Bool) (f : A → B) (xs : List A) → list_any t (map f xs) ≡ list_any (λ x. t (f x)) xs
 list_any-map t f [] = refl

@@ -5,7 +5,7 @@ use Rattle.std.specs.List.{AllByRecursion}
 use Rattle.mapping.specs.Mapping.{Mapping, outer, is_above, IsAbove}
 use Rattle.mapping.specs.IsMapping.{IsMapping}
 use Rattle.tree_objects.specs.Object.{climb, way}
-use Rattle.mapping.proofs.Walks.{split}
+use Rattle.mapping_body.proofs.Walks.{split}
 use Rattle.mapping.proofs.Above.{above_root, above_in_range, above_lt, above_step, chain, is_above_through, outer_above}
 use Rattle.mapping.proofs.Numbering.{IsKid}
 

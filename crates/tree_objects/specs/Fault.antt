@@ -4,14 +4,14 @@ use Rattle.std.specs.Prelude.{ℕ, Bool, true, false, if◌then◌else◌, nat_l
 use Rattle.std.specs.List.{list_any}
 use Rattle.analysis.specs.Words.{words}
 use Rattle.tree_json.specs.Value.{JsonValue, null, bool, whole, text, list, object, Elements, no_elements, element, Members, no_members, member}
-use Rattle.mapping.specs.declared.kind.Kind.{Kind}
-use Rattle.mapping.specs.declared.kind.Kind.TheVariants.{Text, Keyword, Object as Plain, Nested, Join}
+use Rattle.mapping_body.specs.declared.kind.Kind.{Kind}
+use Rattle.mapping_body.specs.declared.kind.Kind.TheVariants.{Text, Keyword, Object as Plain, Nested, Join}
 use Rattle.tree_objects.specs.declared.field_value.FieldValue.{FieldValue}
 use Rattle.tree_objects.specs.declared.field_value.FieldValue.TheVariants.{Written}
 use Rattle.tree_objects.specs.declared.fault.Fault.{Fault}
 use Rattle.tree_objects.specs.declared.fault.Fault.TheVariants.{WrongType, TermTooLong, BadJoin}
-use Rattle.mapping.specs.Body.{is_join}
-use Rattle.mapping.specs.Names.{joined}
+use Rattle.mapping_body.specs.Body.{is_join}
+use Rattle.mapping_body.specs.Names.{joined}
 use Rattle.mapping.specs.Mapping.{Mapping, kind_at, field_below}
 use Rattle.tree_objects.specs.Values.{convert, JoinReading, no_join, joined_as, bad_join, join_reading}
 

@@ -7,11 +7,11 @@ use Rattle.std.specs.Str.{bytes_eq}
 use Rattle.std.specs.Str.Parse.{digits_value}
 use Rattle.date_fields.specs.Moment.{moment}
 use Rattle.tree_json.specs.Value.{JsonValue, null, bool, whole, text, object, Members, no_members, member, member_of}
-use Rattle.mapping.specs.declared.kind.Kind.{Kind}
-use Rattle.mapping.specs.declared.kind.Kind.TheVariants.{Text, Keyword, Long, Boolean, Date, Object as Plain, Nested, Join}
+use Rattle.mapping_body.specs.declared.kind.Kind.{Kind}
+use Rattle.mapping_body.specs.declared.kind.Kind.TheVariants.{Text, Keyword, Long, Boolean, Date, Object as Plain, Nested, Join}
 use Rattle.tree_objects.specs.declared.field_value.FieldValue.{FieldValue}
 use Rattle.tree_objects.specs.declared.field_value.FieldValue.TheVariants.{Number, Written}
-use Rattle.mapping.specs.Body.{is_join}
+use Rattle.mapping_body.specs.Body.{is_join}
 use Rattle.mapping.specs.Mapping.{Mapping, Field, kind_at, home_of, names_to, knows, shows, relation_known, relation_at}
 use Rattle.tree_objects.specs.Object.{Object, scope, content, tree_of, below, items}
 use Rattle.tree_objects.specs.Tree.{Tree}

@@ -1,5 +1,5 @@
 //! From a JSON value to a field's value.
-ghost use Rattle.std.specs.Prelude.{◌≡◌, ◌<◌, ◌^◌, ℕ, ℤ, List, IfOk, IfSome, IsErrOf, IsTrue, Some, None, Option, option_map, length, min, ◌-◌, pos, neg_ℤ};
+ghost use Rattle.std.specs.Prelude.{◌≡◌, ◌<◌, ◌^◌, ℕ, ℤ, List, IfOk, IfSome, IsErrOf, IsTrue, Some, None, Option, is_some, option_map, length, min, ◌-◌, pos, neg_ℤ};
 ghost use Rattle.std.specs.Char.{is_ascii_digit};
 ghost use Rattle.std.specs.Fmt.{signed_decimal};
 ghost use Rattle.std.specs.List.{list_all};
@@ -7,10 +7,10 @@ ghost use Rattle.std.specs.Str.Parse.{digits_value};
 ghost use Rattle.tree_json.specs.View.{view};
 ghost use Rattle.tree_objects.specs.Values.{convert, has_values, bool_name, bool_number, is_numeral, numeral_below, whole_written, bool_written, text_of, long_of, boolean_of, date_of};
 
-use crate::field_value::{Bytes, FieldValue};
+use crate::field_value::FieldValue;
 use crate::refusal::ValueRefusal;
 use date_fields::millis;
-use mapping::{Kind, NoMemory};
+use mapping::{Bytes, Kind, NoMemory};
 use std::alloc::Global;
 use tree_json::{Json, OutText, put_whole, whole_len};
 
@@ -29,6 +29,32 @@ pub fn value_of(alloc: Global, kind: Kind, value: &Json) -> Result<FieldValue, V
         Kind::Boolean => number_or_refusal(boolean_of(value)),
         Kind::Date => number_or_refusal(date_of(value)),
         _ => Err(ValueRefusal::NotOfKind),
+    }
+}
+
+/// Whether a single JSON value is one for a field of a kind. Takes no memory.
+#[tactic(auto, unfolding(crate::specs::Values::convert))]
+pub fn is_of_kind(kind: Kind, value: &Json) -> bool
+    ensures { result ≡ is_some (convert kind (view value.now)) }
+{
+    match kind {
+        Kind::Text => is_text(value),
+        Kind::Keyword => is_text(value),
+        Kind::Long => long_of(value).is_some(),
+        Kind::Boolean => boolean_of(value).is_some(),
+        Kind::Date => date_of(value).is_some(),
+        _ => false,
+    }
+}
+
+fn is_text(value: &Json) -> bool
+    ensures { result ≡ is_some (text_of (view value.now)) }
+{
+    match value {
+        Json::Text(_) => true,
+        Json::Whole(_) => true,
+        Json::Bool(_) => true,
+        _ => false,
     }
 }
 

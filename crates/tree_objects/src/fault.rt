@@ -7,7 +7,7 @@ ghost use Rattle.tree_json.specs.View.{view, values, entries};
 ghost use Rattle.tree_objects.specs.Fault.{first_fault, fault_among, fault_at, fault_in, fault_single, fault_converted, holds_objects, is_long_term};
 ghost use Rattle.tree_objects.specs.declared.field_value.FieldValue.{FieldValue};
 ghost use Rattle.mapping.specs.Mapping.{field_at, field_below, kind_at};
-ghost use Rattle.mapping.specs.Names.{joined};
+ghost use Rattle.mapping_body.specs.Names.{joined};
 ghost use Rattle.tree_objects.specs.Values.{text_of};
 
 use crate::convert::{boolean_of, date_of, long_of};

@@ -14,8 +14,9 @@ mod refusal;
 #[cfg(test)]
 mod tests;
 
-pub use convert::value_of;
+pub use convert::{is_of_kind, value_of};
 pub use fault::{Fault, first_fault};
-pub use field_value::{Bytes, FieldValue};
+pub use field_value::FieldValue;
 pub use law::objects_nest;
+pub use mapping::Bytes;
 pub use refusal::ValueRefusal;

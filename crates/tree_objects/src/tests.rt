@@ -1,6 +1,6 @@
 //! Each public function once, on sources as users write them.
-use crate::{Bytes, Fault, FieldValue, first_fault, value_of};
-use mapping::{Kind, Mapping};
+use crate::{Fault, FieldValue, first_fault, is_of_kind, value_of};
+use mapping::{Bytes, Kind, Mapping};
 use std::alloc::Global;
 use std::process::Abort;
 use std::test::Fail;
@@ -32,6 +32,8 @@ fn values(rt: HostRuntime) -> Result<(), Fail> {
     };
     assert!(rt; written.as_slice() == b"-7".as_slice());
     assert!(rt; value_of(rt.alloc(), Kind::Long, &json(&rt, rt.alloc(), r#""+1""#)).is_err());
+    assert!(rt; is_of_kind(Kind::Date, &json(&rt, rt.alloc(), "12")));
+    assert!(rt; !is_of_kind(Kind::Boolean, &json(&rt, rt.alloc(), "12")));
     Ok(())
 }
 

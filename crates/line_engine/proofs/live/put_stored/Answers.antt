@@ -3,7 +3,7 @@ use Rattle.std.specs.BTreeMap.{is_at, get_by}
 use Rattle.std.specs.String.{string_bytes}
 use Rattle.std.proofs.lemmas.Map.Steps.{set_value_same}
 use Rattle.line_engine.specs.Live.{key_cmp, get_by_id}
-use Rattle.line_engine.specs.Machine.{new_tree}
+use Rattle.line_engine.specs.Write.{new_tree}
 use Rattle.line_engine.specs.declared.live.Stored.{Stored}
 use Rattle.line_engine.proofs.Keys.{same_query, updates_ids}
 use Rattle.line_engine.proofs.Puts.{put_over, indexed_same, indexed_put}
@@ -20,7 +20,7 @@ returns-in_err-insert-in-Some-clause-indexed c =
 
 pub returns-in_ok-insert-in-Some-clause-ok : goal.returns-in_ok-insert-in-Some-clause-ok
 returns-in_ok-insert-in-Some-clause-ok c =
-    let stored : Stored = record { id = c.args.key.1; source = c.args.source } in
+    let stored : Stored = record { id = c.args.key.1; source = c.args.source; generation = c.args.generation } in
     let kept : get_by (key_cmp c.args.key) c.args.numbers.now ≡ Some c.in-Some.kept.now = search rules in
     let found : get_by_id c.args.numbers.now (string_bytes c.args.key.1) ≡ Some c.in-Some.kept.now = sym (same_query c.args.numbers.now c.args.key c.requires.key) ∙ kept in
     put_over c.args.number c.in-Some.kept.now stored c.insert.new.self.entries c.take_out.new.trees.entries
@@ -28,6 +28,6 @@ returns-in_ok-insert-in-Some-clause-ok c =
 
 pub returns-in_ok-insert-in-Some-clause-indexed : goal.returns-in_ok-insert-in-Some-clause-indexed
 returns-in_ok-insert-in-Some-clause-indexed c =
-    indexed_put c.args.trees.now c.take_out.new.trees c.args.numbers.now (c.get_mut.follows.lender c.args.number) (new_tree (string_bytes c.args.key.1) c.args.source c.args.number) (string_bytes c.args.key.1)
+    indexed_put c.args.trees.now c.take_out.new.trees c.args.numbers.now (c.get_mut.follows.lender c.args.number) (new_tree (string_bytes c.args.key.1) c.args.source c.args.number c.args.generation) (string_bytes c.args.key.1)
     c.requires.indexed c.requires.above (returns-in_ok-insert-in-Some-clause-ok c) refl
     (updates_ids c.args.key c.args.numbers.now (c.get_mut.follows.lender c.args.number) (Some c.args.number) c.requires.key ((c.get_mut.follows.holds c.args.number).3 (search rules)))

@@ -1,15 +1,19 @@
-use Rattle.std.proofs.Common.{◌≡◌, ℕ, Option, IfSome, ◌∙◌, sym, ap, map, subst}
-use Rattle.mapping.specs.Names.{place_of, joined}
-use Rattle.mapping.specs.Mapping.{Mapping, field_at, field_named}
+use Rattle.std.proofs.Common.{◌≡◌, ◌∙◌, sym, ap, subst, length, ℕ, Option, IfSome}
+use Rattle.mapping_body.specs.Fields.{drafts_of}
+use Rattle.mapping_body.specs.Names.{joined}
+use Rattle.mapping.specs.Mapping.{Mapping, field_at, field_named, mapping_of}
 use Rattle.mapping.proofs.Fields.{path_named}
-use Rattle.mapping.proofs.Single.{fields_paths}
+use Rattle.mapping.proofs.LookUps.{field_many, field_place}
 use Rattle.mapping.proofs.mapping.Mapping.field_joined.Goals as goal
 
 pub returns-clause-field : goal.returns-clause-field
 returns-clause-field c =
-    rw c.as_slice.ensures.value at c.number_of.ensures.place
-    ∙ ap (place_of (joined c.args.path.now c.args.name.now)) (sym (fields_paths c.self.inside.fields.items) ∙ ap (map (λ f. f.path)) c.self.invariant.fields)
-    ∙ ap (λ (m : Mapping). field_named m (joined c.args.path.now c.args.name.now)) c.self.view_is
+    c.field.ensures.number ∙ field_place c.self.inside.bodies c.self.inside.dynamic (joined c.args.path.now c.args.name.now) ∙ ap (λ (m : Mapping). field_named m (joined c.args.path.now c.args.name.now)) c.self.view_is
+
+pub returns-clause-bound : goal.returns-clause-bound
+returns-clause-bound c =
+    let many : length c.args.self.now.fields ≡ length (drafts_of c.self.inside.bodies) = ap (λ (m : Mapping). length m.fields) (sym c.self.view_is) ∙ field_many c.self.inside.bodies c.self.inside.dynamic in
+    rw many c.field.ensures.bound
 
 pub returns-clause-path : goal.returns-clause-path
 returns-clause-path c =

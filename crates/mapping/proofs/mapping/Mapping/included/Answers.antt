@@ -1,19 +1,17 @@
-use Rattle.std.proofs.Common.{◌≡◌, ◌<◌, ◌∙◌, [], ◌∷◌, List, length, map, ap, arith}
-use Rattle.tree_json.specs.View.{view}
-use Rattle.mapping.specs.Mapping.{mapping_of, included, field_at, no_field}
-use Rattle.mapping.specs.Stored.{Parts, field_of, scope_seen, reaches_among}
-use Rattle.mapping.proofs.LookUps.{at_kept, length_kept, reaches_seen}
+use Rattle.std.proofs.Common.{◌≡◌, ◌<◌, ◌∙◌, List, ℕ, length, map, get_or, sym, subst, ap, arith}
+use Rattle.std.proofs.lemmas.List.{get_or-map}
+use Rattle.mapping.specs.Mapping.{Mapping, mapping_of, home_of, included, no_field}
+use Rattle.mapping.specs.Stored.{Parts, scope_seen, reaches_among}
+use Rattle.mapping.proofs.LookUps.{reaches_seen}
 use Rattle.mapping.proofs.mapping.Mapping.included.Goals as goal
 
 pub returns : goal.returns
 unfolding included
 returns c =
-    let within : c.args.field < length c.args.self.now.fields = c.requires.field in
-    let here : c.args.field < length (mapping_of (view c.self.inside.body ∷ [])).fields = rw c.self.view_is within in
-    let long = length_kept field_of c.self.inside.fields.items (mapping_of (view c.self.inside.body ∷ [])).fields c.self.invariant.fields in
-    let kept : field_at (mapping_of (view c.self.inside.body ∷ [])) c.args.field ≡ field_of c.index.result.now =
-    at_kept field_of c.self.inside.fields.items (mapping_of (view c.self.inside.body ∷ [])).fields c.args.field c.index.result.now no_field c.self.invariant.fields (omega (arith, long, here)) c.index.ensures in
+    let here : c.args.field < length (mapping_of c.self.inside.bodies c.self.inside.dynamic).fields = subst (λ (m : Mapping). c.args.field < length m.fields) (sym c.self.view_is) c.requires.field in
+    let home_is : home_of (mapping_of c.self.inside.bodies c.self.inside.dynamic) c.args.field ≡ c.index-home.result.now =
+    sym (c.index-home.ensures ∙ ap (λ (hs : List ℕ). get_or hs c.args.field c.index-home.result.now) c.self.invariant.homes ∙ get_or-map (λ f. f.home) (mapping_of c.self.inside.bodies c.self.inside.dynamic).fields c.args.field no_field c.index-home.result.now here) in
     let told = c.reaches.ensures
-    ∙ ap (λ (ps : List Parts). reaches_among ps c.index.result.now.home c.index.result.now.home c.args.scope) (ap (map scope_seen) c.as_slice.ensures.value ∙ c.self.invariant.scopes)
-    ∙ reaches_seen (mapping_of (view c.self.inside.body ∷ [])) c.index.result.now.home c.index.result.now.home c.args.scope in
-    rw (← c.self.view_is, kept) told
+    ∙ ap (λ (ps : List Parts). reaches_among ps c.index-home.result.now c.index-home.result.now c.args.scope) (ap (map scope_seen) c.as_slice.ensures.value ∙ c.self.invariant.scopes)
+    ∙ reaches_seen (mapping_of c.self.inside.bodies c.self.inside.dynamic) c.index-home.result.now c.index-home.result.now c.args.scope in
+    rw (← c.self.view_is, home_is) told

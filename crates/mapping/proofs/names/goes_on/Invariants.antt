@@ -1,6 +1,0 @@
-use Rattle.std.proofs.Common.{◌≡◌, drop}
-use Rattle.mapping.specs.Names.{goes_on}
-use Rattle.mapping.proofs.names.goes_on.Given as goal
-
-abbrev pub invariant-bytes : goal.invariant-bytes
-invariant-bytes l = goes_on (drop l.at l.above) (drop l.at l.path) ≡ goes_on l.above l.path

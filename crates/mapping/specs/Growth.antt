@@ -1,0 +1,16 @@
+-- How a mapping becomes another by a further body.
+use Rattle.std.specs.Prelude.{◌≡◌, true, false, [], ◌∷◌, ◌++◌, None}
+use Rattle.tree_json.specs.Value.{JsonValue}
+use Rattle.mapping_body.specs.Bodies.{adds, conflict_of, exceeded}
+use Rattle.mapping_body.specs.Body.{is_body}
+use Rattle.mapping.specs.declared.mapping.Growth.{Growth}
+use Rattle.mapping.specs.declared.mapping.Growth.TheVariants.{Same, Added}
+use Rattle.mapping.specs.Mapping.{Mapping, mapping_of}
+
+-- The body has its form and no conflict. Where it adds nothing the mapping stays as it is; else the bodies with it
+-- exceed no limit, and are the mapping.
+abbrev pub IsGrown : Mapping → JsonValue → Growth → Type 0
+IsGrown m body Same = (is_body body ≡ true) × (conflict_of m.bodies body ≡ None) × (adds m.bodies body ≡ false)
+IsGrown m body (Added m2) =
+    (is_body body ≡ true) × (conflict_of m.bodies body ≡ None) × (adds m.bodies body ≡ true) × (exceeded (m.bodies ++ body ∷ []) ≡ None)
+    × (m2 ≡ mapping_of (m.bodies ++ body ∷ []) m.dynamic)

@@ -1,0 +1,113 @@
+-- The parent of a name, found among the first pairs of each child.
+use Rattle.std.proofs.Common.{◌≡◌, ℕ, suc, ◌+◌, ◌-◌, ◌≤◌, List, [], ◌∷◌, ◌++◌, map, get_or, append-nil, append_assoc, refl, sym, ap, ◌∙◌, subst, arith, false, cond, Option, Some, None, option_map, Bool, ◌||◌, Less, Greater, bytes_eq}
+use Rattle.std.proofs.lemmas.List.Folds.{find-append}
+use Rattle.std.proofs.lemmas.Slice.Eq.{bytes_eq-Decides}
+use Rattle.std.specs.Option.{option_or}
+use Rattle.std.specs.List.{find, position_from, list_any}
+use Rattle.std.specs.List.Sorted.{IsStrictlySortedBy}
+use Rattle.mapping_body.specs.declared.pair.Pair.{Pair as Lent}
+use Rattle.mapping_body.specs.Names.{AreAscending, in_byte_order, put, put_all}
+use Rattle.mapping_body.specs.Relations.{Pair, Relation, parent_among, relation_by, is_other}
+use Rattle.mapping_body.specs.Kept.{pair_of}
+use Rattle.mapping_body.proofs.Merges.{same_name, map-put_all}
+use Rattle.mapping_body.proofs.Puts.{AreAscending-put, ascending_none, all_beyond}
+use Rattle.mapping_body.proofs.Ranks.{by_ordering, is_eq_from, reversed, AllAfter, compared}
+use Rattle.mapping_body.proofs.Walks.{split}
+
+-- ---- the first of a name stays the first
+
+abbrev first : {T : Type 0} → (T → List ℕ) → List ℕ → List T → Option T
+first name n xs = find (λ x. bytes_eq (name x) n) xs
+
+none_of : {T : Type 0} (name : T → List ℕ) (n : List ℕ) (xs : List T) → AllAfter n (map name xs) → first name n xs ≡ None
+none_of name n [] all = refl
+none_of name n (x ∷ xs) all = rw (is_eq_from (name x) n Greater (reversed n (name x) Less all.0)) (none_of name n xs all.1)
+
+first_beside : {T : Type 0} (name : T → List ℕ) (n : List ℕ) (x : T) (xs : List T) → bytes_eq (name x) n ≡ false → first name n (xs ++ (x ∷ [])) ≡ first name n xs
+first_beside name n x [] other = rw other refl
+first_beside {T} name n x (y ∷ xs) other = ap (λ (rest : Option T). cond (bytes_eq (name y) n) (Some y) rest) (first_beside name n x xs other)
+
+first-put : {T : Type 0} (name : T → List ℕ) (n : List ℕ) (x : T) (xs : List T) → AreAscending (map name xs) → first name n (put name x xs) ≡ first name n (xs ++ (x ∷ []))
+unfolding IsStrictlySortedBy
+first-put name n x [] up = refl
+first-put {T} name n x (y ∷ xs) up =
+    by_ordering (compared (name y) (name x))
+    (λ less. rw less (ap (λ (rest : Option T). cond (bytes_eq (name y) n) (Some y) rest) (first-put name n x xs up.1)))
+    (λ equal.
+    let one : name y ≡ name x = same_name (name y) (name x) equal in
+    rw equal (split (bytes_eq (name y) n)
+    (λ met. rw met refl)
+    (λ other. rw other (sym (first_beside name n x xs (subst (λ (k : List ℕ). bytes_eq k n ≡ false) one other))))))
+    (λ greater.
+    let before = reversed (name y) (name x) Greater greater in
+    rw greater (split (bytes_eq (name x) n)
+    (λ met.
+    let one : name x ≡ n = (bytes_eq-Decides (name x) n).0 met in
+    let gone : first name n (y ∷ xs) ≡ None = subst (λ (k : List ℕ). first name k (y ∷ xs) ≡ None) one (none_of name (name x) (y ∷ xs) (before, all_beyond (name y) (name x) (map name xs) before up.0)) in
+    let last : first name n (x ∷ []) ≡ Some x = rw met refl in
+    rw met (sym (find-append (λ z. bytes_eq (name z) n) (y ∷ xs) (x ∷ []) ∙ ap (λ (o : Option T). option_or o (first name n (x ∷ []))) gone ∙ last)))
+    (λ other. rw other (sym (first_beside name n x (y ∷ xs) other)))))
+
+first-put_all : {T : Type 0} (name : T → List ℕ) (n : List ℕ) (ys xs : List T) → AreAscending (map name ys) → first name n (put_all name ys xs) ≡ first name n (ys ++ xs)
+first-put_all {T} name n ys [] up = ap (first name n) (sym (append-nil ys))
+first-put_all {T} name n ys (x ∷ xs) up =
+    first-put_all name n (put name x ys) xs (AreAscending-put name x ys up)
+    ∙ find-append (λ z. bytes_eq (name z) n) (put name x ys) xs
+    ∙ ap (λ (o : Option T). option_or o (first name n xs)) (first-put name n x ys up)
+    ∙ sym (find-append (λ z. bytes_eq (name z) n) (ys ++ (x ∷ [])) xs)
+    ∙ ap (first name n) (append_assoc ys (x ∷ []) xs)
+
+abbrev child : Pair → List ℕ
+child p = p.child
+
+pub parent_of_firsts : (ps firsts : List Lent) (name : List ℕ) → firsts ≡ in_byte_order (λ p. p.child.now) ps → parent_among (map pair_of firsts) name ≡ parent_among (map pair_of ps) name
+parent_of_firsts ps firsts name e =
+    ap (λ (qs : List Lent). parent_among (map pair_of qs) name) e
+    ∙ ap (λ (qs : List Pair). parent_among qs name) (map-put_all pair_of child [] ps)
+    ∙ ap (option_map (λ (p : Pair). p.parent)) (first-put_all child name [] (map pair_of ps) (ascending_none child [] refl))
+
+-- ---- by its place
+
+position_bound : (names : List (List ℕ)) (n : List ℕ) (at i : ℕ) → position_from (λ other. bytes_eq other n) at names ≡ Some i → at ≤ i
+position_bound [] n at i e = cc
+position_bound (x ∷ names) n at i e =
+    split (bytes_eq x n)
+    (λ same. let here : Some at ≡ Some i = rw same at e in let one : at ≡ i = cc in omega arith)
+    (λ other. let more = position_bound names n (at + 1) i (rw other at e) in omega (arith, more))
+
+pub parent_found : (ps : List Lent) (name : List ℕ) (at i : ℕ) (d : Lent) → position_from (λ other. bytes_eq other name) at (map (λ p. p.child.now) ps) ≡ Some i
+    → Some (get_or ps (i - at) d).parent.now ≡ parent_among (map pair_of ps) name
+parent_found [] name at i d e = cc
+parent_found (p ∷ ps) name at i d e =
+    split (bytes_eq p.child.now name)
+    (λ same.
+    let here : Some at ≡ Some i = rw same at e in
+    let one : at ≡ i = cc in
+    let zeroth : i - at ≡ 0 = omega arith in
+    rw (zeroth, same) refl)
+    (λ other.
+    let on : position_from (λ other. bytes_eq other name) (at + 1) (map (λ p. p.child.now) ps) ≡ Some i = rw other at e in
+    let later : at + 1 ≤ i = position_bound (map (λ p. p.child.now) ps) name (at + 1) i on in
+    let step : i - at ≡ suc (i - (at + 1)) = omega arith in
+    rw (step, other) (parent_found ps name (at + 1) i d on))
+
+pub parent_missing : (ps : List Lent) (name : List ℕ) (at : ℕ) → position_from (λ other. bytes_eq other name) at (map (λ p. p.child.now) ps) ≡ None → None ≡ parent_among (map pair_of ps) name
+parent_missing [] name at e = refl
+parent_missing (p ∷ ps) name at e =
+    split (bytes_eq p.child.now name)
+    (λ same. let here : Some at ≡ None = rw same at e in cc)
+    (λ other. rw other (parent_missing ps name (at + 1) (rw other at e)))
+
+-- ---- what the first pairs say is what all say
+
+pub relations_of_firsts : (g : ℕ) (ps firsts : List Lent) (names ns : List (List ℕ)) → firsts ≡ in_byte_order (λ p. p.child.now) ps
+    → map (relation_by g (map pair_of firsts) names) ns ≡ map (relation_by g (map pair_of ps) names) ns
+relations_of_firsts g ps firsts names [] e = refl
+relations_of_firsts g ps firsts names (n ∷ ns) e =
+    rw (parent_of_firsts ps firsts n e) (ap (λ (rest : List Relation). relation_by g (map pair_of ps) names n ∷ rest) (relations_of_firsts g ps firsts names ns e))
+
+pub others_of_firsts : (all firsts ps : List Lent) → firsts ≡ in_byte_order (λ p. p.child.now) all
+    → list_any (λ p. is_other (parent_among (map pair_of firsts) p.child.now) p.parent.now) ps ≡ list_any (λ p. is_other (parent_among (map pair_of all) p.child) p.parent) (map pair_of ps)
+others_of_firsts all firsts [] e = refl
+others_of_firsts all firsts (p ∷ ps) e =
+    rw (parent_of_firsts all firsts p.child.now e) (ap (λ (rest : Bool). is_other (parent_among (map pair_of all) p.child.now) p.parent.now || rest) (others_of_firsts all firsts ps e))

@@ -1,0 +1,299 @@
+//! The form of a mapping body.
+ghost use Rattle.std.specs.Prelude.{◌≡◌, ◌&&◌, ℕ, List, codes, Option, option_map};
+ghost use Rattle.std.specs.List.{list_any};
+ghost use Rattle.std.specs.Str.{bytes_eq};
+ghost use Rattle.tree_json.specs.Value.{members_of, elements_of, member_of};
+ghost use Rattle.tree_json.specs.View.{view, values, entries};
+ghost use Rattle.mapping_body.specs.Body.{kind_named, kind_in, kind_of, is_child, are_children_in, are_children, are_relations_in, are_relations, are_property_names, are_properties, property_takes, takes_type, are_taken, has, has_needed, is_property, is_flag, is_index_name, body_takes, is_body_alone, member_named, is_true, is_nested, is_join, index_of};
+
+use crate::kind::Kind;
+use crate::names::{is_name, is_property_name};
+use tree_json::{Json, JsonObject, JsonText};
+
+/// The kind that the name of a type stands for.
+fn kind_named(word: &[u8]) -> Option<Kind>
+    ensures { result ≡ kind_named word.now }
+{
+    if word == b"text".as_slice() {
+        Some(Kind::Text)
+    } else if word == b"keyword".as_slice() {
+        Some(Kind::Keyword)
+    } else if word == b"boolean".as_slice() {
+        Some(Kind::Boolean)
+    } else if word == b"date".as_slice() {
+        Some(Kind::Date)
+    } else if word == b"long".as_slice() {
+        Some(Kind::Long)
+    } else if word == b"integer".as_slice() {
+        Some(Kind::Long)
+    } else if word == b"short".as_slice() {
+        Some(Kind::Long)
+    } else if word == b"byte".as_slice() {
+        Some(Kind::Long)
+    } else if word == b"object".as_slice() {
+        Some(Kind::Object)
+    } else if word == b"nested".as_slice() {
+        Some(Kind::Nested)
+    } else if word == b"join".as_slice() {
+        Some(Kind::Join)
+    } else {
+        None
+    }
+}
+
+/// The kind of a property: that of its type, and without a type a plain object.
+fn kind_in(form: &JsonObject) -> Option<Kind>
+    ensures { result ≡ kind_in (members_of form.now) }
+{
+    match form.member(b"type") {
+        None => Some(Kind::Object),
+        Some(Json::Text(word)) => kind_named(word.as_slice()),
+        Some(_) => None,
+    }
+}
+
+/// The kind of a property whose form is right.
+pub fn kind_of(form: &Json) -> Kind
+    ensures { result ≡ kind_of (view form.now) }
+{
+    match form {
+        Json::Object(object) => kind_in(object).unwrap_or(Kind::Object),
+        _ => Kind::Object,
+    }
+}
+
+fn is_child(value: &Json) -> bool
+    ensures { result ≡ is_child (view value.now) }
+{
+    match value {
+        Json::Text(name) => is_name(name.as_slice()),
+        _ => false,
+    }
+}
+
+fn are_children_in(elements: &[Json]) -> bool
+    ensures { result ≡ are_children_in (elements_of (values elements.now)) }
+{
+    'elements: for element in elements {
+        if !is_child(element) {
+            return false;
+        }
+    }
+    true
+}
+
+/// Whether a value is one name of a child, or a list of some.
+fn are_children(value: &Json) -> bool
+    ensures { result ≡ are_children (view value.now) }
+{
+    match value {
+        Json::Text(name) => is_name(name.as_slice()),
+        Json::List(list) => match list.as_slice() {
+            [] => false,
+            [first, rest @ ..] => is_child(first) && are_children_in(rest),
+        },
+        _ => false,
+    }
+}
+
+fn are_relations_in(members: &[(JsonText, Json)]) -> bool
+    ensures { result ≡ are_relations_in (members_of (entries members.now)) }
+{
+    'members: for (name, value) in members {
+        if !is_name(name.as_slice()) || !are_children(value) {
+            return false;
+        }
+    }
+    true
+}
+
+fn are_relations(value: &Json) -> bool
+    ensures { result ≡ are_relations (view value.now) }
+{
+    match value {
+        Json::Object(object) => are_relations_in(object.as_slice()),
+        _ => false,
+    }
+}
+
+fn are_property_names(members: &[(JsonText, Json)]) -> bool
+    ensures { result ≡ are_property_names (members_of (entries members.now)) }
+{
+    'members: for (name, _) in members {
+        if !is_property_name(name.as_slice()) {
+            return false;
+        }
+    }
+    true
+}
+
+fn are_properties(value: &Json) -> bool
+    ensures { result ≡ are_properties (view value.now) }
+{
+    match value {
+        Json::Object(object) => are_property_names(object.as_slice()),
+        _ => false,
+    }
+}
+
+fn is_flag(value: &Json) -> bool
+    ensures { result ≡ is_flag (view value.now) }
+{
+    match value {
+        Json::Bool(_) => true,
+        _ => false,
+    }
+}
+
+/// Whether a property of a kind takes a member besides its type.
+#[tactic(auto, using(crate::proofs::Tests::tests))]
+fn may_have(kind: Kind, name: &[u8], value: &Json) -> bool
+    ensures { result ≡ list_any (λ t. bytes_eq name.now t.0 && t.1 (view value.now)) (property_takes kind) }
+{
+    match kind {
+        Kind::Object => name == b"properties".as_slice() && are_properties(value),
+        Kind::Nested => {
+            (name == b"properties".as_slice() && are_properties(value))
+                || (name == b"include_in_parent".as_slice() && is_flag(value))
+                || (name == b"include_in_root".as_slice() && is_flag(value))
+        }
+        Kind::Join => name == b"relations".as_slice() && are_relations(value),
+        _ => false,
+    }
+}
+
+/// Whether a property of a kind takes a member.
+#[tactic(auto, using(crate::proofs::Tests::tests))]
+fn takes(kind: Kind, name: &[u8], value: &Json) -> bool
+    ensures { result ≡ list_any (λ t. bytes_eq name.now t.0 && t.1 (view value.now)) (takes_type (property_takes kind)) }
+{
+    name == b"type".as_slice() || may_have(kind, name, value)
+}
+
+fn each_taken(kind: Kind, members: &[(JsonText, Json)]) -> bool
+    ensures { result ≡ are_taken (takes_type (property_takes kind)) (members_of (entries members.now)) }
+{
+    'members: for (name, value) in members {
+        if !takes(kind, name.as_slice(), value) {
+            return false;
+        }
+    }
+    true
+}
+
+fn has(object: &JsonObject, name: &[u8]) -> bool
+    ensures { result ≡ has (members_of object.now) name.now }
+{
+    object.member(name).is_some()
+}
+
+fn has_needed(kind: Kind, form: &JsonObject) -> bool
+    ensures { result ≡ has_needed kind (members_of form.now) }
+{
+    match kind {
+        Kind::Object => has(form, b"type") || has(form, b"properties"),
+        Kind::Join => has(form, b"relations"),
+        _ => true,
+    }
+}
+
+/// Whether a value has the form of a property, what stands below it left aside.
+pub fn is_property(form: &Json) -> bool
+    ensures { result ≡ is_property (view form.now) }
+{
+    match form {
+        Json::Object(object) => match kind_in(object) {
+            Some(kind) => each_taken(kind, object.as_slice()) && has_needed(kind, object),
+            None => false,
+        },
+        _ => false,
+    }
+}
+
+fn is_index_name(value: &Json) -> bool
+    ensures { result ≡ is_index_name (view value.now) }
+{
+    match value {
+        Json::Text(name) => !name.as_slice().is_empty(),
+        _ => false,
+    }
+}
+
+/// Whether a body takes a member.
+#[tactic(auto, using(crate::proofs::Tests::tests))]
+fn body_takes(name: &[u8], value: &Json) -> bool
+    ensures { result ≡ list_any (λ t. bytes_eq name.now t.0 && t.1 (view value.now)) body_takes }
+{
+    (name == b"properties".as_slice() && are_properties(value))
+        || (name == b"index".as_slice() && is_index_name(value))
+        || (name == b"dynamic".as_slice() && is_flag(value))
+}
+
+fn each_taken_in_body(members: &[(JsonText, Json)]) -> bool
+    ensures { result ≡ are_taken body_takes (members_of (entries members.now)) }
+{
+    'members: for (name, value) in members {
+        if !body_takes(name.as_slice(), value) {
+            return false;
+        }
+    }
+    true
+}
+
+/// Whether a value has the form of a mapping body, its properties left aside.
+pub fn is_body_alone(body: &Json) -> bool
+    ensures { result ≡ is_body_alone (view body.now) }
+{
+    match body {
+        Json::Object(object) => each_taken_in_body(object.as_slice()) && has(object, b"properties"),
+        _ => false,
+    }
+}
+
+/// The member of a value, if it is an object that has one of that name.
+pub fn member_named<'a>(value: &'a Json, name: &[u8]) -> Option<&'a Json>
+    ensures { option_map (λ j. view j.now) result ≡ member_named (view value.now) name.now }
+{
+    match value {
+        Json::Object(object) => object.member(name),
+        _ => None,
+    }
+}
+
+/// Whether a property has a flag that is true.
+pub fn has_flag(form: &Json, name: &[u8]) -> bool
+    ensures { result ≡ is_true (member_named (view form.now) name.now) }
+{
+    match member_named(form, name) {
+        Some(Json::Bool(holds)) => *holds,
+        _ => false,
+    }
+}
+
+/// The index's name that a body gives, by default `main`.
+pub fn index_of(body: &Json) -> &[u8]
+    ensures { result.now ≡ index_of (view body.now) }
+{
+    match member_named(body, b"index") {
+        Some(Json::Text(name)) => name.as_slice(),
+        _ => b"main",
+    }
+}
+
+pub fn is_nested(kind: Kind) -> bool
+    ensures { result ≡ is_nested kind }
+{
+    match kind {
+        Kind::Nested => true,
+        _ => false,
+    }
+}
+
+pub fn is_join(kind: Kind) -> bool
+    ensures { result ≡ is_join kind }
+{
+    match kind {
+        Kind::Join => true,
+        _ => false,
+    }
+}

@@ -1,0 +1,12 @@
+pub mod Orders
+pub mod Sorting
+pub mod Paging
+pub mod Sizes
+pub mod RowLaws
+pub mod HitLaws
+pub mod Samples
+pub mod Examples
+pub mod WordExamples
+pub mod PageExamples
+pub mod Everything
+pub mod ResolvedExamples

@@ -1,0 +1,13 @@
+-- A reader must believe Object, Refusal, Layout, HitTexts, BucketTexts, Printed and Text. The others serve proofs alone.
+pub mod Object
+pub mod Refusal
+pub mod Layout
+pub mod HitTexts
+pub mod BucketTexts
+pub mod Text
+pub mod Printed
+pub mod Field
+pub mod Next
+pub mod HitParts
+pub mod BucketParts
+pub mod LineParts
