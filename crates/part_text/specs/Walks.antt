@@ -1,0 +1,59 @@
+-- Loops that read a list item by item: what is left reads on to what the whole list gives.
+use Rattle.std.proofs.Common.{◌≡◌, ℕ, suc, ◌-◌, ◌+◌, ◌≤◌, ◌<◌, List, [], ◌∷◌, ◌++◌, length, Option, Some, None, refl, sym, ap, ◌∙◌, append_assoc, arith}
+use Rattle.std.proofs.lemmas.List.{append-nil, length_push}
+use Rattle.part_text.specs.Reading.{◌>>=◌, Reader, many_at, IsKeyed}
+
+-- the items that were read, in front of those that are still read
+abbrev pub with_front : {X : Type 0} → List X → Option (List X × List ℕ) → Option (List X × List ℕ)
+with_front front read = read >>= λ others. Some (front ++ others.0, others.1)
+
+-- `at` of `count` items were read, the last of them with the key `before`
+pub record IsWalked {K X : Type 0} (key : X → K) (item : Option K → Reader X) (total : Option (List X × List ℕ)) (count : ℕ) (before : Option K) (at : ℕ) (rest : List ℕ) : Type 0 where
+  pub front : List X
+  pub so_far : with_front front (many_at key item before (count - at) rest) ≡ total
+  pub long : length front ≡ at
+
+nothing_before : {X : Type 0} (read : Option (List X × List ℕ)) → with_front [] read ≡ read
+nothing_before (Some others) = refl
+nothing_before None = refl
+
+regroup : {X : Type 0} (front : List X) (first : X) (read : Option (List X × List ℕ)) → with_front front (read >>= λ others. Some (first ∷ others.0, others.1)) ≡ with_front (front ++ first ∷ []) read
+regroup front first (Some others) = ap (λ items. Some (items, others.1)) (sym (append_assoc front (first ∷ []) others.0))
+regroup front first None = refl
+
+pub walked_start : {K X : Type 0} (key : X → K) (item : Option K → Reader X) (count : ℕ) (bytes : List ℕ) → IsWalked key item (many_at key item None count bytes) count None 0 bytes
+walked_start key item count bytes = record {
+  front = [];
+  so_far = let all : count - 0 ≡ count = omega arith in rw all (nothing_before (many_at key item None count bytes));
+  long = refl;
+}
+
+-- what the list gives goes on behind one more item
+goes_on : {K X : Type 0} (key : X → K) (item : Option K → Reader X) (total : Option (List X × List ℕ)) (count : ℕ) (before : Option K) (at : ℕ) (rest : List ℕ) (front : List X) (first : X) (after : List ℕ) → at < count → item before rest ≡ Some (first, after)
+    → with_front front (many_at key item before (count - at) rest) ≡ total → with_front (front ++ first ∷ []) (many_at key item (Some (key first)) (count - (at + 1)) after) ≡ total
+unfolding many_at
+goes_on key item total count before at rest front first after below is so_far =
+    let left : count - at ≡ suc (count - (at + 1)) = omega arith in
+    let one : with_front front (many_at key item before (count - at) rest) ≡ with_front (front ++ first ∷ []) (many_at key item (Some (key first)) (count - (at + 1)) after) = rw (left, is) (regroup front first (many_at key item (Some (key first)) (count - (at + 1)) after)) in
+    sym one ∙ so_far
+
+pub walked_more : {K X : Type 0} (key : X → K) (item : Option K → Reader X) (total : Option (List X × List ℕ)) (count : ℕ) (before : Option K) (at : ℕ) (rest : List ℕ) (own : K) (after : List ℕ) → IsWalked key item total count before at rest → at < count → IsKeyed key (item before rest) own after → IsWalked key item total count (Some own) (at + 1) after
+walked_more key item total count before at rest own after was below read = record {
+  front = was.front ++ read.item ∷ [];
+  so_far = ap (λ k. with_front (was.front ++ read.item ∷ []) (many_at key item (Some k) (count - (at + 1)) after)) (sym read.named) ∙ goes_on key item total count before at rest was.front read.item after below read.is was.so_far;
+  long = length_push was.front read.item ∙ ap (λ n. n + 1) was.long;
+}
+
+pub walked_none : {K X : Type 0} (key : X → K) (item : Option K → Reader X) (total : Option (List X × List ℕ)) (count : ℕ) (before : Option K) (at : ℕ) (rest : List ℕ) → IsWalked key item total count before at rest → at < count → item before rest ≡ None → total ≡ None
+unfolding many_at
+walked_none key item total count before at rest was below none =
+    let left : count - at ≡ suc (count - (at + 1)) = omega arith in
+    let one : with_front was.front (many_at key item before (count - at) rest) ≡ None = rw (left, none) refl in
+    sym was.so_far ∙ one
+
+pub walked_end : {K X : Type 0} (key : X → K) (item : Option K → Reader X) (total : Option (List X × List ℕ)) (count : ℕ) (before : Option K) (at : ℕ) (rest : List ℕ) (walk : IsWalked key item total count before at rest) → count ≤ at → total ≡ Some (walk.front, rest)
+unfolding many_at
+walked_end {X = X} key item total count before at rest walk past =
+    let left : count - at ≡ 0 = omega arith in
+    let one : with_front walk.front (many_at key item before (count - at) rest) ≡ Some (walk.front, rest) = rw left (ap (λ (items : List X). Some (items, rest)) (append-nil walk.front)) in
+    sym walk.so_far ∙ one
