@@ -1,8 +1,12 @@
 -- Rows by their places: what stands between the places of rows are the rows' texts.
-use Rattle.std.proofs.Common.{◌≡◌, ℕ, zero, suc, ◌+◌, ◌-◌, ◌<◌, ◌≤◌, List, [], ◌∷◌, ◌++◌, length, get_or, map, take, drop, refl, sym, ap, ◌∙◌, append_assoc, arith}
+use Rattle.std.proofs.Common.{Option, Some, None, ◌≡◌, ℕ, zero, suc, ◌+◌, ◌-◌, ◌<◌, ◌≤◌, List, [], ◌∷◌, ◌++◌, length, get_or, map, take, drop, refl, sym, ap, ◌∙◌, append_assoc, arith}
 use Rattle.std.specs.List.{flat_map}
 use Rattle.std.proofs.lemmas.List.{take_at, drop_at, drop-drop, length-append, length-drop, append-nil, length-map, get_or-map, same_lists, nil_from_length}
 use Rattle.std.proofs.lemmas.List.FromFn.{length-map-range_with_len, get_or-map-range_with_len}
+use Rattle.std.proofs.lemmas.List.Concat.{flat_map-append}
+use Rattle.part_text.specs.Reading.{Reader, many_at, IsKeyed}
+use Rattle.part_text.specs.Reads.{Reads, IsBytes, IsBytes-rest}
+use Rattle.part_text.specs.Walks.{IsWalked, walked_start, walked_more, walked_end}
 use Rattle.part_text.specs.Places.{places_from, row, rows_of, ArePlaces}
 
 pub length-places_from : {X : Type 0} (text : X → List ℕ) (place : ℕ) (items : List X) → length (places_from text place items) ≡ length items + 1
@@ -91,3 +95,43 @@ places_from-push text place (first ∷ items) item =
     let long : (place + length (text first)) + length (flat_map text (items ++ item ∷ [])) ≡ place + length (flat_map text (first ∷ (items ++ item ∷ []))) =
     omega (arith, length-append (text first) (flat_map text (items ++ item ∷ []))) in
     ap (λ later. place ∷ later) (more ∙ ap (λ end. places_from text (place + length (text first)) items ++ end ∷ []) long)
+
+-- a loop over rows: those that were read stand in front of what is left, and these are their places
+pub record IsPlacing {K X : Type 0} (key : X → K) (text : X → List ℕ) (item : Option K → Reader X) (total : Option (List X × List ℕ)) (count : ℕ) (bytes : List ℕ) (at : ℕ) (before : Option K) (done : ℕ) (rest places : List ℕ) : Type 0 where
+  pub walk : IsWalked key item total count before done rest
+  pub parts : bytes ≡ flat_map text walk.front ++ rest
+  pub placed : places ≡ places_from text at walk.front
+
+pub placing_start : {K X : Type 0} (key : X → K) (text : X → List ℕ) (item : Option K → Reader X) (count : ℕ) (bytes : List ℕ) (at : ℕ) (places : List ℕ) → places ≡ at ∷ [] → IsPlacing key text item (many_at key item None count bytes) count bytes at None 0 bytes places
+unfolding walked_start
+placing_start key text item count bytes at places one = record { walk = walked_start key item count bytes; parts = refl; placed = one }
+
+-- the end of one more row is where what is left begins
+pub placing_more : {K X : Type 0} (key : X → K) (text : X → List ℕ) (May : Option K → X → Type 0) (item : Option K → Reader X) (total : Option (List X × List ℕ)) (count : ℕ) (bytes : List ℕ) (at : ℕ) (before : Option K) (done : ℕ) (rest places : List ℕ) (own : K) (after : List ℕ) (end : ℕ) → Reads text May item → IsBytes bytes → IsPlacing key text item total count bytes at before done rest places → done < count → IsKeyed key (item before rest) own after → end + length after ≡ at + length bytes → IsPlacing key text item total count bytes at (Some own) (done + 1) after (places ++ end ∷ [])
+unfolding walked_more
+placing_more key text May item total count bytes at before done rest places own after end law fits was below read ends =
+    let front = was.walk.front in
+    let took = law.takes before rest read.item after (IsBytes-rest bytes (flat_map text front) rest fits was.parts) read.is in
+    let pushed : flat_map text (front ++ read.item ∷ []) ≡ flat_map text front ++ text read.item = flat_map-append text front (read.item ∷ []) ∙ ap (λ last. flat_map text front ++ last) (append-nil (text read.item)) in
+    let parts : bytes ≡ flat_map text (front ++ read.item ∷ []) ++ after =
+    was.parts ∙ ap (λ behind. flat_map text front ++ behind) took.1 ∙ sym (append_assoc (flat_map text front) (text read.item) after) ∙ ap (λ first. first ++ after) (sym pushed) in
+    let long : length bytes ≡ length (flat_map text (front ++ read.item ∷ [])) + length after = ap length parts ∙ length-append (flat_map text (front ++ read.item ∷ [])) after in
+    let here : end ≡ at + length (flat_map text (front ++ read.item ∷ [])) = omega (arith, ends, long) in
+    record {
+      walk = walked_more key item total count before done rest own after was.walk below read;
+      parts = parts;
+      placed = ap (λ earlier. earlier ++ end ∷ []) was.placed ∙ ap (λ place. places_from text at front ++ place ∷ []) here ∙ sym (places_from-push text at front read.item);
+    }
+
+-- what is known of the rows when all were read
+pub record ArePlaced {K X : Type 0} (key : X → K) (text : X → List ℕ) (item : Option K → Reader X) (count : ℕ) (bytes : List ℕ) (at : ℕ) (rest places : List ℕ) : Type 0 where
+  pub items : List X
+  pub is : many_at key item None count bytes ≡ Some (items, rest)
+  pub placed : places ≡ places_from text at items
+
+pub placing_end : {K X : Type 0} (key : X → K) (text : X → List ℕ) (item : Option K → Reader X) (count : ℕ) (bytes : List ℕ) (at : ℕ) (before : Option K) (done : ℕ) (rest places : List ℕ) → IsPlacing key text item (many_at key item None count bytes) count bytes at before done rest places → count ≤ done → ArePlaced key text item count bytes at rest places
+placing_end key text item count bytes at before done rest places was past = record {
+  items = was.walk.front;
+  is = walked_end key item (many_at key item None count bytes) count before done rest was.walk past;
+  placed = was.placed;
+}

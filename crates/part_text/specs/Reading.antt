@@ -43,6 +43,12 @@ tested_at test item before bytes = do
   read ← item bytes
   if test before read.0 then Some read else None
 
+-- what a value that was read makes
+abbrev pub made_at : {B X Y : Type 0} → (X → Y) → (B → Reader X) → B → Reader Y
+made_at make item before bytes = do
+  read ← item before bytes
+  Some (make read.0, read.1)
+
 -- the first of a list passes any such test
 abbrev pub follows : {K : Type 0} → (K → K → Bool) → Option K → K → Bool
 follows comes_before None key = true

@@ -10,7 +10,7 @@ use Rattle.std.proofs.lemmas.List.{take_at, drop_at, take-append-drop, length-ap
 use Rattle.std.proofs.lemmas.Nat.{le_bytes_4, le_bytes_8, from_le_bytes-to_le_bytes_4, from_le_bytes-to_le_bytes_8}
 use Rattle.part_text.specs.Text.{u32_text, u64_text, i64_text, string_text, counted_text}
 use Rattle.part_text.specs.Front.{first_u32, first_u64, first_i64}
-use Rattle.part_text.specs.Reading.{◌>>=◌, Reader, number_at, u32_at, u64_at, i64_at, string_at, both_at, tested_at, many_at, counted_at}
+use Rattle.part_text.specs.Reading.{◌>>=◌, Reader, number_at, u32_at, u64_at, i64_at, string_at, both_at, tested_at, made_at, many_at, counted_at}
 
 -- each byte is below 256
 abbrev pub IsBytes : List ℕ → Type 0
@@ -208,6 +208,19 @@ tested_reads {B} {X} text May Passes test item law passes tests = record {
   again = λ before x rest may. rw (law.again before x rest may.0, tests before x may.1) refl;
 }
 
+-- `parts` undoes `make`
+pub made_reads : {B X Y : Type 0} (make : X → Y) (parts : Y → X) (text : X → List ℕ) (May : B → X → Type 0) (item : B → Reader X) → Reads text May item → ((x : X) → parts (make x) ≡ x) → ((y : Y) → make (parts y) ≡ y) → Reads (λ y. text (parts y)) (λ before y. May before (parts y)) (made_at make item)
+made_reads {B} {X} {Y} make parts text May item law undoes makes = record {
+  takes = λ before bytes y rest fits e.
+      let a = bind_some (item before bytes) (λ (p : X × List ℕ). Some (make p.0, p.1)) (y, rest) e in
+      let t = law.takes before bytes a.0.0 a.0.1 fits a.1 in
+      let made : Y × List ℕ = (make a.0.0, a.0.1) in
+      let back : a.0.0 ≡ parts (make a.0.0) = sym (undoes a.0.0) in
+      let there : May before (parts (make a.0.0)) × (bytes ≡ text (parts (make a.0.0)) ++ a.0.1) = subst (λ (x : X). May before x × (bytes ≡ text x ++ a.0.1)) back t in
+      subst (λ (p : Y × List ℕ). May before (parts p.0) × (bytes ≡ text (parts p.0) ++ p.1)) (some_is made (y, rest) a.2) there;
+  again = λ before y rest may. rw (law.again before (parts y) rest may, makes y) refl;
+}
+
 -- ---- lists
 
 -- each item may follow the key of the one before it
@@ -226,7 +239,7 @@ many_take {K} {X} key text May item law before (suc count) bytes xs rest fits e 
     let more = many_take key text May item law (Some (key a.0.0)) count a.0.1 b.0.0 b.0.1 (IsBytes-rest bytes (text a.0.0) a.0.1 fits first.1) b.1 in
     let parts : bytes ≡ flat_map text (a.0.0 ∷ b.0.0) ++ b.0.1 = joined bytes (text a.0.0) a.0.1 (flat_map text b.0.0) b.0.1 first.1 more.2 in
     let made : List X × List ℕ = (a.0.0 ∷ b.0.0, b.0.1) in
-    subst (λ (p : List X × List ℕ). (length p.0 ≡ suc count) × Follow key May before p.0 × (bytes ≡ flat_map text p.0 ++ p.1)) (some_is made (xs, rest) b.2) (ap suc more.0, (first.0, more.1), parts)
+    subst (λ (p : List X × List ℕ). (length p.0 ≡ suc count) × Follow key May before p.0 × (bytes ≡ flat_map text p.0 ++ p.1)) {x = made} (some_is made (xs, rest) b.2) (ap suc more.0, (first.0, more.1), parts)
 
 pub many_again : {K X : Type 0} (key : X → K) (text : X → List ℕ) (May : Option K → X → Type 0) (item : Option K → Reader X) → Reads text May item → (before : Option K) (xs : List X) (rest : List ℕ) → Follow key May before xs → many_at key item before (length xs) (flat_map text xs ++ rest) ≡ Some (xs, rest)
 unfolding many_at

@@ -13,7 +13,7 @@ pub record IsWalked {K X : Type 0} (key : X → K) (item : Option K → Reader X
   pub so_far : with_front front (many_at key item before (count - at) rest) ≡ total
   pub long : length front ≡ at
 
-nothing_before : {X : Type 0} (read : Option (List X × List ℕ)) → with_front [] read ≡ read
+pub nothing_before : {X : Type 0} (read : Option (List X × List ℕ)) → with_front [] read ≡ read
 nothing_before (Some others) = refl
 nothing_before None = refl
 
@@ -21,7 +21,7 @@ regroup : {X : Type 0} (front : List X) (first : X) (read : Option (List X × Li
 regroup front first (Some others) = ap (λ items. Some (items, others.1)) (sym (append_assoc front (first ∷ []) others.0))
 regroup front first None = refl
 
-pub walked_start : {K X : Type 0} (key : X → K) (item : Option K → Reader X) (count : ℕ) (bytes : List ℕ) → IsWalked key item (many_at key item None count bytes) count None 0 bytes
+unfoldable pub walked_start : {K X : Type 0} (key : X → K) (item : Option K → Reader X) (count : ℕ) (bytes : List ℕ) → IsWalked key item (many_at key item None count bytes) count None 0 bytes
 walked_start key item count bytes = record {
   front = [];
   so_far = let all : count - 0 ≡ count = omega arith in rw all (nothing_before (many_at key item None count bytes));
@@ -29,7 +29,7 @@ walked_start key item count bytes = record {
 }
 
 -- what the list gives goes on behind one more item
-goes_on : {K X : Type 0} (key : X → K) (item : Option K → Reader X) (total : Option (List X × List ℕ)) (count : ℕ) (before : Option K) (at : ℕ) (rest : List ℕ) (front : List X) (first : X) (after : List ℕ) → at < count → item before rest ≡ Some (first, after)
+pub goes_on : {K X : Type 0} (key : X → K) (item : Option K → Reader X) (total : Option (List X × List ℕ)) (count : ℕ) (before : Option K) (at : ℕ) (rest : List ℕ) (front : List X) (first : X) (after : List ℕ) → at < count → item before rest ≡ Some (first, after)
     → with_front front (many_at key item before (count - at) rest) ≡ total → with_front (front ++ first ∷ []) (many_at key item (Some (key first)) (count - (at + 1)) after) ≡ total
 unfolding many_at
 goes_on key item total count before at rest front first after below is so_far =
@@ -37,7 +37,7 @@ goes_on key item total count before at rest front first after below is so_far =
     let one : with_front front (many_at key item before (count - at) rest) ≡ with_front (front ++ first ∷ []) (many_at key item (Some (key first)) (count - (at + 1)) after) = rw (left, is) (regroup front first (many_at key item (Some (key first)) (count - (at + 1)) after)) in
     sym one ∙ so_far
 
-pub walked_more : {K X : Type 0} (key : X → K) (item : Option K → Reader X) (total : Option (List X × List ℕ)) (count : ℕ) (before : Option K) (at : ℕ) (rest : List ℕ) (own : K) (after : List ℕ) → IsWalked key item total count before at rest → at < count → IsKeyed key (item before rest) own after → IsWalked key item total count (Some own) (at + 1) after
+unfoldable pub walked_more : {K X : Type 0} (key : X → K) (item : Option K → Reader X) (total : Option (List X × List ℕ)) (count : ℕ) (before : Option K) (at : ℕ) (rest : List ℕ) (own : K) (after : List ℕ) → IsWalked key item total count before at rest → at < count → IsKeyed key (item before rest) own after → IsWalked key item total count (Some own) (at + 1) after
 walked_more key item total count before at rest own after was below read = record {
   front = was.front ++ read.item ∷ [];
   so_far = ap (λ k. with_front (was.front ++ read.item ∷ []) (many_at key item (Some k) (count - (at + 1)) after)) (sym read.named) ∙ goes_on key item total count before at rest was.front read.item after below read.is was.so_far;
