@@ -1,6 +1,7 @@
 -- Lists whose items follow one another, by the words for lists: each item is what it has to be, and each key comes before the
 -- next.
-use Rattle.std.proofs.Common.{◌≡◌, zero, suc, ◌+◌, List, [], ◌∷◌, length, map, Option, Some, None, All, arith}
+use Rattle.std.proofs.Common.{◌≡◌, ℕ, zero, suc, ◌+◌, ◌<◌, ◌≤◌, List, [], ◌∷◌, length, get_or, map, drop, Option, Some, None, All, sym, ap, subst, ◌∙◌, arith}
+use Rattle.std.proofs.lemmas.List.{drop_more, drop_all}
 use Rattle.std.specs.List.{AllAdjacentBelow}
 use Rattle.std.proofs.lemmas.List.Elements.{All-nil, All-cons, All-head, All-tail}
 use Rattle.part_text.specs.Reads.{Follow}
@@ -60,3 +61,28 @@ begins Before (key ∷ keys) = tt
 
 pub follow_of : {K X : Type 0} (key : X → K) (Before : K → K → Type 0) (Own : X → Type 0) (items : List X) → All Own items → Rising Before (map key items) → Follow key (λ before item. Own item × After Before before (key item)) None items
 follow_of key Before Own items own rising = follow_from key Before Own None items (begins Before (map key items)) own rising
+
+-- a loop over items: those from `at` on may follow `before` exactly where all of them may follow one another
+pub record IsFollowed {K X : Type 0} (key : X → K) (May : Option K → X → Type 0) (items : List X) (before : Option K) (at : ℕ) : Type 0 where
+  pub forth : Follow key May before (drop at items) → Follow key May None items
+  pub back : Follow key May None items → Follow key May before (drop at items)
+
+pub followed_start : {K X : Type 0} (key : X → K) (May : Option K → X → Type 0) (items : List X) → IsFollowed key May items None 0
+followed_start key May items = record { forth = λ follow. follow; back = λ follow. follow }
+
+pub followed_more : {K X : Type 0} (key : X → K) (May : Option K → X → Type 0) (items : List X) (before : Option K) (at : ℕ) (item : X) → IsFollowed key May items before at → at < length items → item ≡ get_or items at item → May before item → IsFollowed key May items (Some (key item)) (at + 1)
+followed_more key May items before at item was inside is may =
+    let next : drop at items ≡ item ∷ drop (at + 1) items = drop_more items at item inside ∙ ap (λ first. first ∷ drop (at + 1) items) (sym is) in
+    record {
+      forth = λ follow. was.forth (subst (Follow key May before) (sym next) (may, follow));
+      back = λ follow. (subst (Follow key May before) next (was.back follow)).1;
+    }
+
+-- an item that may not follow the one before it
+pub followed_fails : {K X : Type 0} (key : X → K) (May : Option K → X → Type 0) (items : List X) (before : Option K) (at : ℕ) (item : X) → IsFollowed key May items before at → at < length items → item ≡ get_or items at item → (May before item → ⊥) → Follow key May None items → ⊥
+followed_fails key May items before at item was inside is never follow =
+    let next : drop at items ≡ item ∷ drop (at + 1) items = drop_more items at item inside ∙ ap (λ first. first ∷ drop (at + 1) items) (sym is) in
+    never (subst (Follow key May before) next (was.back follow)).0
+
+pub followed_end : {K X : Type 0} (key : X → K) (May : Option K → X → Type 0) (items : List X) (before : Option K) (at : ℕ) → IsFollowed key May items before at → length items ≤ at → Follow key May None items
+followed_end key May items before at was past = was.forth (subst (Follow key May before) (sym (drop_all at items past)) tt)

@@ -135,3 +135,12 @@ placing_end key text item count bytes at before done rest places was past = reco
   is = walked_end key item (many_at key item None count bytes) count before done rest was.walk past;
   placed = was.placed;
 }
+
+-- what is left behind a row is no longer than all of the bytes
+pub placing_within : {K X : Type 0} (key : X → K) (text : X → List ℕ) (May : Option K → X → Type 0) (item : Option K → Reader X) (total : Option (List X × List ℕ)) (count : ℕ) (bytes : List ℕ) (at : ℕ) (before : Option K) (done : ℕ) (rest places : List ℕ) (own : K) (after : List ℕ) → Reads text May item → IsBytes bytes → IsPlacing key text item total count bytes at before done rest places → IsKeyed key (item before rest) own after → length after ≤ length bytes
+placing_within key text May item total count bytes at before done rest places own after law fits was read =
+    let front = was.walk.front in
+    let took = law.takes before rest read.item after (IsBytes-rest bytes (flat_map text front) rest fits was.parts) read.is in
+    let one : length bytes ≡ length (flat_map text front) + length rest = ap length was.parts ∙ length-append (flat_map text front) rest in
+    let two : length rest ≡ length (text read.item) + length after = ap length took.1 ∙ length-append (text read.item) after in
+    omega (arith, one, two)

@@ -1,7 +1,7 @@
 -- Loops that read a list item by item: what is left reads on to what the whole list gives.
 use Rattle.std.proofs.Common.{◌≡◌, ℕ, suc, ◌-◌, ◌+◌, ◌≤◌, ◌<◌, List, [], ◌∷◌, ◌++◌, length, Option, Some, None, refl, sym, ap, ◌∙◌, append_assoc, arith}
 use Rattle.std.proofs.lemmas.List.{append-nil, length_push}
-use Rattle.part_text.specs.Reading.{◌>>=◌, Reader, many_at, IsKeyed}
+use Rattle.part_text.specs.Reading.{◌>>=◌, Reader, many_at, counted_at, IsKeyed}
 
 -- the items that were read, in front of those that are still read
 abbrev pub with_front : {X : Type 0} → List X → Option (List X × List ℕ) → Option (List X × List ℕ)
@@ -57,3 +57,22 @@ walked_end {X = X} key item total count before at rest walk past =
     let left : count - at ≡ 0 = omega arith in
     let one : with_front walk.front (many_at key item before (count - at) rest) ≡ Some (walk.front, rest) = rw left (ap (λ (items : List X). Some (items, rest)) (append-nil walk.front)) in
     sym walk.so_far ∙ one
+
+-- an item is its own key
+pub keyed_itself : {X : Type 0} (read : Option (X × List ℕ)) (item : X) (rest : List ℕ) → read ≡ Some (item, rest) → IsKeyed (λ (x : X). x) read item rest
+keyed_itself read item rest is = record { item = item; is = is; named = refl }
+
+-- a list behind its number, where one of its items isn't there
+pub counted_fails : {K X : Type 0} (number : Reader ℕ) (key : X → K) (item : Option K → Reader X) (bytes first : List ℕ) (count : ℕ) (before : Option K) (at : ℕ) (rest : List ℕ) → number bytes ≡ Some (count, first) → IsWalked key item (many_at key item None count first) count before at rest → at < count → item before rest ≡ None → counted_at number key item bytes ≡ None
+unfolding counted_at
+counted_fails number key item bytes first count before at rest is was below none =
+    rw is (walked_none key item (many_at key item None count first) count before at rest was below none)
+
+-- and where all of them were read
+pub counted_ends : {K X : Type 0} (number : Reader ℕ) (key : X → K) (item : Option K → Reader X) (bytes first : List ℕ) (count : ℕ) (before : Option K) (at : ℕ) (rest : List ℕ) → number bytes ≡ Some (count, first) → IsWalked key item (many_at key item None count first) count before at rest → at ≤ count → count ≤ at → IsKeyed length (counted_at number key item bytes) count rest
+unfolding counted_at
+counted_ends number key item bytes first count before at rest is was within past = record {
+  item = was.front;
+  is = rw is (walked_end key item (many_at key item None count first) count before at rest was past);
+  named = omega (arith, was.long);
+}

@@ -21,3 +21,8 @@ extends_more old now new first more = record {
 -- cut to their old length, the bytes are the old ones
 pub extends_back : (old new : List ℕ) → Extends old new → take (length old) new ≡ old
 extends_back old new grown = ap (take (length old)) grown.is ∙ take_at old grown.more (length old) refl
+
+pub extends_two : (old new one two : List ℕ) → new ≡ (old ++ one) ++ two → Extends old new
+extends_two old new one two by = record { more = one ++ two; is = by ∙ append_assoc old one two }
+
+pub ruleset extends = (extends_same, extends_by, extends_two, extends_more)
