@@ -31,6 +31,13 @@ impl PlaceList {
         Ok(PlaceList { places })
     }
 
+    /// Makes room for so many more rows, and for no more than these. After NoMemory the list is as it was.
+    pub fn reserve(&mut self, rows: usize) -> Result<(), NoMemory>
+        ensures { self.new ≡ self.old }
+    {
+        Ok(self.places.reserve_exact(rows)?)
+    }
+
     /// Appends the end of one more row. After NoMemory the list is as it was.
     pub fn push(&mut self, end: u64) -> Result<(), NoMemory>
         ensures pushed { OnOk result (self.new ≡ self.old ++ end ∷ []) }

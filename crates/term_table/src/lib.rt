@@ -20,5 +20,5 @@ mod written;
 pub use edge::Edge;
 pub use keys::{keys_are_ordered, number_key, number_of};
 pub use part_text::{NoMemory, PlaceList};
-pub use rows::{Bytes, PositionList, PostingList, RowList, TermRow};
+pub use rows::{Bytes, PositionList, PostingList, RowList, TermRow, rows_have_one_text};
 pub use table::TermTable;

@@ -1,6 +1,6 @@
 //! Where terms with their postings stand in bytes, found by reading them once.
 
-ghost use Rattle.std.specs.Prelude.{◌≡◌, ◌-◌, ◌<◌, ◌≤◌, length, drop, None, IfOk, IfSome, IsNone};
+ghost use Rattle.std.specs.Prelude.{◌≡◌, ◌-◌, ◌*◌, ◌<◌, ◌≤◌, length, drop, None, IfOk, IfSome, IsNone};
 ghost use Rattle.part_text.specs.Reading.{many_at};
 ghost use Rattle.part_text.specs.Placed.{ArePlaced};
 ghost use Rattle.term_table.specs.Part.{row_text};
@@ -22,6 +22,16 @@ pub(crate) fn from_place(bytes: &[u8], at: u64) -> Option<&[u8]>
     }
 }
 
+/// The bytes of the shortest row: its field, the numbers of its bytes and of its documents, and one posting.
+const SHORTEST_ROW: usize = 20;
+
+/// So many rows, or as many as bytes can hold where these are fewer.
+fn most_rows(count: u64, bytes: &[u8]) -> usize
+    ensures { result * SHORTEST_ROW ≤ length bytes.now }
+{
+    (bytes.len() / SHORTEST_ROW).min(count as usize)
+}
+
 /// The places of so many rows at the front of bytes that reach up to `end`, and the bytes behind the rows; None where
 /// so many rows don't stand there.
 pub(crate) fn placed_rows<'a>(
@@ -36,6 +46,7 @@ pub(crate) fn placed_rows<'a>(
         ArePlaced (λ row. row.term) row_text row_at count bytes.now (end - length bytes.now) it.1.now it.0)) }
 {
     let mut places = PlaceList::beginning_at(alloc, end - bytes.len() as u64)?;
+    places.reserve(most_rows(count, bytes))?;
     let mut before = None;
     let mut rest = bytes;
     'rows: for _ in 0..count {

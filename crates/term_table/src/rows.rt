@@ -1,7 +1,8 @@
 //! Terms with their postings, as they are written into a segment.
 
-ghost use Rattle.std.specs.Prelude.{◌≡◌, ◌↔◌, IsTrue};
-ghost use Rattle.term_table.specs.Part.{AreRows};
+ghost use Rattle.std.specs.Prelude.{◌≡◌, ◌↔◌, ◌++◌, ℕ, List, IsTrue};
+ghost use Rattle.term_table.specs.declared.rows.TermRow.{TermRow};
+ghost use Rattle.term_table.specs.Part.{AreRows, rows_text};
 
 use crate::order::are_rows;
 use std::marker::Model;
@@ -153,3 +154,9 @@ impl RowList {
         self.rows.as_slice()
     }
 }
+
+/// No bytes begin with the text of two lists of rows, so that rows have one spelling. Does nothing.
+pub fn rows_have_one_text()
+    ensures { (rows others : List TermRow) (rest more : List ℕ) → AreRows rows → AreRows others
+        → rows_text rows ++ rest ≡ rows_text others ++ more → (rows ≡ others) × (rest ≡ more) }
+{}

@@ -1,4 +1,4 @@
-use Rattle.std.proofs.Common.{◌-◌, ◌≤◌, None, length, arith}
+use Rattle.std.proofs.Common.{◌∙◌, ◌-◌, ◌≤◌, None, length, arith}
 use Rattle.std.specs.Option.{option_map}
 use Rattle.part_text.specs.Reading.{many_at}
 use Rattle.part_text.specs.Reads.{IsBytes}
@@ -11,7 +11,7 @@ use Rattle.term_table.specs.Laws.{row_reads, MayStand}
 use Rattle.term_table.proofs.placing.placed_rows.Goals as goal
 
 pub rows-init : goal.rows-init
-rows-init c = placing_start (λ (row : TermRow). row.term) row_text row_at c.args.count c.args.bytes.now (c.args.end - length c.args.bytes.now) c.in_ok-places.places c.in_ok-places.ensures
+rows-init c = placing_start (λ (row : TermRow). row.term) row_text row_at c.args.count c.args.bytes.now (c.args.end - length c.args.bytes.now) c.reserve.new.self (c.in_ok-reserve.ensures ∙ c.in_ok-places.ensures)
 
 pub returns-in_default-clause-none : goal.returns-in_default-clause-none
 returns-in_default-clause-none c = λ _.
