@@ -1,6 +1,6 @@
 use Rattle.std.proofs.Common.{rules, ◌<◌, ◌^◌}
 use Rattle.block_bits.proofs.Ranges.{range_bits}
-use Rattle.block_bits.proofs.bit_set.range_word.Goals as goal
+use Rattle.block_bits.proofs.words.range_word.Goals as goal
 
 pub returns : goal.returns
 returns c = λ i h.

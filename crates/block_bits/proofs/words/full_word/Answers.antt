@@ -2,7 +2,7 @@ use Rattle.std.proofs.Common.{◌-◌, ap, ◌∙◌}
 use Rattle.std.specs.Int.{bit_at}
 use Rattle.std.proofs.lemmas.Nat.{one_shl}
 use Rattle.block_bits.proofs.OneEach.{full-some, full-all}
-use Rattle.block_bits.proofs.bit_set.full_word.Goals as goal
+use Rattle.block_bits.proofs.words.full_word.Goals as goal
 
 pub returns-then-count-lt-WORD : goal.returns-then-count-lt-WORD
 returns-then-count-lt-WORD c =
