@@ -1,18 +1,17 @@
 -- A column in place, by its rows.
-use Rattle.std.proofs.Common.{◌≡◌, ℕ, ◌+◌, ◌-◌, ◌*◌, ◌/◌, ◌<◌, ◌≤◌, ◌^◌, List, [], ◌∷◌, ◌++◌, length, get_or, drop, map, Some, refl, sym, ap, subst, ◌∙◌, arith, append_assoc, Contains, slice_get}
+use Rattle.std.proofs.Common.{◌≡◌, ℕ, ◌+◌, ◌/◌, ◌<◌, ◌≤◌, ◌^◌, List, [], ◌∷◌, ◌++◌, length, get_or, drop, map, Some, refl, sym, ap, subst, ◌∙◌, arith, append_assoc, Contains, slice_get}
 use Rattle.std.specs.List.{All, flat_map}
 use Rattle.std.specs.declared.cmp.Ordering.{Ordering}
-use Rattle.std.proofs.lemmas.List.{drop_at, drop-drop, length-append, length-map, get_or-map}
+use Rattle.std.proofs.lemmas.List.{drop_at, drop-drop, length-append, get_or-map}
 use Rattle.std.proofs.lemmas.List.Elements.{All-head, All-tail}
 use Rattle.std.proofs.lemmas.Option.{slice_get-get_or}
 use Rattle.part_text.specs.Text.{u32_text}
-use Rattle.part_text.specs.Front.{first_u32}
 use Rattle.part_text.specs.Reads.{first_u32-text, length-u32_text}
-use Rattle.part_text.specs.Places.{row, rows_of, places_from}
+use Rattle.part_text.specs.Places.{row, rows_of}
 use Rattle.part_text.specs.Placed.{rows_of-places_from, get_or-rows_of, places_are, length-places_from}
 use Rattle.doc_values.specs.Values.{documents, values_of}
-use Rattle.doc_values.specs.Text.{entry_text, column_text}
-use Rattle.doc_values.specs.Stands.{AreEntries, Stands, Belong}
+use Rattle.doc_values.specs.Text.{entry_text}
+use Rattle.doc_values.specs.Stands.{Stands, Belong}
 use Rattle.doc_values.specs.Kept.{values_in, entry_of, column_rows, documents_in, IsKept}
 use Rattle.doc_values.proofs.Numbers.{values_text, length-values_in}
 use Rattle.doc_values.proofs.Entries.{length-column_rows, get_or-column_rows, documents-column_rows}

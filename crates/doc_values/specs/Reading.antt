@@ -1,5 +1,5 @@
 -- Reading a column from left to right, and the laws that this undoes its text.
-use Rattle.std.proofs.Common.{◌≡◌, ◌≢◌, ℕ, ◌+◌, ◌<◌, ◌≤◌, ◌^◌, Bool, true, false, not, ltb, List, [], ◌∷◌, ◌++◌, length, get_or, map, Option, Some, None, refl, sym, ap, subst, ◌∙◌, arith}
+use Rattle.std.proofs.Common.{◌≡◌, ℕ, ◌+◌, ◌<◌, ◌^◌, Bool, true, false, not, ltb, List, length, get_or, Option, Some, None, refl, sym, subst, arith}
 use Rattle.std.specs.List.{All}
 use Rattle.std.specs.Ordering.{is_lt}
 use Rattle.std.specs.declared.cmp.Ordering.{Ordering}
@@ -7,9 +7,9 @@ use Rattle.std.proofs.lemmas.Bool.{ltb-true, lt-ltb}
 use Rattle.std.proofs.lemmas.List.{map-id, get_or_default}
 use Rattle.part_text.specs.Text.{u32_text, counted_text}
 use Rattle.part_text.specs.Reading.{Reader, u32_at, both_at, tested_at, follows, counted_at}
-use Rattle.part_text.specs.Reads.{Reads, Follow, both_text, u32_reads, both_reads, tested_reads, counted_reads, reads_as}
+use Rattle.part_text.specs.Reads.{Reads, Follow, u32_reads, both_reads, tested_reads, counted_reads, reads_as}
 use Rattle.part_text.specs.Order.{After, Rising, follow_all, follow_rising, follow_of}
-use Rattle.doc_values.specs.Values.{documents, AreValues, AreRows}
+use Rattle.doc_values.specs.Values.{documents, AreValues}
 use Rattle.doc_values.specs.Text.{entry_text, column_text}
 use Rattle.doc_values.specs.Stands.{AreEntries, IsColumn}
 

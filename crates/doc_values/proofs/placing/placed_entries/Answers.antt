@@ -1,4 +1,4 @@
-use Rattle.std.proofs.Common.{◌∙◌, ◌+◌, ◌-◌, ◌≤◌, ℕ, List, None, length, arith}
+use Rattle.std.proofs.Common.{◌∙◌, ◌-◌, ◌≤◌, ℕ, List, None, length, arith}
 use Rattle.part_text.specs.Reading.{many_at}
 use Rattle.part_text.specs.Reads.{IsBytes}
 use Rattle.part_text.specs.Walks.{walked_none}

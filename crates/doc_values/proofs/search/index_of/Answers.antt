@@ -1,4 +1,4 @@
-use Rattle.std.proofs.Common.{◌≡◌, ◌-◌, ◌+◌, ◌/◌, ◌<◌, length, get_or, arith, sym}
+use Rattle.std.proofs.Common.{◌-◌, ◌+◌, ◌/◌, ◌<◌, length, arith}
 use Rattle.doc_values.specs.Kept.{documents_in}
 use Rattle.doc_values.proofs.Entries.{length-documents_in, all_below, all_above, found_nowhere, ascend_to}
 use Rattle.doc_values.proofs.search.index_of.Goals as goal

@@ -1,5 +1,4 @@
-use Rattle.doc_values.specs.Kept.{IsKept}
-use Rattle.doc_values.proofs.Kept.{AreWritten, belong_rows, belong_kept}
+use Rattle.doc_values.proofs.Kept.{belong_rows, belong_kept}
 use Rattle.doc_values.proofs.column.Column.over.Goals as goal
 
 pub invariant_of-result : goal.invariant_of-result

@@ -1,7 +1,7 @@
-use Rattle.std.proofs.Common.{◌≡◌, ◌≤◌, ◌∙◌, drop, refl, sym, subst, arith, ℕ, List}
+use Rattle.std.proofs.Common.{drop, refl, arith}
 use Rattle.part_text.specs.Reads.{IsBytes}
-use Rattle.doc_values.specs.Reading.{column_at, HasHead, HasNoHead}
-use Rattle.doc_values.proofs.Found.{AreRead, head_there, no_head_there, no_column, past_the_end, no_head, no_entries, head_within, Found, found}
+use Rattle.doc_values.specs.Reading.{HasHead, HasNoHead}
+use Rattle.doc_values.proofs.Found.{head_there, no_head_there, no_column, past_the_end, no_head, no_entries, head_within, found}
 use Rattle.doc_values.proofs.column.Column.places.Goals as goal
 
 pub returns-in_default-clause-only : goal.returns-in_default-clause-only
