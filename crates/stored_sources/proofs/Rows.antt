@@ -1,15 +1,15 @@
 -- Roots in place, each between its place and the next.
-use Rattle.std.proofs.Common.{◌≡◌, ℕ, ◌+◌, ◌-◌, ◌<◌, ◌≤◌, ◌^◌, List, [], ◌∷◌, ◌++◌, length, get_or, drop, map, take, Option, Some, None, refl, sym, ap, subst, ◌∙◌, arith, append_assoc}
-use Rattle.std.specs.List.{All, flat_map}
-use Rattle.std.proofs.lemmas.List.{append-nil, length-map, get_or-map, take_more, length-append, length-drop}
+use Rattle.std.proofs.Common.{◌≡◌, ℕ, ◌+◌, ◌-◌, ◌<◌, List, [], ◌∷◌, ◌++◌, length, get_or, drop, map, take, Some, refl, sym, ap, ◌∙◌, arith}
+use Rattle.std.specs.List.{All}
+use Rattle.std.proofs.lemmas.List.{append-nil, length-map, get_or-map, take_more}
 use Rattle.std.proofs.lemmas.List.Concat.{flat_map-append}
 use Rattle.std.proofs.lemmas.List.Elements.{All-head, All-tail}
-use Rattle.part_text.specs.Places.{row, rows_of, places_from}
+use Rattle.part_text.specs.Places.{row, rows_of}
 use Rattle.part_text.specs.Placed.{length-rows_of, get_or-rows_of, rows_of-places_from, places_are, length-places_from}
 use Rattle.stored_sources.specs.declared.root.Root.{Root}
 use Rattle.stored_sources.specs.Roots.{no_root, root_of}
 use Rattle.stored_sources.specs.Text.{root_text, roots_text}
-use Rattle.stored_sources.specs.Stands.{IsRoot, AreRoots, Stands, Belong}
+use Rattle.stored_sources.specs.Stands.{IsRoot, Belong}
 use Rattle.stored_sources.specs.Reading.{root_at, root_reads}
 use Rattle.stored_sources.specs.Kept.{root_read, root_in, roots_in, IsRootText, AreKept}
 

@@ -2,7 +2,8 @@
 //!
 //! It stands on `part_text`, for texts and places, and on `source_steps`, the counter of sources that were read.
 //! `StoredSources` is seen as the list of roots that its text is of. `fetch` gives the bytes of one root's source and
-//! ticks the counter once: a caller whose contract leaves the counter as it was has read no source.
+//! ticks the counter once: a caller whose contract leaves the counter as it was has read no source. Begin reading with
+//! `specs/Roots.antt` and `specs/Text.antt`.
 #![tactic(auto)]
 
 mod kept;

@@ -152,8 +152,7 @@ fn is_root(root: &Root) -> bool
 fn fit(number: u64, generation: u32)
     ensures number { number < 2 ^ 64 }
     ensures generation { generation < 2 ^ 32 }
-{
-}
+{}
 
 /// Whether the id of a join value's parent is short.
 fn is_join(join: &Join) -> bool

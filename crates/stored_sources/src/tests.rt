@@ -58,16 +58,20 @@ fn two_roots(rt: HostRuntime) -> Result<(), Fail> {
     let mut bytes = Vec::new(rt.alloc());
     StoredSources::written(&list, &mut bytes)?;
     let text = [
-        1, 0, 0, 0, b'1', 7, 0, 0, 0, 0, 0, 0, 0, 1, 0, 0, 0, 2, 0, 0, 0, b'{', b'}', 1, 0, 0, 0, 0,
-        2, 0, 0, 0, b'2', b'2', 8, 0, 0, 0, 0, 0, 0, 0, 3, 0, 0, 0, 2, 0, 0, 0, b'[', b']', 2, 1, 0,
-        0, 0, 1, 0, 0, 0, b'1',
+        1, 0, 0, 0, b'1', 7, 0, 0, 0, 0, 0, 0, 0, 1, 0, 0, 0, 2, 0, 0, 0, b'{', b'}', 1, 0, 0, 0,
+        0, 2, 0, 0, 0, b'2', b'2', 8, 0, 0, 0, 0, 0, 0, 0, 3, 0, 0, 0, 2, 0, 0, 0, b'[', b']', 2,
+        1, 0, 0, 0, 1, 0, 0, 0, b'1',
     ];
     assert_eq!(rt; bytes.as_slice(), text.as_slice());
     assert!(rt; StoredSources::places(rt.alloc(), bytes.as_slice(), 0, 3)?.is_none());
     match StoredSources::places(rt.alloc(), bytes.as_slice(), 0, 2)? {
         Some((places, end)) => {
             assert_eq!(rt; (places.as_slice(), end), ([0, 28, 62].as_slice(), 62));
-            read(&rt, rt.alloc(), &StoredSources::over(bytes.as_slice(), &places))?;
+            read(
+                &rt,
+                rt.alloc(),
+                &StoredSources::over(bytes.as_slice(), &places),
+            )?;
         }
         None => panic!(rt; "the roots stand there"),
     }
@@ -78,7 +82,10 @@ fn two_roots(rt: HostRuntime) -> Result<(), Fail> {
 fn read(rt: &impl Abort, alloc: Global, stored: &StoredSources) -> Result<(), Fail> {
     assert!(rt; 1 < stored.count());
     assert_eq!(rt; stored.id(1), b"22".as_slice());
-    assert_eq!(rt; (stored.number(1), stored.generation(1), stored.source_len(1)), (8, 3, 2));
+    assert_eq!(rt;
+        (stored.number(1), stored.generation(1), stored.source_len(1)),
+        (8, 3, 2)
+    );
     assert_eq!(rt; stored.join(1), JoinValue::Child(1, b"1"));
     let mut out = Vec::new(alloc);
     fetched::<Brand>(rt, stored, &mut out, Blank::new(1))?;

@@ -1,4 +1,4 @@
-use Rattle.std.proofs.Common.{◌∙◌, ◌+◌, ◌-◌, ◌≤◌, None, Some, length, refl, arith}
+use Rattle.std.proofs.Common.{◌∙◌, ◌-◌, ◌≤◌, None, Some, length, refl, arith}
 use Rattle.part_text.specs.Reading.{IsKeyed}
 use Rattle.part_text.specs.Reads.{IsBytes}
 use Rattle.part_text.specs.Walks.{walked_none}
@@ -33,10 +33,11 @@ roots-preserved c =
     let within : length c.in-Some.after.now ≤ length c.args.bytes.now =
     placing_within (λ _. tt {0}) root_text MayRoot (λ _. root_at) (roots_at c.args.count c.args.bytes.now) c.args.count c.args.bytes.now (c.args.end - length c.args.bytes.now) c.roots.invariant.0 c.roots.counter c.roots.rest.now c.roots.places tt c.in-Some.after.now
     root_reads bytes c.roots.invariant.1 read in
-    rw c.in_ok-push.ensures.pushed
-    (Some tt,
-    placing_more (λ _. tt {0}) root_text MayRoot (λ _. root_at) (roots_at c.args.count c.args.bytes.now) c.args.count c.args.bytes.now (c.args.end - length c.args.bytes.now) c.roots.invariant.0 c.roots.counter c.roots.rest.now c.roots.places tt c.in-Some.after.now (c.args.end - length c.in-Some.after.now)
-    root_reads bytes c.roots.invariant.1 c.roots-test.true read (omega (arith, within, c.requires)))
+    rw c.in_ok-push.ensures.pushed (
+      Some tt,
+      placing_more (λ _. tt {0}) root_text MayRoot (λ _. root_at) (roots_at c.args.count c.args.bytes.now) c.args.count c.args.bytes.now (c.args.end - length c.args.bytes.now) c.roots.invariant.0 c.roots.counter c.roots.rest.now c.roots.places tt c.in-Some.after.now (c.args.end - length c.in-Some.after.now)
+          root_reads bytes c.roots.invariant.1 c.roots-test.true read (omega (arith, within, c.requires)),
+    )
 
 pub returns-clause-roots : goal.returns-clause-roots
 unfolding roots_at

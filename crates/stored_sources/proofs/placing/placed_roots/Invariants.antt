@@ -1,4 +1,4 @@
-use Rattle.std.proofs.Common.{◌-◌, None, Option, length}
+use Rattle.std.proofs.Common.{◌-◌, Option, length}
 use Rattle.part_text.specs.Placed.{IsPlacing}
 use Rattle.stored_sources.specs.Text.{root_text}
 use Rattle.stored_sources.specs.Reading.{root_at, roots_at}

@@ -1,9 +1,9 @@
-use Rattle.std.proofs.Common.{◌≡◌, ◌-◌, drop, length, refl, sym, ap, ◌∙◌, arith, rules, ◌<◌, ◌^◌, subst, None}
+use Rattle.std.proofs.Common.{◌≡◌, ◌-◌, drop, length, refl, sym, ap, ◌∙◌, arith, rules, subst, None}
 use Rattle.part_text.specs.Reads.{IsBytes}
 use Rattle.part_text.specs.Placed.{ArePlaced}
 use Rattle.stored_sources.specs.Text.{root_text}
 use Rattle.stored_sources.specs.Reading.{root_at, roots_at}
-use Rattle.stored_sources.proofs.Found.{no_roots, Found, found}
+use Rattle.stored_sources.proofs.Found.{no_roots, found}
 use Rattle.stored_sources.proofs.sources.StoredSources.places.Goals as goal
 
 pub returns-in_default-clause-only : goal.returns-in_default-clause-only
