@@ -1,5 +1,5 @@
 -- To be believed: terms and their order, postings, the text of terms with their postings and where they stand in bytes, and
--- the terms that a range takes in.
+-- the terms that a range takes in, and the keys of numbers.
 pub mod Terms
 pub mod Postings
 pub mod Part

@@ -108,7 +108,9 @@ impl PostingList {
 /// A term, its field and its bytes, with its postings.
 #[derive(Drop)]
 pub struct TermRow {
+    /// The number of the field, and the bytes.
     pub term: (u32, Bytes),
+    /// The documents that have the term, at least one.
     pub postings: PostingList,
 }
 

@@ -1,4 +1,4 @@
-use Rattle.postings.proofs.Lists.{belong_table, stand_lists}
+use Rattle.postings.specs.Stands.{belong_table, stand_lists}
 use Rattle.postings.proofs.table.PostingsTable.over.Goals as goal
 
 pub invariant_of-result : goal.invariant_of-result
