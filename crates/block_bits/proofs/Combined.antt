@@ -45,7 +45,7 @@ is_set-combined : (rule : Bool → Bool → Bool) (old others now : List ℕ) (p
 unfolding is_set
 is_set-combined rule old others now place at whole h = (whole.done (at / 64) h).bits (at % 64) (omega arith)
 
-is_set-past : (words : List ℕ) (at : ℕ) → length words ≤ at / 64 → is_set words at ≡ false
+pub is_set-past : (words : List ℕ) (at : ℕ) → length words ≤ at / 64 → is_set words at ≡ false
 unfolding is_set
 is_set-past words at h = ap (λ w. eqb (bit_at w (at % 64)) 1) (get_or_past words (at / 64) 0 h) ∙ ap (λ b. eqb b 1) (bit_at-zero (at % 64))
 

@@ -3,8 +3,11 @@ pub mod Combined
 pub mod Ranges
 pub mod Counts
 pub mod Places
+pub mod Nearest
 pub mod Search
+pub mod Walked
 pub mod OneEach
+pub mod Numbers
 pub mod Above
 pub mod Scoped
 pub mod Nested

@@ -36,7 +36,7 @@ set_count-past (flags ∷ sets) len doc lengths past =
     ∙ ap (λ flag. cond flag 1 0 + set_count sets doc) (get_or_past flags doc false (omega (arith, All-head (λ one. length one ≡ len) flags sets lengths)))
     ∙ omega (arith, set_count-past sets len doc (All-tail (λ one. length one ≡ len) flags sets lengths) past)
 
-bit_is_flag : (bit : ℕ) (flag : Bool) → bit < 2 → eqb bit 1 ≡ flag → bit ≡ cond flag 1 0
+pub bit_is_flag : (bit : ℕ) (flag : Bool) → bit < 2 → eqb bit 1 ≡ flag → bit ≡ cond flag 1 0
 bit_is_flag zero flag h e = ap (λ (b : Bool). cond b 1 0) e
 bit_is_flag (suc zero) flag h e = ap (λ (b : Bool). cond b 1 0) e
 bit_is_flag (suc (suc bit)) flag h e = absurd (omega arith)

@@ -1,12 +1,13 @@
 -- The search for a set bit, word by word.
-use Rattle.std.proofs.Common.{◌≡◌, ℕ, suc, ◌+◌, ◌-◌, ◌*◌, ◌/◌, ◌%◌, ◌^◌, ◌<◌, ◌≤◌, Bool, true, false, List, length, get_or, take, Some, None, min, sym, ap, subst, ◌∙◌, inl, inr, arith, eqb, bit_and}
-use Rattle.std.specs.Int.{bit_at, w64, trailing_zeros, leading_zeros}
-use Rattle.std.proofs.lemmas.List.{get_or-take, length-take}
+use Rattle.std.proofs.Common.{◌≡◌, ◌≢◌, ℕ, zero, suc, refl, ◌+◌, ◌-◌, ◌*◌, ◌/◌, ◌%◌, ◌^◌, ◌<◌, ◌≤◌, Bool, true, false, List, length, get_or, take, Some, None, min, sym, ap, subst, ◌∙◌, inl, inr, arith, eqb, bit_and}
+use Rattle.std.specs.Int.{bit_at, w64, bit_not, trailing_zeros, leading_zeros}
+use Rattle.std.proofs.lemmas.List.{get_or-take, get_or_past, length-take}
 use Rattle.std.proofs.lemmas.Nat.{and_le_l, leading_top, shr_below, le-div, pow_pos}
-use Rattle.std.proofs.lemmas.Nat.Bits.{bit_at_and, bit_at-zero, bit_at-lt, ones_shl, ones_shr, bit_at_mask_inside, bit_at_mask_below, bit_at_ones, bit_at_ones_above, bit_at-trailing_zeros, bit_at_above}
-use Rattle.std.proofs.lemmas.Bool.{cases_lt}
+use Rattle.std.proofs.lemmas.Nat.Bits.{bit_at_and, bit_at-zero, bit_at-lt, ones_shl, ones_shr, bit_at_mask_inside, bit_at_mask_below, bit_at_ones, bit_at_ones_above, bit_at-trailing_zeros, bit_at_above, bit_at_clear_same, bit_at_clear_other}
+use Rattle.std.proofs.lemmas.Bool.{cases_eq, cases_lt}
 use Rattle.block_bits.specs.Flags.{is_marked, is_set, flags}
 use Rattle.block_bits.specs.Places.{next_place, previous_place}
+use Rattle.block_bits.specs.Walks.{IsSearched, IsFirstIn, HasNoneBefore}
 use Rattle.block_bits.proofs.Marks.{get_or-flags, len_is, is_set-bit}
 use Rattle.block_bits.proofs.Places.{next_place-first, next_place-none, previous_place-last, previous_place-none}
 
@@ -17,14 +18,6 @@ by_bit P place each k low high =
     subst P here (each (k - 64 * place) (omega arith))
 
 -- ---- upwards
-
--- `word` has the documents of word `place` that are at or after `from`, and none in between is set
-pub record IsSearched (words : List ℕ) (from place word : ℕ) : Type 0 where
-  pub low : from / 64 ≤ place
-  pub fits : word < 2 ^ 64
-  pub bits : (i : ℕ) → i < 64 → from ≤ 64 * place + i → bit_at word i ≡ bit_at (get_or words place 0) i
-  pub under : (i : ℕ) → i < 64 → 64 * place + i < from → bit_at word i ≡ 0
-  pub before : (k : ℕ) → from ≤ k → k < 64 * place → is_set words k ≡ false
 
 pub search_begins : (words : List ℕ) (from word : ℕ) → word < 2 ^ 64 → word ≡ get_or words (from / 64) 0 → IsSearched words from (from / 64) (bit_and word ((2 ^ 64 - 1) * 2 ^ (from % 64) % 2 ^ 64))
 search_begins words from word fits read =
@@ -45,6 +38,15 @@ search_begins words from word fits read =
           ∙ omega arith;
       before = λ k later earlier. absurd (omega arith);
     }
+
+pub search_past : (words : List ℕ) (from : ℕ) → length words ≤ from / 64 → IsSearched words from (from / 64) 0
+search_past words from past = record {
+  low = omega arith;
+  fits = omega arith;
+  bits = λ i h later. ap (λ w. bit_at w i) (sym (get_or_past words (from / 64) 0 past));
+  under = λ i h earlier. bit_at-zero i;
+  before = λ k later earlier. absurd (omega arith);
+}
 
 -- a word of none: its documents from `from` on are not set
 pub none_in_word : (words : List ℕ) (from place : ℕ) → IsSearched words from place 0 → (k : ℕ) → from ≤ k → k < 64 * (place + 1) → is_set words k ≡ false
@@ -71,25 +73,97 @@ pub record IsNext (words : List ℕ) (from at : ℕ) : Type 0 where
   pub here : is_set words at ≡ true
   pub before : (k : ℕ) → from ≤ k → k < at → is_set words k ≡ false
 
-pub search_finds : (words : List ℕ) (from place word at : ℕ) → 0 < word → IsSearched words from place word → at ≡ 64 * place + trailing_zeros w64 word → IsNext words from at
-search_finds words from place word at some searched is =
-    let lowest = bit_at-trailing_zeros w64 word some searched.fits in
+-- the lowest document of the word
+pub first_in_word : (place word at : ℕ) → 0 < word → word < 2 ^ 64 → at ≡ 64 * place + trailing_zeros w64 word → IsFirstIn place word at
+first_in_word place word at some fits is =
+    let lowest = bit_at-trailing_zeros w64 word some fits in
     let i = trailing_zeros w64 word in
-    let later : from ≤ 64 * place + i = elim (cases_lt (64 * place + i) from) [
-      | inl earlier ↦ absurd (omega (arith, searched.under i lowest.0 earlier, lowest.1))
+    let here : 64 * place + i - 64 * place ≡ i = omega arith in
+    rw is record {
+      low = omega arith;
+      high = omega (arith, lowest.0);
+      here = rw here lowest.1;
+      before = λ j earlier. lowest.2 j (omega arith);
+    }
+
+pub first_is_next : (words : List ℕ) (from place word at : ℕ) → IsSearched words from place word → IsFirstIn place word at → IsNext words from at
+first_is_next words from place word at searched first =
+    let i = at - 64 * place in
+    let inside : i < 64 = omega (arith, first.low, first.high) in
+    let is : 64 * place + i ≡ at = omega (arith, first.low) in
+    let later : from ≤ at = elim (cases_lt at from) [
+      | inl earlier ↦ absurd (let under : bit_at word i ≡ 0 = searched.under i inside (omega (arith, earlier, is)) in omega (arith, under, first.here))
       | inr on ↦ on
     ]
-    in rw is record {
+    in record {
       later = later;
-      here = is_set-bit words place i lowest.0 ∙ ap (λ b. eqb b 1) (sym (searched.bits i lowest.0 later) ∙ lowest.1);
+      here = ap (is_set words) (sym is) ∙ is_set-bit words place i inside ∙ ap (λ b. eqb b 1) (sym (searched.bits i inside (omega (arith, later, is))) ∙ first.here);
       before = λ k from_on below. elim (cases_lt k (64 * place)) [
         | inl earlier ↦ searched.before k from_on earlier
         | inr on ↦
-            by_bit (λ at. from ≤ at → at < 64 * place + i → is_set words at ≡ false) place
-            (λ j h on_from under. is_set-bit words place j h ∙ ap (λ b. eqb b 1) (sym (searched.bits j h on_from) ∙ lowest.2 j (omega arith)))
-            k on (omega (arith, lowest.0)) from_on below
+            by_bit (λ doc. from ≤ doc → doc < at → is_set words doc ≡ false) place
+            (λ j h on_from under. is_set-bit words place j h ∙ ap (λ b. eqb b 1) (sym (searched.bits j h on_from) ∙ first.before j under))
+            k on (omega (arith, below, first.high)) from_on below
       ];
     }
+
+-- ---- a word without a document before `end`
+
+pub none_in_0 : (place end : ℕ) → HasNoneBefore place 0 end
+none_in_0 place end = record { none = λ i h earlier. bit_at-zero i; reaches = λ never. absurd (omega arith) }
+
+pub none_before_first : (place word at end : ℕ) → IsFirstIn place word at → end ≤ at → HasNoneBefore place word end
+none_before_first place word at end first past = record {
+  none = λ i h earlier. first.before i (omega arith);
+  reaches = λ some. omega (arith, first.high);
+}
+
+-- how far the documents are known, by the last word that was to be looked at
+pub reaches_end : (place word last end : ℕ) → HasNoneBefore place word end → (word ≡ 0 → last ≤ place) → end ≤ 64 * (last + 1) → end ≤ 64 * (place + 1)
+reaches_end place zero last end none up_to within = omega (arith, up_to refl)
+reaches_end place (suc word) last end none up_to within = none.reaches (omega arith)
+
+pub none_up_to : (words : List ℕ) (from place word end : ℕ) → IsSearched words from place word → HasNoneBefore place word end → end ≤ 64 * (place + 1)
+    → (k : ℕ) → from ≤ k → k < end → is_set words k ≡ false
+none_up_to words from place word end searched none reaches k later within = elim (cases_lt k (64 * place)) [
+  | inl earlier ↦ searched.before k later earlier
+  | inr on ↦
+      by_bit (λ doc. from ≤ doc → doc < end → is_set words doc ≡ false) place
+      (λ i h on_from before. is_set-bit words place i h ∙ ap (λ b. eqb b 1) (sym (searched.bits i h on_from) ∙ none.none i h before))
+      k on (omega arith) later within
+]
+
+-- ---- a walk goes on
+
+-- behind the document that it gave
+pub walk_taken : (words : List ℕ) (from place word at : ℕ) → IsSearched words from place word → IsFirstIn place word at
+    → IsSearched words (at + 1) place (bit_and word (bit_not w64 (1 * 2 ^ (at % 64) % 2 ^ 64)))
+walk_taken words from place word at searched first =
+    let next = first_is_next words from place word at searched first in
+    let here : at % 64 ≡ at - 64 * place = omega (arith, first.low, first.high) in
+    record {
+      low = omega (arith, first.high);
+      fits = omega (arith, searched.fits, and_le_l word (bit_not w64 (1 * 2 ^ (at % 64) % 2 ^ 64)));
+      bits = λ i h later.
+          let apart : i ≢ at % 64 = λ e. omega (arith, e, here, first.low) in
+          bit_at_clear_other w64 word (at % 64) (omega arith) i h apart ∙ searched.bits i h (omega (arith, later, next.later));
+      under = λ i h earlier. elim (cases_eq i (at % 64)) [
+        | inl same ↦ rw same (bit_at_clear_same w64 word (at % 64) (omega arith))
+        | inr apart ↦ bit_at_clear_other w64 word (at % 64) (omega arith) i h apart ∙ first.before i (omega (arith, apart, here, first.low))
+      ];
+      before = λ k past earlier. absurd (omega (arith, first.low));
+    }
+
+-- at `end`, where there is none before
+pub walk_passed : (words : List ℕ) (from place word end : ℕ) → IsSearched words from place word → HasNoneBefore place word end → from ≤ end → end ≤ 64 * (place + 1)
+    → IsSearched words end place word
+walk_passed words from place word end searched none later reaches = record {
+  low = reaches;
+  fits = searched.fits;
+  bits = λ i h on. searched.bits i h (omega arith);
+  under = λ i h earlier. none.none i h earlier;
+  before = λ k on earlier. searched.before k (omega arith) earlier;
+}
 
 -- the flags of a set of `value`, cut at `end`
 cut_flag : (words : List ℕ) (len end k : ℕ) (value : List Bool) → flags words len ≡ value → end ≤ length value → k < end → get_or (take end value) k false ≡ is_set words k

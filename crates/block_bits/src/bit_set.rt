@@ -1,14 +1,17 @@
-ghost use Rattle.std.specs.Prelude.{◌≡◌, ◌==◌, ◌+◌, ◌*◌, ◌^◌, ℕ, ◌<◌, ◌≤◌, ◌&&◌, not, nat_lt, Bool, true, false, List, length, replicate, take, slice_index_or, slice_set, count_by, IfOk, IfSome, if◌then◌else◌};
+//! The set of documents.
+
+ghost use Rattle.std.specs.Prelude.{◌≡◌, ◌≢◌, ◌==◌, ◌+◌, ◌*◌, ◌^◌, ℕ, ◌<◌, ◌≤◌, ◌&&◌, not, nat_lt, Bool, true, false, List, length, replicate, take, slice_index_or, slice_set, count_by, IfOk, IfSome, IfNone, if◌then◌else◌};
 ghost use Rattle.std.specs.Int.{bit_at};
 ghost use Rattle.block_bits.specs.Flags.{is_marked, is_between, cleared, intersection, union, difference};
 ghost use Rattle.block_bits.specs.Places.{next_place, previous_place};
+ghost use Rattle.block_bits.specs.Words.{words_of};
 
-use crate::NoMemory;
+use crate::words::{
+    WORD, full_word, has_past, next_document, range_word, word_from, words_fit, zero_words,
+};
+use crate::{NoMemory, Walk};
 use std::alloc::Global;
 use std::marker::Model;
-
-/// Documents a word.
-pub(crate) const WORD: u32 = 64;
 
 /// A set of the documents of a segment, seen as one flag a document.
 ///
@@ -49,6 +52,36 @@ impl BitSet {
             words.push(full_word(len - place * WORD))?;
         }
         Ok(BitSet { words, len })
+    }
+
+    /// The set whose u64s these are: 64 documents each, the first in the lowest bit, and no bit past the last document.
+    /// None where they are the u64s of no set of `len` documents. Takes no memory.
+    pub fn of_words(words: Vec<u64>, len: u32) -> Option<BitSet>
+        ensures set { IfSome result (λ set. (length set ≡ len) × (words.items ≡ words_of set)) }
+        ensures none { IfNone result ((flags : List Bool) → length flags ≡ len → words.items ≢ words_of flags) }
+    {
+        if words.len() != len.div_ceil(WORD) as usize {
+            return None;
+        }
+        if has_past(words.as_slice(), len) {
+            return None;
+        }
+        Some(BitSet { words, len })
+    }
+
+    /// The set's u64s: 64 documents each, the first in the lowest bit, and no bit past the last document.
+    pub fn words(&self) -> &[u64]
+        ensures { result.now ≡ words_of self.now }
+    {
+        words_fit(self.words.as_slice());
+        self.words.as_slice()
+    }
+
+    /// A walk over the documents of the set, from the first on.
+    pub fn walk(&self) -> Walk<'_>
+        ensures { result ≡ record { documents = self.now; from = 0 } }
+    {
+        Walk::over(self.words.as_slice(), self.len)
     }
 
     /// An equal set.
@@ -117,7 +150,7 @@ impl BitSet {
     /// The first document of the set at or after `from` and before `end`.
     ///
     /// It looks at the words between the two and no further.
-    pub(crate) fn next_set_before(&self, from: u32, end: u32) -> Option<u32>
+    pub fn next_set_before(&self, from: u32, end: u32) -> Option<u32>
         requires { end ≤ length self.now }
         ensures value { result ≡ next_place is_marked from (take end self.now) }
         ensures within { IfSome result (λ at. (from ≤ at) × (at < end)) }
@@ -125,22 +158,8 @@ impl BitSet {
         if from >= end {
             return None;
         }
-        let last = ((end - 1) / WORD) as usize;
-        let mut place = (from / WORD) as usize;
-        let mut word = self.words[place] & (u64::MAX << (from % WORD));
-        'words: while word == 0 {
-            if place == last {
-                return None;
-            }
-            place += 1;
-            word = self.words[place];
-        }
-        let at = place as u64 * WORD as u64 + word.trailing_zeros() as u64;
-        if at < end as u64 {
-            Some(at as u32)
-        } else {
-            None
-        }
+        let words = self.words.as_slice();
+        next_document(words, from / WORD, word_from(words, from), end).2
     }
 
     /// The last document of the set before `below`.
@@ -214,29 +233,4 @@ impl BitSet {
     {
         self.words[place as usize]
     }
-}
-
-/// So many words of no document.
-fn zero_words(alloc: Global, count: usize) -> Result<Vec<u64>, NoMemory>
-    ensures { IfOk result (λ words. words.items ≡ replicate count 0) }
-{
-    Ok(vec![in alloc; 0; count]?)
-}
-
-/// The word of so many documents, or of 64 where there are more.
-pub(crate) fn full_word(count: u32) -> u64
-    ensures { (i : ℕ) → i < 64 → bit_at result i ≡ (if nat_lt i count then 1 else 0) }
-{
-    if count < WORD {
-        (1 << count) - 1
-    } else {
-        u64::MAX
-    }
-}
-
-/// The word of 64 documents, the first of them `start`: those from `from` up to `end`.
-fn range_word(start: u32, from: u32, end: u32) -> u64
-    ensures { (i : ℕ) → i < 64 → (bit_at result i == 1) ≡ is_between from end (start + i) }
-{
-    full_word(end.saturating_sub(start)) & !full_word(from.saturating_sub(start))
 }

@@ -1,3 +1,5 @@
+//! Whether documents are blocks, and the scope of a document.
+
 ghost use Rattle.std.specs.Prelude.{◌≡◌, ℕ, ◌+◌, ◌<◌, ◌≤◌, ◌↔◌, List, length, IsTrue, IfSome, IfNone};
 ghost use Rattle.block_bits.specs.Scopes.{IsScopeTree, is_above};
 ghost use Rattle.block_bits.specs.Blocks.{AreBits, IsBlocks, EnclosesAt, scope_at};

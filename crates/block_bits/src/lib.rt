@@ -8,16 +8,21 @@
 
 mod bit_set;
 mod blocks;
+mod laws;
 mod lists;
 mod partition;
 mod scope_bits;
 #[cfg(test)]
 mod tests;
+mod walk;
+mod words;
 
 pub use bit_set::BitSet;
+pub use laws::{places_are_nearest, words_are_of_one_set};
 pub use lists::{BitList, ScopeList};
 pub use scope_bits::{BitsRefusal, ScopeBits};
 use std::alloc::{AllocError, AllocFailed};
+pub use walk::Walk;
 
 /// Memory ran out. What the call was to change is as it was.
 #[derive(Clone, Copy, Debug, PartialEq, Eq)]

@@ -1,3 +1,5 @@
+//! Lists that others hand in: the scope around each scope, and sets.
+
 ghost use Rattle.std.specs.Prelude.{◌≡◌, ◌↔◌, IsTrue};
 ghost use Rattle.block_bits.specs.Blocks.{HaveOneScope};
 

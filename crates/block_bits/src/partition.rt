@@ -1,10 +1,12 @@
+//! Whether each document is in exactly one set.
+
 ghost use Rattle.std.specs.Prelude.{◌≡◌, ℕ, ◌*◌, ◌^◌, ◌<◌, ◌↔◌, Bool, List, [], length, slice_index_or, All, IsTrue};
 ghost use Rattle.block_bits.specs.Blocks.{AreBits};
 ghost use Rattle.block_bits.specs.Seen.{scopes_seen};
 ghost use Rattle.block_bits.specs.OneScope.{set_count, HasOneIn, IsPartition};
 
 use crate::BitSet;
-use crate::bit_set::{WORD, full_word};
+use crate::words::{WORD, full_word};
 
 /// How many documents the sets are of, where each is of as many.
 pub(crate) fn count_documents(sets: &[BitSet]) -> u32

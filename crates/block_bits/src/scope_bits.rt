@@ -1,6 +1,9 @@
+//! The scope of each document of a list of blocks.
+
 ghost use Rattle.std.specs.Prelude.{◌≡◌, ℕ, ◌<◌, ◌≤◌, ◌↔◌, List, length, Some, IsTrue, IsSome, IfSome, IfOk, IsErrOf};
 ghost use Rattle.block_bits.specs.Scopes.{IsScopeTree, is_above};
 ghost use Rattle.block_bits.specs.Blocks.{AreBits, IsBlocks, scope_at, documents_of, enclosing_document, child_start};
+ghost use Rattle.block_bits.specs.Seen.{scopes_seen};
 
 use crate::blocks::{are_blocks, lies_above, scope_of};
 use crate::partition::{count_documents, give_one_scope};
@@ -43,6 +46,7 @@ impl<'a> ScopeBits<'a> {
         ensures parents { IfOk result (λ made. made.parents ≡ parents.now) }
         ensures bits { IfOk result (λ made. AreBits (length parents.now) bits.now made.scopes) }
         ensures blocks { IfOk result (λ made. IsBlocks made.parents made.scopes) }
+        ensures seen { IfOk result (λ made. made.scopes ≡ scopes_seen bits.now) }
 
         // No scopes have these bits.
         ensures not_one_scope { IsErrOf result BitsRefusal.NotOneScope ↔
@@ -63,6 +67,20 @@ impl<'a> ScopeBits<'a> {
         Ok(ScopeBits { parents, bits })
     }
 
+    /// The scopes of documents, given bits that are known to be those of a list of blocks.
+    ///
+    /// It tests nothing and takes no memory, where `over` reads the bits of all documents.
+    pub fn of(parents: &'a ScopeList, bits: &'a BitList) -> ScopeBits<'a>
+        requires tree { IsScopeTree parents.now }
+        requires blocks { (scopes : List ℕ) × AreBits (length parents.now) bits.now scopes × IsBlocks parents.now scopes }
+        ensures made { result ≡ record { parents = parents.now; scopes = scopes_seen bits.now } }
+        ensures bits { AreBits (length parents.now) bits.now result.scopes }
+        ensures blocks { IsBlocks result.parents result.scopes }
+    {
+        let _count = count_documents(bits.as_slice());
+        ScopeBits { parents, bits }
+    }
+
     /// How many documents there are.
     pub fn len(&self) -> u32
         ensures { result ≡ length self.now.scopes }
@@ -76,6 +94,15 @@ impl<'a> ScopeBits<'a> {
         ensures { result.now ≡ documents_of self.now.scopes scope }
     {
         &self.bits.as_slice()[scope as usize]
+    }
+
+    /// The scope of a document.
+    pub fn scope_of(&self, doc: u32) -> usize
+        requires { doc < length self.now.scopes }
+        ensures scope { result ≡ scope_at self.now.scopes doc }
+        ensures within { result < length self.now.parents }
+    {
+        scope_of(self.bits.as_slice(), doc)
     }
 
     /// The document of the object at `scope` around a document, and None where that scope isn't strictly above.

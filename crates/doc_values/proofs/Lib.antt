@@ -1,3 +1,5 @@
-pub mod Flat
-pub mod Columns
 pub mod Lookups
+pub mod Numbers
+pub mod Entries
+pub mod Kept
+pub mod Found

@@ -1,16 +1,12 @@
 -- The values of a document among rows.
-use Rattle.std.proofs.Common.{◌≡◌, ℕ, ◌+◌, ◌-◌, ◌<◌, ◌^◌, ◌↔◌, ◌⊎◌, inl, inr, zero, suc, List, [], ◌∷◌, length, get_or, refl, sym, ◌∙◌, ap, subst, arith, Contains, Err, ◌≤◌, le_of_eq}
-use Rattle.std.specs.List.Sorted.{IsStrictlyIncreasing, IsSorted, IsBinarySearchResult}
-use Rattle.std.specs.Ordering.{nat_cmp}
+use Rattle.std.proofs.Common.{◌≡◌, ℕ, ◌+◌, ◌-◌, ◌<◌, ◌^◌, ◌↔◌, ◌⊎◌, inl, inr, zero, suc, List, [], ◌∷◌, length, get_or, refl, sym, ◌∙◌, ap, subst, arith, Contains, ◌≤◌}
+use Rattle.std.specs.List.Sorted.{IsStrictlyIncreasing, IsSorted}
 use Rattle.std.specs.declared.cmp.Ordering.{Ordering}
-use Rattle.std.proofs.lemmas.List.Sorted.{searched}
 use Rattle.std.proofs.lemmas.Bool.{cases_lt}
 use Rattle.std.proofs.lemmas.Bool.Decides.{nat_tests}
 use Rattle.std.proofs.lemmas.List.{length-map, get_or-map, get_or_default}
 use Rattle.std.proofs.lemmas.Map.Keys.{sorted_from_strictly_increasing, below_from_sorted}
 use Rattle.doc_values.specs.Values.{documents, values_of, AreRows}
-use Rattle.doc_values.specs.Kept.{row, row_at, rows_of}
-use Rattle.doc_values.proofs.Columns.{length-rows_of, get_or-rows_of}
 
 -- the first row of the document has its values
 values_of-first : {X : Type 0} (rows : List (ℕ × List X)) (at doc : ℕ) (d : ℕ × List X) → at < length rows → (get_or rows at d).0 ≡ doc → ((k : ℕ) → k < at → (get_or rows k d).0 ≡ doc → ⊥) → values_of doc rows ≡ (get_or rows at d).1
@@ -28,28 +24,6 @@ values_of-absent (r ∷ rows) doc d never =
     let other : r.0 ≡ doc → ⊥ = λ same. never 0 (omega arith) same in
     let rest : values_of doc rows ≡ [] = values_of-absent rows doc d (λ k early same. never (suc k) (omega arith) same) in
     grind (arith, nat_tests, rest, other)
-
--- in a column: the row at the document's place, and nothing where it has none
-pub values_of-found : {X : Type 0} (docs starts : List ℕ) (values : List X) (at doc : ℕ) → IsStrictlyIncreasing docs → at < length docs → get_or docs at 0 ≡ doc → values_of doc (rows_of docs starts values) ≡ row starts values at
-values_of-found {X} docs starts values at doc ascend below is =
-    let rows = rows_of docs starts values in
-    let first : ℕ × List X = row_at docs starts values 0 in
-    let same : (k : ℕ) → k < length docs → get_or rows k first ≡ row_at docs starts values k = λ k inside. get_or-rows_of docs starts values k first inside in
-    values_of-first rows at doc first (omega (arith, length-rows_of docs starts values, below))
-    (ap (λ (r : ℕ × List X). r.0) (same at below) ∙ is)
-    (λ k earlier own.
-    let less : get_or docs k 0 < get_or docs at 0 = below_from_sorted docs k at 0 (sorted_from_strictly_increasing docs ascend) earlier below in
-    let there : get_or docs k 0 ≡ doc = sym (ap (λ (r : ℕ × List X). r.0) (same k (omega (arith, earlier, below)))) ∙ own in
-    absurd (omega (arith, less, there, is)))
-    ∙ ap (λ (r : ℕ × List X). r.1) (same at below)
-
-pub values_of-missing : {X : Type 0} (docs starts : List ℕ) (values : List X) (doc : ℕ) → (Contains docs doc → ⊥) → values_of doc (rows_of docs starts values) ≡ []
-values_of-missing {X} docs starts values doc never =
-    let first : ℕ × List X = row_at docs starts values 0 in
-    values_of-absent (rows_of docs starts values) doc first (λ k below own.
-    let inside : k < length docs = omega (arith, length-rows_of docs starts values, below) in
-    let there : get_or docs k 0 ≡ doc = sym (ap (λ (r : ℕ × List X). r.0) (get_or-rows_of docs starts values k first inside)) ∙ own in
-    never (k, inside, get_or_default docs k doc 0 inside ∙ there))
 
 -- a number that isn't the first is one of the rest
 contains_rest : (x : ℕ) (xs : List ℕ) (y k : ℕ) → k < length (x ∷ xs) → get_or (x ∷ xs) k y ≡ y → (x ≡ y → ⊥) → Contains xs y
@@ -122,22 +96,6 @@ values_of-none {X} cmp rows doc are = elim (values_of-cases rows doc) [
       (λ empty. absurd (omega (arith, empty, some, ap length (own.values d))), λ never. absurd (never there))
 ]
 
--- a binary search that finds no place for a document shows that it isn't there
-pub searched_missing : (docs : List ℕ) (doc at : ℕ) → IsStrictlyIncreasing docs → IsBinarySearchResult (λ y. nat_cmp y doc) docs (Err at) → Contains docs doc → ⊥
-searched_missing docs doc at ascend result there =
-    let sorted = sorted_from_strictly_increasing docs ascend in
-    let rising : (i j : ℕ) → i ≤ j → j < length docs → get_or docs i 0 ≤ get_or docs j 0 = λ i j upto below.
-    elim (cases_lt i j) [
-      | inl less ↦ let smaller : get_or docs i 0 < get_or docs j 0 = below_from_sorted docs i j 0 sorted less below in omega (arith, smaller)
-      | inr from ↦ let same : i ≡ j = omega arith in le_of_eq (ap (λ k. get_or docs k 0) same)
-    ] in
-    let apart = searched docs doc (Err at) result rising in
-    let here : get_or docs there.0 0 ≡ doc = get_or_default docs there.0 0 doc there.1 ∙ there.2 in
-    elim (cases_lt there.0 at) [
-      | inl before ↦ let less : get_or docs there.0 0 < doc = apart.1 there.0 before in absurd (omega (arith, less, here))
-      | inr from ↦ let more : doc < get_or docs there.0 0 = apart.2 there.0 from there.1 in absurd (omega (arith, more, here))
-    ]
-
 -- the document of a row
 pub documents_at : {X : Type 0} (rows : List (ℕ × List X)) (at : ℕ) (d : ℕ × List X) → at < length rows → get_or (documents rows) at 0 ≡ (get_or rows at d).0
 documents_at {X} rows at d inside = let first : ℕ × List X → ℕ = λ r. r.0 in get_or-map first rows at d 0 inside
@@ -152,3 +110,30 @@ rising_more numbers at some before more k below =
           let next : get_or numbers at 0 ≡ get_or numbers (k + 1) 0 = ap (λ i. get_or numbers i 0) (omega (arith, from, below)) in
           omega (arith, here, next, more)
     ]
+
+-- the row of a document that is found has its values, and one that has no row has none
+pub values_of-at : {X : Type 0} (rows : List (ℕ × List X)) (at doc : ℕ) (d : ℕ × List X) → IsStrictlyIncreasing (documents rows) → at < length rows → (get_or rows at d).0 ≡ doc → values_of doc rows ≡ (get_or rows at d).1
+values_of-at {X} rows at doc d ascend below is =
+    let first : ℕ × List X → ℕ = λ row. row.0 in
+    let here = documents_at rows at d below in
+    values_of-first rows at doc d below is
+    (λ k earlier own.
+    let inside : at < length (documents rows) = omega (arith, below, length-map rows first) in
+    let less : get_or (documents rows) k 0 < get_or (documents rows) at 0 = below_from_sorted (documents rows) k at 0 (sorted_from_strictly_increasing (documents rows) ascend) earlier inside in
+    let there = documents_at rows k d (omega (arith, earlier, below)) in
+    absurd (omega (arith, less, there, own, here, is)))
+
+pub values_of-missing : {X : Type 0} (rows : List (ℕ × List X)) (doc : ℕ) → (Contains (documents rows) doc → ⊥) → values_of doc rows ≡ []
+values_of-missing {X} rows doc never = elim (values_of-cases rows doc) [
+  | inl none ↦ none.0
+  | inr own ↦
+      let d : ℕ × List X = (0, []) in
+      let first : ℕ × List X → ℕ = λ row. row.0 in
+      absurd (never (own.at, omega (arith, length-map rows first, own.below), get_or-map first rows own.at d doc own.below ∙ own.document d))
+]
+
+-- what is known of the element at an index
+pub one_more : {X : Type 0} (P : X → Type 0) (xs : List X) (at k : ℕ) (own d : X) → at < length xs → own ≡ get_or xs at own → P own → at ≤ k → k < at + 1 → P (get_or xs k d)
+one_more P xs at k own d inside is here from below =
+    let same : at ≡ k = omega arith in
+    subst P (is ∙ ap (λ i. get_or xs i own) same ∙ get_or_default xs k own d (omega arith)) here

@@ -1,30 +1,39 @@
--- How a column is kept: the values of all rows end to end in one list, with the place where each row's begin.
-use Rattle.std.specs.Prelude.{◌≡◌, ℕ, ◌+◌, ◌-◌, ◌<◌, ◌≤◌, List, length, map, slice_index}
-use Rattle.std.specs.List.{range_with_len, slice_range}
+-- How a column is read in place: the values of an entry are the numbers behind its first eight bytes.
+use Rattle.std.specs.Prelude.{ℕ, ◌+◌, ◌*◌, ◌/◌, ◌<◌, ◌≤◌, List, length, map, drop}
+use Rattle.std.specs.List.{range_with_len}
+use Rattle.std.specs.List.Sorted.{IsStrictlyIncreasing}
 use Rattle.std.specs.declared.cmp.Ordering.{Ordering}
+use Rattle.part_text.specs.Front.{first_u32}
+use Rattle.part_text.specs.Places.{row, rows_of, ArePlaces}
 use Rattle.doc_values.specs.Values.{AreRows}
 
--- from the start of row `at` up to the start of the next one
-abbrev pub row : {X : Type 0} → List ℕ → List X → ℕ → List X
-row starts flat at = slice_range flat (slice_index starts at) (slice_index starts (at + 1))
+-- number `at` of bytes, eight bytes a number
+abbrev pub value_in : {X : Type 0} → (List ℕ → X) → List ℕ → ℕ → X
+value_in front bytes at = front (drop (8 * at) bytes)
 
--- one start for each row and the end of the last: they don't fall, and the end is that of the list
-pub record AreStarts (starts : List ℕ) (end : ℕ) : Type 0 where
-  pub some : 0 < length starts
-  pub rising : (at : ℕ) → at + 1 < length starts → slice_index starts at ≤ slice_index starts (at + 1)
-  pub within : (at : ℕ) → at < length starts → slice_index starts at ≤ end
-  pub last : slice_index starts (length starts - 1) ≡ end
+-- the numbers that bytes are
+unfoldable pub values_in : {X : Type 0} → (List ℕ → X) → List ℕ → List X
+values_in front bytes = map (value_in front bytes) (range_with_len 0 (length bytes / 8))
 
--- row number `at`: its document, and its values
-abbrev pub row_at : {X : Type 0} → List ℕ → List ℕ → List X → ℕ → ℕ × List X
-row_at docs starts values at = (slice_index docs at, row starts values at)
+-- the document of an entry, and its values
+abbrev pub entry_of : {X : Type 0} → (List ℕ → X) → List ℕ → ℕ × List X
+entry_of front entry = (first_u32 entry, values_in front (drop 8 entry))
 
--- all rows, in order
-unfoldable pub rows_of : {X : Type 0} → List ℕ → List ℕ → List X → List (ℕ × List X)
-rows_of docs starts values = map (row_at docs starts values) (range_with_len 0 (length docs))
+-- the rows of the entries at these places
+unfoldable pub column_rows : {X : Type 0} → (List ℕ → X) → List ℕ → List ℕ → List (ℕ × List X)
+column_rows front places bytes = map (entry_of front) (rows_of places bytes)
 
--- a start for each row, and the rows as a column has them
-pub record IsColumn {X : Type 0} (cmp : X → X → Ordering) (docs starts : List ℕ) (values : List X) : Type 0 where
-  pub starts_are : AreStarts starts (length values)
-  pub long : length starts ≡ length docs + 1
-  pub rows_are : AreRows cmp (rows_of docs starts values)
+-- the document of each entry
+unfoldable pub documents_in : List ℕ → List ℕ → List ℕ
+documents_in places bytes = map first_u32 (rows_of places bytes)
+
+-- entries of eight bytes at least, with ascending documents
+pub record AreEntriesAt (places bytes : List ℕ) : Type 0 where
+  pub places_are : ArePlaces places (length bytes)
+  pub whole : (at : ℕ) → at + 1 < length places → 8 ≤ length (row places bytes at)
+  pub ascending : IsStrictlyIncreasing (documents_in places bytes)
+
+-- entries, and the rows of a column
+pub record IsKept {X : Type 0} (cmp : X → X → Ordering) (front : List ℕ → X) (places bytes : List ℕ) : Type 0 where
+  pub entries : AreEntriesAt places bytes
+  pub rows_are : AreRows cmp (column_rows front places bytes)

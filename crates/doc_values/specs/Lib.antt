@@ -1,2 +1,7 @@
+-- To be believed: the values of documents, a column's text, and where a column stands.
 pub mod Values
+pub mod Text
+pub mod Stands
+-- These serve proofs alone: how a column is read in place, and readers that undo its text.
 pub mod Kept
+pub mod Reading

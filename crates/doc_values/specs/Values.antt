@@ -13,6 +13,10 @@ abbrev pub values_of : {X : Type 0} → ℕ → List (ℕ × List X) → List X
 values_of doc [] = []
 values_of doc (row ∷ rows) = if row.0 == doc then row.1 else values_of doc rows
 
+-- an ordinal that fits eight bytes
+abbrev pub IsOrdinal : ℕ → Type 0
+IsOrdinal ordinal = ordinal < 2 ^ 64
+
 -- the values of one document: one or more, ascending, the same one as often as it stands there
 pub record AreValues {X : Type 0} (cmp : X → X → Ordering) (values : List X) : Type 0 where
   pub some : 0 < length values

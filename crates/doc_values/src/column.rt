@@ -1,55 +1,87 @@
-//! The column of one field.
+//! The column of one field, read in place.
 
-ghost use Rattle.std.specs.Prelude.{◌≡◌, ℕ, ◌+◌, ◌<◌, ◌↔◌, List, length, Some, slice_get, slice_index, Contains, IfSome, IfNone, IfOk};
+ghost use Rattle.std.specs.Prelude.{◌≡◌, ℕ, ◌<◌, ◌↔◌, ◌++◌, List, length, drop, Some, slice_get, slice_index, Contains, IfSome, IsNone, IfOk, OnOk, OnErr};
 ghost use Rattle.std.specs.List.Sorted.{IsStrictlyIncreasing, IsSorted};
 ghost use Rattle.doc_values.specs.Values.{documents, values_of, AreRows};
-ghost use Rattle.doc_values.specs.Kept.{row, AreStarts};
+ghost use Rattle.doc_values.specs.Text.{column_text};
+ghost use Rattle.doc_values.specs.Stands.{IsColumn, Stands, Belong};
 
-use crate::{NoMemory, RowList, ValueList};
+use crate::placing::{from_place, placed_entries};
+use crate::search::{document, index_of, value_bytes};
+use crate::walk::head_at;
+use crate::written::put_column;
+use crate::{ColumnValue, RowList, Values};
+use part_text::{NoMemory, PlaceList};
 use std::alloc::Global;
-use std::marker::Model;
+use std::marker::{Model, PhantomData};
 
-/// The values of one field, by document.
-///
-/// The values of all documents stand in one vector, by ascending document.
+/// The values of one field, by document, read from the bytes of a segment.
 #[derive(Drop)]
-pub struct Column<T: Ord + Copy> {
-    docs: Vec<u32>,
-    starts: Vec<u64>,
-    values: Vec<T>,
+pub struct Column<'a, T: ColumnValue> {
+    bytes: &'a [u8],
+    places: &'a [u64],
+    of: PhantomData<T>,
 }
 
-impl<T: Ord + Copy> Model for Column<T> {
+impl<'a, T: ColumnValue> Model for Column<'a, T> {
     ghost use Rattle.std.specs.Prelude.{ℕ, List};
-    ghost use Rattle.doc_values.specs.Kept.{rows_of, IsColumn};
+    ghost use Rattle.doc_values.specs.Kept.{column_rows, IsKept};
 
     ghost Value = { List (ℕ × List T) };
 
-    ghost view = { λ it. rows_of it.docs.items it.starts.items it.values.items };
+    ghost view = { λ it. column_rows T.front it.places.now it.bytes.now };
 
-    ghost invariant = { λ it. IsColumn T.cmp it.docs.items it.starts.items it.values.items };
+    ghost invariant = { λ it. IsKept T.cmp T.front it.places.now it.bytes.now };
 }
 
-impl<T: Ord + Copy> Column<T> {
-    /// The column of these rows.
-    pub fn built(alloc: Global, rows: RowList<T>) -> Result<Column<T>, NoMemory>
-        ensures { IfOk result (λ column. column ≡ rows) }
+impl<'a, T: ColumnValue> Column<'a, T> {
+    /// The column whose entries stand at these places of bytes, as `places` finds them. Takes no memory.
+    pub fn over(bytes: &'a [u8], places: &'a PlaceList) -> Column<'a, T>
+        requires { (column : ℕ × List (ℕ × List T)) × Belong T.cmp T.Fits T.text bytes.now places.now column }
+        ensures { (column : ℕ × List (ℕ × List T)) → Belong T.cmp T.Fits T.text bytes.now places.now column → result ≡ column.1 }
     {
-        let list = rows.as_slice();
-        let mut docs = Vec::with_capacity(alloc, list.len())?;
-        let mut starts = Vec::with_capacity(alloc, list.len().saturating_add(1))?;
-        let mut values = Vec::with_capacity(alloc, value_count(list))?;
-        starts.push(0)?;
-        'rows: for (doc, own) in list {
-            docs.push(*doc)?;
-            values.extend_from_slice(own.as_slice())?;
-            starts.push(values.len() as u64)?;
+        Column {
+            bytes,
+            places: places.as_slice(),
+            of: PhantomData,
         }
-        Ok(Column {
-            docs,
-            starts,
-            values,
-        })
+    }
+
+    /// Where the entries of the column stand that is written from a place on, and the place behind it; None exactly where no
+    /// column stands there.
+    pub fn places(
+        alloc: Global,
+        bytes: &[u8],
+        at: u64,
+    ) -> Result<Option<(PlaceList, u64)>, NoMemory>
+        ensures found { IfOk result (λ found. IfSome found (λ it. (column : ℕ × List (ℕ × List T)) × Stands T.cmp T.Fits T.text bytes.now at column it.0 it.1)) }
+        ensures only { IfOk result (λ found. IsNone found → (column : ℕ × List (ℕ × List T)) (rest : List ℕ)
+            → IsColumn T.cmp T.Fits column → drop at bytes.now ≡ column_text T.text column ++ rest → ⊥) }
+    {
+        let end = bytes.len() as u64;
+        let Some(own) = from_place(bytes, at) else {
+            return Ok(None);
+        };
+        let Some((count, entries)) = head_at(own) else {
+            return Ok(None);
+        };
+        match placed_entries::<T>(alloc, count, entries, end)? {
+            Some((places, rest)) => Ok(Some((places, end - rest.len() as u64))),
+            None => Ok(None),
+        }
+    }
+
+    /// Appends a column as it is written. After NoMemory the bytes are as they were.
+    pub fn written(column: &RowList<T>, into: &mut Vec<u8>) -> Result<(), NoMemory>
+        ensures written { OnOk result (into.new.items ≡ into.old.items ++ column_text T.text column.now) }
+        ensures unchanged { OnErr result (into.new.items ≡ into.old.items) }
+    {
+        let old = into.len();
+        let done = put_column(column, into);
+        if done.is_err() {
+            into.truncate(old);
+        }
+        done
     }
 
     /// How many values a document has: 0 exactly for a document without a row.
@@ -58,7 +90,7 @@ impl<T: Ord + Copy> Column<T> {
         ensures absent { (result ≡ 0) ↔ ¬ Contains (documents self.now) doc }
         ensures ascending { IsSorted T.cmp (values_of doc self.now) }
     {
-        self.values(doc).len() as u32
+        self.values(doc).len()
     }
 
     /// Value `i` of a document, of its values ascending.
@@ -66,65 +98,41 @@ impl<T: Ord + Copy> Column<T> {
         requires { i < length (values_of doc self.now) }
         ensures { slice_get (values_of doc self.now) i ≡ Some result }
     {
-        self.values(doc)[i as usize]
+        self.values(doc).value(i)
+    }
+
+    /// The values of a document, ascending; none where it has no row.
+    pub fn values(&self, doc: u32) -> Values<'a, T>
+        ensures values { result ≡ values_of doc self.now }
+        ensures rows { AreRows T.cmp self.now }
+    {
+        match index_of(self.places, self.bytes, doc) {
+            Some(at) => Values::over(value_bytes(self.places, self.bytes, at)),
+            None => Values::over(self.bytes.split_at(0).0),
+        }
     }
 
     /// How many documents have a row.
-    #[tactic(auto, using(crate::proofs::Columns::columns))]
     pub fn rows(&self) -> u32
         ensures count { result ≡ length self.now }
         ensures ascending { IsStrictlyIncreasing (documents self.now) }
     {
-        self.docs.len() as u32
+        (self.places.len() - 1) as u32
     }
 
     /// The document of row `row`.
-    #[tactic(auto, using(crate::proofs::Columns::columns))]
     pub fn doc(&self, row: u32) -> u32
         requires { row < length self.now }
         ensures { result ≡ slice_index (documents self.now) row }
     {
-        self.docs[row as usize]
+        document(self.places, self.bytes, row as usize)
     }
 
-    /// The values of a document, ascending; none where it has no row.
-    fn values(&self, doc: u32) -> &[T]
-        ensures values { result.now ≡ values_of doc self.now }
-        ensures rows { AreRows T.cmp self.now }
+    /// The values of row `row`, ascending.
+    pub fn row_values(&self, row: u32) -> Values<'a, T>
+        requires { row < length self.now }
+        ensures { slice_get self.now row ≡ Some (slice_index (documents self.now) row, result) }
     {
-        match place_of(self.docs.as_slice(), doc) {
-            Some(at) => row(self.starts.as_slice(), self.values.as_slice(), at),
-            None => self.values.as_slice().split_at(0).0,
-        }
+        Values::over(value_bytes(self.places, self.bytes, row as usize))
     }
-}
-
-/// The place of a document.
-fn place_of(docs: &[u32], doc: u32) -> Option<usize>
-    requires { IsStrictlyIncreasing docs.now }
-    ensures found { IfSome result (λ at. slice_get docs.now at ≡ Some doc) }
-    ensures missing { IfNone result (¬ Contains docs.now doc) }
-{
-    match docs.binary_search(&doc) {
-        Ok(at) => Some(at),
-        Err(_) => None,
-    }
-}
-
-/// The part of `flat` from the start of row `at` up to the start of the next one.
-fn row<'a, T: Copy>(starts: &[u64], flat: &'a [T], at: usize) -> &'a [T]
-    requires starts { AreStarts starts.now (length flat.now) }
-    requires below { at + 1 < length starts.now }
-    ensures { result.now ≡ row starts.now flat.now at }
-{
-    &flat[starts[at] as usize..starts[at + 1] as usize]
-}
-
-/// The values of all rows together, or the greatest number if they are more.
-fn value_count<T: Ord + Copy>(rows: &[(u32, ValueList<T>)]) -> usize {
-    let mut count = 0usize;
-    'rows: for (_, values) in rows {
-        count = count.saturating_add(values.as_slice().len());
-    }
-    count
 }

@@ -1,95 +1,88 @@
-//! Columns worked out by hand.
-use crate::{
-    Column, NumberColumn, NumberList, NumberRows, OrdinalColumn, OrdinalList, OrdinalRows, RowList,
-    ValueList,
-};
+//! A column by hand, and each public call once.
+
+use crate::*;
 use std::alloc::Global;
-use std::process::Abort;
 use std::test::Fail;
 
-/// The column of these rows, which stand in order.
-fn column_of<T: Ord + Copy>(
-    rt: &impl Abort,
+/// The values of one document.
+fn values<T: ColumnValue>(rt: &impl std::process::Abort, list: Vec<T>) -> ValueList<T> {
+    assert!(rt; ValueList::are_values(list.as_slice()));
+    ValueList::of(list)
+}
+
+/// A column of field 3: document 1 has two values, and document 4 has one.
+fn column<T: ColumnValue>(
+    rt: &impl std::process::Abort,
     alloc: Global,
-    rows: &[(u32, &[T])],
-) -> Result<Column<T>, Fail> {
-    let mut list = Vec::new(alloc);
-    for (doc, values) in rows {
-        let values = values.to_vec(alloc)?;
-        assert!(rt; ValueList::are_values(values.as_slice()));
-        list.push((*doc, ValueList::of(values)))?;
-    }
-    assert!(rt; list.len() < 100);
-    assert!(rt; RowList::are_ascending(list.as_slice()));
-    Ok(Column::built(alloc, RowList::of(list))?)
+    low: T,
+    high: T,
+) -> Result<RowList<T>, Fail> {
+    let mut two = Vec::new(alloc);
+    two.push(low)?;
+    two.push(high)?;
+    let mut one = Vec::new(alloc);
+    one.push(low)?;
+    let mut rows = Vec::new(alloc);
+    rows.push((1, values(rt, two)))?;
+    rows.push((4, values(rt, one)))?;
+    assert!(rt; RowList::are_entries(rows.as_slice()));
+    Ok(RowList::of(3, rows))
 }
 
 #[test]
 fn numbers(rt: HostRuntime) -> Result<(), Fail> {
-    let rows: [(u32, &[i64]); 4] = [
-        (0, &[-3, -3, 7]),
-        (63, &[i64::MIN]),
-        (64, &[0, i64::MAX]),
-        (65, &[5]),
-    ];
-    let column: NumberColumn = column_of(&rt, rt.alloc(), &rows)?;
-    assert_eq!(rt; column.rows(), 4);
-    assert_eq!(rt; column.doc(2), 64);
-    let counts: [(u32, u32); 8] = [
-        (0, 3),
-        (1, 0),
-        (62, 0),
-        (63, 1),
-        (64, 2),
-        (65, 1),
-        (66, 0),
-        (u32::MAX, 0),
-    ];
-    for (doc, count) in counts {
-        assert_eq!(rt; column.count(doc), count);
-    }
-    let values: [(u32, u32, i64); 7] = [
-        (0, 0, -3),
-        (0, 1, -3),
-        (0, 2, 7),
-        (63, 0, i64::MIN),
-        (64, 0, 0),
-        (64, 1, i64::MAX),
-        (65, 0, 5),
-    ];
-    for (doc, i, value) in values {
-        assert!(rt; i < column.count(doc));
-        assert_eq!(rt; column.value(doc, i), value);
+    let rows = column(&rt, rt.alloc(), -2i64, 5)?;
+    let mut bytes = Vec::new(rt.alloc());
+    bytes.push(9)?;
+    NumberColumn::written(&rows, &mut bytes)?;
+    assert_eq!(rt;
+        bytes.as_slice(),
+        [
+            9, 3, 0, 0, 0, 2, 0, 0, 0, 1, 0, 0, 0, 2, 0, 0, 0, 254, 255, 255, 255, 255, 255, 255,
+            255, 5, 0, 0, 0, 0, 0, 0, 0, 4, 0, 0, 0, 1, 0, 0, 0, 254, 255, 255, 255, 255, 255, 255,
+            255,
+        ]
+        .as_slice()
+    );
+    assert!(rt; NumberColumn::places(rt.alloc(), bytes.as_slice(), 0)?.is_none());
+    match NumberColumn::places(rt.alloc(), bytes.as_slice(), 1)? {
+        Some((places, end)) => {
+            assert_eq!(rt; (places.as_slice(), end), ([9, 33, 49].as_slice(), 49));
+            let column = NumberColumn::over(bytes.as_slice(), &places);
+            assert_eq!(rt;
+                (column.count(1), column.count(2), column.count(4)),
+                (2, 0, 1)
+            );
+            assert_eq!(rt; column.rows(), 2);
+            let mut own = column.values(1);
+            assert_eq!(rt;
+                (own.next(), own.next(), own.next()),
+                (Some(-2), Some(5), None)
+            );
+        }
+        None => panic!(rt; "the column stands there"),
     }
     Ok(())
 }
 
 #[test]
 fn ordinals(rt: HostRuntime) -> Result<(), Fail> {
-    let rows: [(u32, &[u64]); 2] = [(3, &[1, 1]), (u32::MAX, &[u64::MAX])];
-    let column: OrdinalColumn = column_of(&rt, rt.alloc(), &rows)?;
-    assert_eq!(rt; column.count(3), 2);
-    assert_eq!(rt; column.count(4), 0);
-    assert_eq!(rt; column.count(u32::MAX), 1);
-    assert!(rt; 0 < column.count(u32::MAX));
-    assert_eq!(rt; column.value(u32::MAX, 0), u64::MAX);
-    let none: [(u32, &[u64]); 0] = [];
-    let empty: OrdinalColumn = column_of(&rt, rt.alloc(), &none)?;
-    assert_eq!(rt; empty.rows(), 0);
-    assert_eq!(rt; empty.count(0), 0);
-    Ok(())
-}
-
-#[test]
-fn order(rt: HostRuntime) -> Result<(), Fail> {
-    let nothing: [i64; 0] = [];
-    assert!(rt; !NumberList::are_values(&nothing));
-    assert!(rt; NumberList::are_values(&[-1, 0, 0]));
-    assert!(rt; !NumberList::are_values(&[0, -1]));
-    assert!(rt; !OrdinalList::are_values(&[2, 1, 2]));
-    let rows: [(u32, NumberList); 0] = [];
-    assert!(rt; NumberRows::are_ascending(&rows));
-    let rows: [(u32, OrdinalList); 0] = [];
-    assert!(rt; OrdinalRows::are_ascending(&rows));
+    columns_have_one_text::<u64>();
+    let rows = column(&rt, rt.alloc(), 2u64, 5)?;
+    let mut bytes = Vec::new(rt.alloc());
+    OrdinalColumn::written(&rows, &mut bytes)?;
+    match OrdinalColumn::places(rt.alloc(), bytes.as_slice(), 0)? {
+        Some((places, end)) => {
+            assert_eq!(rt; end, 48);
+            let column = OrdinalColumn::over(bytes.as_slice(), &places);
+            let own = column.values(4);
+            assert_eq!(rt; own.len(), 1);
+            assert!(rt; 1 < column.rows());
+            assert_eq!(rt; column.doc(1), 4);
+            let own = column.row_values(0);
+            assert_eq!(rt; own.len(), 2);
+        }
+        None => panic!(rt; "the column stands there"),
+    }
     Ok(())
 }

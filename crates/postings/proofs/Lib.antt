@@ -1,4 +1,5 @@
-pub mod Rows
+pub mod Entries
+pub mod Lists
 pub mod Places
-pub mod Standings
-pub mod Tables
+pub mod Walks
+pub mod Marked

@@ -1,52 +1,56 @@
--- How postings are kept: the documents of all lists end to end, and the positions in all documents end to end.
-use Rattle.std.specs.Prelude.{◌≡◌, ℕ, ◌+◌, ◌-◌, ◌<◌, ◌≤◌, List, length, map, slice_index}
-use Rattle.std.specs.List.{range_with_len, slice_range, All}
-use Rattle.postings.specs.Postings.{ArePostings}
+-- How lists of postings are read: each stands behind the term of its row, and its entries one after the other.
+use Rattle.std.specs.Prelude.{◌≡◌, ℕ, ◌+◌, ◌*◌, ◌≤◌, List, [], length, map, drop, Option, Some, None, Bool, true, false}
+use Rattle.std.specs.List.{All, flat_map}
+use Rattle.part_text.specs.Text.{u32_text, counted_text}
+use Rattle.part_text.specs.Front.{first_u32}
+use Rattle.part_text.specs.Places.{rows_of, ArePlaces}
+use Rattle.term_table.specs.Postings.{ArePostings}
+use Rattle.term_table.specs.Part.{posting_text}
+use Rattle.term_table.specs.Kept.{term_length, HasTerm}
+use Rattle.term_table.specs.Reading.{postings_at}
+use Rattle.postings.specs.Marks.{has_positions}
 
--- from the start of row `at` up to the start of the next one
-abbrev pub row : {X : Type 0} → List ℕ → List X → ℕ → List X
-row starts flat at = slice_range flat (slice_index starts at) (slice_index starts (at + 1))
+-- what was read, or nothing
+abbrev pub read_or_none : Option (List (ℕ × List ℕ) × List ℕ) → List (ℕ × List ℕ)
+read_or_none None = []
+read_or_none (Some read) = read.0
 
--- starts that don't fall, within a list that ends at `end`
-pub record AreStarts (starts : List ℕ) (end : ℕ) : Type 0 where
-  pub rising : (at : ℕ) → at + 1 < length starts → slice_index starts at ≤ slice_index starts (at + 1)
-  pub within : (at : ℕ) → at < length starts → slice_index starts at ≤ end
+-- the postings of a list
+unfoldable pub postings_of : List ℕ → List (ℕ × List ℕ)
+postings_of text = read_or_none (postings_at text)
 
--- posting number `at`: its document, and its positions
-abbrev pub posting_at : List ℕ → List ℕ → List ℕ → ℕ → ℕ × List ℕ
-posting_at docs starts positions at = (slice_index docs at, row starts positions at)
+-- the text of postings behind their number
+pub record IsList (text : List ℕ) : Type 0 where
+  pub are : ArePostings (postings_of text)
+  pub is : text ≡ counted_text u32_text posting_text (postings_of text)
 
--- all postings, in order
-unfoldable pub postings_of : List ℕ → List ℕ → List ℕ → List (ℕ × List ℕ)
-postings_of docs starts positions = map (posting_at docs starts positions) (range_with_len 0 (length docs))
+-- what is left of a list from posting `at` on, and whether all entries have one width
+pub record IsAt (postings : List (ℕ × List ℕ)) (count at : ℕ) (rest : List ℕ) (plain : Bool) : Type 0 where
+  pub are : ArePostings postings
+  pub counts : count ≡ length postings
+  pub within : at ≤ count
+  pub here : rest ≡ flat_map posting_text (drop at postings)
+  pub plainly : plain ≡ true → has_positions postings ≡ false
 
--- a start for each posting and the end of the last
-pub record AreParts (docs starts positions : List ℕ) : Type 0 where
-  pub starts_are : AreStarts starts (length positions)
-  pub long : length starts ≡ length docs + 1
+-- the list of a row
+abbrev pub list_text : List ℕ → List ℕ
+list_text row = drop (8 + term_length row) row
 
--- and where postings may be appended: the end of the last is that of the positions
-pub record IsGrown (docs starts positions : List ℕ) : Type 0 where
-  pub parts : AreParts docs starts positions
-  pub last : slice_index starts (length docs) ≡ length positions
+-- an entry long enough for its positions
+abbrev pub HasEntry : List ℕ → Type 0
+HasEntry rest = 8 + 4 * first_u32 (drop 4 rest) ≤ length rest
 
--- the postings that a cursor reads, and its place
-pub record IsCursor (docs starts positions : List ℕ) (at : ℕ) : Type 0 where
-  pub parts : AreParts docs starts positions
-  pub postings_are : ArePostings (postings_of docs starts positions)
-  pub within : at ≤ length docs
+pub record HasList (row : List ℕ) : Type 0 where
+  pub has_term : HasTerm row
+  pub list_is : IsList (list_text row)
 
--- all rows, in order: one fewer than there are starts
-unfoldable pub rows : {X : Type 0} → List ℕ → List X → List (List X)
-rows starts flat = map (row starts flat) (range_with_len 0 (length starts - 1))
+abbrev pub list_of : List ℕ → List (ℕ × List ℕ)
+list_of row = postings_of (list_text row)
 
--- all lists of postings, in order
-abbrev pub lists_of : List ℕ → List ℕ → List ℕ → List ℕ → List (List (ℕ × List ℕ))
-lists_of lists docs starts positions = rows lists (postings_of docs starts positions)
+-- the postings of all rows, in order
+unfoldable pub lists_of : List ℕ → List ℕ → List (List (ℕ × List ℕ))
+lists_of bytes places = map list_of (rows_of places bytes)
 
--- a start for each list and the end of the last, and the postings of each list
-pub record IsTable (lists docs starts positions : List ℕ) : Type 0 where
-  pub some : 0 < length lists
-  pub lists_are : AreStarts lists (length docs)
-  pub parts : AreParts docs starts positions
-  pub postings_are : All ArePostings (lists_of lists docs starts positions)
+pub record IsTable (bytes places : List ℕ) : Type 0 where
+  pub places_are : ArePlaces places (length bytes)
+  pub have_lists : All HasList (rows_of places bytes)

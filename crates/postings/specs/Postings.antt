@@ -1,22 +1,8 @@
--- Postings: the documents that have a term, each with the positions at which the term stands in it.
-use Rattle.std.specs.Prelude.{ℕ, ◌+◌, ◌<◌, ◌^◌, List, [], length, map, drop, nat_le, slice_get, Option}
-use Rattle.std.specs.List.{All, position_or_len}
-use Rattle.std.specs.List.Sorted.{IsStrictlyIncreasing}
+-- A cursor over the postings of a term.
+pub use Rattle.term_table.specs.Postings.{documents, AreAscending, ArePostings}
+use Rattle.std.specs.Prelude.{ℕ, ◌+◌, List, [], drop, nat_le, slice_get, Option}
+use Rattle.std.specs.List.{position_or_len}
 use Rattle.std.specs.Option.{option_map, option_map_or}
-
--- the documents of postings
-abbrev pub documents : List (ℕ × List ℕ) → List ℕ
-documents postings = map (λ (posting : ℕ × List ℕ). posting.0) postings
-
--- fewer than 2^32 numbers, each greater than the one before
-pub record AreAscending (numbers : List ℕ) : Type 0 where
-  pub fewer : length numbers < 2 ^ 32
-  pub ascending : IsStrictlyIncreasing numbers
-
--- the postings of a term: documents ascend, and so do the positions in each
-pub record ArePostings (postings : List (ℕ × List ℕ)) : Type 0 where
-  pub documents_are : AreAscending (documents postings)
-  pub positions_are : All (λ (posting : ℕ × List ℕ). AreAscending posting.1) postings
 
 -- postings, and the place of the present one; past the last there is none
 pub record Standing : Type 0 where

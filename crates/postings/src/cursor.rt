@@ -1,57 +1,61 @@
 //! A cursor over the postings of one term.
 
-ghost use Rattle.std.specs.Prelude.{◌≡◌, ℕ, ◌+◌, ◌<◌, ◌^◌, length, min, slice_index, IsSome};
+ghost use Rattle.std.specs.Prelude.{◌≡◌, ℕ, ◌+◌, ◌<◌, length, min, slice_index, IsSome};
 ghost use Rattle.postings.specs.Postings.{ArePostings, present, present_document, present_positions, place_from};
-ghost use Rattle.postings.specs.Kept.{IsCursor, postings_of};
+ghost use Rattle.postings.specs.Kept.{postings_of, IsList};
 
-use crate::flat::row;
+use crate::entry::{behind_entry, is_plain};
 use crate::search::{first_from, gallop};
+use part_text::first_u32;
 use std::marker::Model;
 
 /// The postings of one term, and the place of the present one. It begins at the first.
 ///
-/// It reads the table in place, and goes forward only.
+/// It reads the segment's bytes in place, and goes forward only.
 #[derive(Drop)]
 pub struct Cursor<'a> {
-    docs: &'a [u32],
-    starts: &'a [u64],
-    positions: &'a [u32],
-    at: usize,
+    text: &'a [u8],
+    count: u32,
+    at: u32,
+    rest: &'a [u8],
+    plain: bool,
 }
 
 impl<'a> Model for Cursor<'a> {
     ghost use Rattle.postings.specs.Postings.{Standing};
-    ghost use Rattle.postings.specs.Kept.{postings_of, IsCursor};
+    ghost use Rattle.postings.specs.Kept.{postings_of, IsAt};
 
     ghost Value = { Standing };
 
-    ghost view = { λ it. record { postings = postings_of it.docs.now it.starts.now it.positions.now; at = it.at } };
+    ghost view = { λ it. record { postings = postings_of it.text.now; at = it.at } };
 
-    ghost invariant = { λ it. IsCursor it.docs.now it.starts.now it.positions.now it.at };
+    ghost invariant = { λ it. IsAt (postings_of it.text.now) it.count it.at it.rest.now it.plain };
 }
 
 impl<'a> Cursor<'a> {
-    /// A cursor at the first of these postings.
-    pub(crate) fn over(docs: &'a [u32], starts: &'a [u64], positions: &'a [u32]) -> Cursor<'a>
-        requires { IsCursor docs.now starts.now positions.now 0 }
-        ensures { result ≡ record { postings = postings_of docs.now starts.now positions.now; at = 0 } }
+    /// A cursor at the first posting of a list.
+    pub(crate) fn over(text: &'a [u8]) -> Cursor<'a>
+        requires { IsList text.now }
+        ensures { result ≡ record { postings = postings_of text.now; at = 0 } }
     {
+        let count = first_u32(text);
+        let rest = text.split_at(4).1;
         Cursor {
-            docs,
-            starts,
-            positions,
+            text,
+            count,
             at: 0,
+            rest,
+            plain: is_plain(rest, count),
         }
     }
 
     /// The present document, and None past the last.
-    #[tactic(auto, using(crate::proofs::Standings::standings))]
     pub fn doc(&self) -> Option<u32>
         ensures document { result ≡ present_document self.now }
         ensures postings { ArePostings self.now.postings }
     {
-        if self.at < self.docs.len() {
-            Some(self.docs[self.at])
+        if self.at < self.count {
+            Some(first_u32(self.rest))
         } else {
             None
         }
@@ -60,25 +64,48 @@ impl<'a> Cursor<'a> {
     /// Goes to the first document from `to` on that isn't before the present one, and gives it; past the
     /// last where there is none.
     ///
-    /// It looks at a number of documents that grows with the logarithm of those that it passes over.
+    /// Where no posting has positions it looks at a number of documents that grows with the logarithm of those
+    /// that it passes over; else at each of them.
     pub fn advance(&mut self, to: u32) -> Option<u32>
         ensures postings { self.new.postings ≡ self.old.postings }
         ensures place { self.new.at ≡ place_from to self.old }
         ensures document { result ≡ present_document self.new }
     {
-        let (low, high) = gallop(self.docs, self.at, to);
-        self.at = first_from(self.docs, low, high, to);
+        if !self.plain {
+            return self.walk_to(to);
+        }
+        let left = (self.count - self.at) as usize;
+        let (low, high) = gallop(self.rest, left, to);
+        let passed = first_from(self.rest, left, low, high, to);
+        self.rest = self.rest.split_at(8 * passed).1;
+        self.at += passed as u32;
         self.doc()
     }
 
+    /// Goes from document to document up to the first from `to` on, and gives it.
+    fn walk_to(&mut self, to: u32) -> Option<u32>
+        ensures postings { self.new.postings ≡ self.old.postings }
+        ensures place { self.new.at ≡ place_from to self.old }
+        ensures document { result ≡ present_document self.new }
+    {
+        let mut document = self.doc();
+        'postings: while let Some(own) = document {
+            if own >= to {
+                return document;
+            }
+            document = self.next();
+        }
+        None
+    }
+
     /// Goes to the next document and gives it; past the last it stays where it is.
-    #[tactic(auto, using(crate::proofs::Standings::standings))]
     pub fn next(&mut self) -> Option<u32>
         ensures postings { self.new.postings ≡ self.old.postings }
         ensures place { self.new.at ≡ min (self.old.at + 1) (length self.old.postings) }
         ensures document { result ≡ present_document self.new }
     {
-        if self.at < self.docs.len() {
+        if self.at < self.count {
+            self.rest = behind_entry(self.rest, self.plain);
             self.at += 1;
         }
         self.doc()
@@ -89,7 +116,7 @@ impl<'a> Cursor<'a> {
         requires { IsSome (present self.now) }
         ensures { result ≡ length (present_positions self.now) }
     {
-        self.own_positions().len() as u32
+        first_u32(self.rest.split_at(4).1)
     }
 
     /// Position `i` in the present document, of its positions ascending.
@@ -97,15 +124,6 @@ impl<'a> Cursor<'a> {
         requires { i < length (present_positions self.now) }
         ensures { result ≡ slice_index (present_positions self.now) i }
     {
-        self.own_positions()[i as usize]
-    }
-
-    /// The positions in the present document, ascending.
-    fn own_positions(&self) -> &[u32]
-        requires { IsSome (present self.now) }
-        ensures positions { result.now ≡ present_positions self.now }
-        ensures fewer { length result.now < 2 ^ 32 }
-    {
-        row(self.starts, self.positions, self.at)
+        first_u32(self.rest.split_at(8 + 4 * i as usize).1)
     }
 }

@@ -1,67 +1,57 @@
 //! The table of the postings of a segment's terms.
 
-ghost use Rattle.std.specs.Prelude.{◌≡◌, ◌<◌, [], ◌++◌, List, length, slice_index_or, IfOk, OnOk};
-ghost use Rattle.postings.specs.Postings.{ArePostings};
-ghost use Rattle.postings.specs.Kept.{IsGrown, postings_of};
+ghost use Rattle.std.specs.Prelude.{◌≡◌, ℕ, ◌+◌, ◌-◌, ◌<◌, ◌||◌, false, [], List, length, map, slice_index_or};
+ghost use Rattle.std.specs.List.{All};
+ghost use Rattle.part_text.specs.Places.{ArePlaces};
+ghost use Rattle.term_table.specs.declared.rows.TermRow.{TermRow};
+ghost use Rattle.term_table.specs.Part.{Stand, Belong};
+ghost use Rattle.postings.specs.Marks.{has_document, has_positions};
+ghost use Rattle.postings.specs.Kept.{postings_of, lists_of, IsList, IsTable};
 
-use crate::flat::bounds;
-use crate::{Cursor, NoMemory, PostingList, PostingLists};
-use std::alloc::Global;
+use crate::Cursor;
+use crate::entry::{behind_entry, is_plain, list_text};
+use block_bits::BitSet;
+use part_text::{PlaceList, first_u32, row};
 use std::marker::Model;
 
 /// The postings of each term of a segment, by the term's ordinal.
 ///
-/// The documents of all terms stand in one vector, and so do all positions.
+/// It reads the segment's bytes in place.
 #[derive(Drop)]
-pub struct PostingsTable {
-    lists: Vec<u64>,
-    docs: Vec<u32>,
-    starts: Vec<u64>,
-    positions: Vec<u32>,
+pub struct PostingsTable<'a> {
+    bytes: &'a [u8],
+    places: &'a [u64],
 }
 
-impl Model for PostingsTable {
+impl<'a> Model for PostingsTable<'a> {
     ghost use Rattle.std.specs.Prelude.{ℕ, List};
     ghost use Rattle.postings.specs.Kept.{lists_of, IsTable};
 
     ghost Value = { List (List (ℕ × List ℕ)) };
 
-    ghost view = { λ table. lists_of table.lists.items table.docs.items table.starts.items table.positions.items };
+    ghost view = { λ table. lists_of table.bytes.now table.places.now };
 
-    ghost invariant = { λ table. IsTable table.lists.items table.docs.items table.starts.items table.positions.items };
+    ghost invariant = { λ table. IsTable table.bytes.now table.places.now };
 }
 
-impl PostingsTable {
-    /// The table of these lists.
-    pub fn built(alloc: Global, lists: PostingLists) -> Result<PostingsTable, NoMemory>
-        ensures { IfOk result (λ table. table ≡ lists) }
+impl<'a> PostingsTable<'a> {
+    /// The table of the postings that stand in these bytes at the places of their terms. Takes no memory and reads nothing.
+    pub fn over(bytes: &'a [u8], places: &'a PlaceList) -> PostingsTable<'a>
+        requires { Belong bytes.now places.now }
+        ensures { (at : ℕ) (rows : List TermRow) (end : ℕ) → Stand bytes.now at rows places.now end → result ≡ map (λ row. row.postings) rows }
     {
-        let all = lists.as_slice();
-        let mut ends = Vec::with_capacity(alloc, all.len().saturating_add(1))?;
-        let mut flat = Postings::with_room(alloc, posting_count(all), position_count(all))?;
-        ends.push(0)?;
-        'lists: for list in all {
-            flat.append(list)?;
-            ends.push(flat.docs.len() as u64)?;
+        PostingsTable {
+            bytes,
+            places: places.as_slice(),
         }
-        let Postings {
-            docs,
-            starts,
-            positions,
-        } = flat;
-        Ok(PostingsTable {
-            lists: ends,
-            docs,
-            starts,
-            positions,
-        })
     }
 
     /// How many lists there are.
+    #[tactic(auto, using(crate::proofs::Lists::lists))]
     pub fn count(&self) -> u64
         ensures { result ≡ length self.now }
     {
-        (self.lists.len() - 1) as u64
+        (self.places.len() - 1) as u64
     }
 
     /// How many documents have the term with this ordinal.
@@ -69,82 +59,61 @@ impl PostingsTable {
         requires { ordinal < length self.now }
         ensures { result ≡ length (slice_index_or self.now ordinal []) }
     {
-        let (first, end) = bounds(self.lists.as_slice(), self.docs.len(), ordinal as usize);
-        (end - first) as u32
+        first_u32(list_at(self.bytes, self.places, ordinal as usize))
+    }
+
+    /// Whether some posting of the term with this ordinal has positions, as those of a text's word have.
+    pub fn has_positions(&self, ordinal: u64) -> bool
+        requires { ordinal < length self.now }
+        ensures { result ≡ has_positions (slice_index_or self.now ordinal []) }
+    {
+        let list = list_at(self.bytes, self.places, ordinal as usize);
+        !is_plain(list.split_at(4).1, first_u32(list))
     }
 
     /// A cursor at the first posting of the term with this ordinal.
-    pub fn cursor(&self, ordinal: u64) -> Cursor<'_>
+    pub fn cursor(&self, ordinal: u64) -> Cursor<'a>
         requires { ordinal < length self.now }
         ensures { result ≡ record { postings = slice_index_or self.now ordinal []; at = 0 } }
     {
-        let (first, end) = bounds(self.lists.as_slice(), self.docs.len(), ordinal as usize);
-        Cursor::over(
-            &self.docs.as_slice()[first..end],
-            &self.starts.as_slice()[first..end + 1],
-            self.positions.as_slice(),
-        )
+        Cursor::over(list_at(self.bytes, self.places, ordinal as usize))
     }
-}
 
-/// Postings kept flat, as they are appended.
-#[derive(Drop)]
-struct Postings {
-    docs: Vec<u32>,
-    starts: Vec<u64>,
-    positions: Vec<u32>,
-}
-
-impl Postings {
-    /// No postings, with room for so many and for so many positions.
-    fn with_room(alloc: Global, postings: usize, positions: usize) -> Result<Postings, NoMemory>
-        ensures parts { IfOk result (λ it. IsGrown it.docs.items it.starts.items it.positions.items) }
-        ensures none { IfOk result (λ it. postings_of it.docs.items it.starts.items it.positions.items ≡ []) }
+    /// Puts the documents that have the term with this ordinal into a set.
+    pub fn mark(&self, ordinal: u64, set: &mut BitSet)
+        requires ordinal { ordinal < length self.now }
+        requires within { All (λ posting. posting.0 < length set.old) (slice_index_or self.now ordinal []) }
+        ensures long { length set.new ≡ length set.old }
+        ensures marked { (document : ℕ) → document < length set.old → slice_index_or set.new document false
+            ≡ (slice_index_or set.old document false || has_document document (slice_index_or self.now ordinal [])) }
     {
-        let docs = Vec::with_capacity(alloc, postings)?;
-        let mut starts = Vec::with_capacity(alloc, postings.saturating_add(1))?;
-        let positions = Vec::with_capacity(alloc, positions)?;
-        starts.push(0)?;
-        Ok(Postings {
-            docs,
-            starts,
-            positions,
-        })
-    }
-
-    /// Appends the postings of a list.
-    fn append(&mut self, list: &PostingList) -> Result<(), NoMemory>
-        requires { IsGrown self.old.docs.items self.old.starts.items self.old.positions.items }
-        ensures parts { OnOk result (IsGrown self.new.docs.items self.new.starts.items self.new.positions.items) }
-        ensures appended { OnOk result (postings_of self.new.docs.items self.new.starts.items self.new.positions.items
-            ≡ postings_of self.old.docs.items self.old.starts.items self.old.positions.items ++ list.now) }
-        ensures are { OnOk result (ArePostings list.now) }
-    {
-        'postings: for (doc, own) in list.as_slice() {
-            self.docs.push(*doc)?;
-            self.positions.extend_from_slice(own.as_slice())?;
-            self.starts.push(self.positions.len() as u64)?;
-        }
-        Ok(())
+        mark_list(list_at(self.bytes, self.places, ordinal as usize), set);
     }
 }
 
-/// The postings of all lists together, or the greatest number if they are more.
-fn posting_count(lists: &[PostingList]) -> usize {
-    let mut count = 0usize;
-    'lists: for list in lists {
-        count = count.saturating_add(list.as_slice().len());
-    }
-    count
+/// The list of the term with this ordinal.
+fn list_at<'a>(bytes: &'a [u8], places: &[u64], ordinal: usize) -> &'a [u8]
+    requires table { IsTable bytes.now places.now }
+    requires below { ordinal < length (lists_of bytes.now places.now) }
+    ensures list { IsList result.now }
+    ensures postings { postings_of result.now ≡ slice_index_or (lists_of bytes.now places.now) ordinal [] }
+{
+    list_text(row(places, bytes, ordinal))
 }
 
-/// The positions in all lists together, or the greatest number if they are more.
-fn position_count(lists: &[PostingList]) -> usize {
-    let mut count = 0usize;
-    'lists: for list in lists {
-        'postings: for (_, positions) in list.as_slice() {
-            count = count.saturating_add(positions.as_slice().len());
-        }
+/// Puts the documents of a list into a set.
+fn mark_list(text: &[u8], set: &mut BitSet)
+    requires list { IsList text.now }
+    requires within { All (λ posting. posting.0 < length set.old) (postings_of text.now) }
+    ensures long { length set.new ≡ length set.old }
+    ensures marked { (document : ℕ) → document < length set.old → slice_index_or set.new document false
+        ≡ (slice_index_or set.old document false || has_document document (postings_of text.now)) }
+{
+    let count = first_u32(text);
+    let mut rest = text.split_at(4).1;
+    let plain = is_plain(rest, count);
+    'postings: for _ in 0..count {
+        set.set(first_u32(rest));
+        rest = behind_entry(rest, plain);
     }
-    count
 }

@@ -1,102 +1,77 @@
-//! Cursors worked out by hand.
-use crate::{PositionList, PostingList, PostingLists, PostingsTable};
+//! Cursors worked out by hand, over postings that are written and found again.
+use crate::*;
 use std::alloc::Global;
 use std::process::Abort;
 use std::test::Fail;
+use term_table::{Bytes, PositionList, PostingList, RowList, TermRow, TermTable};
 
-/// The postings of a term, which stand in order.
-fn list_of(
-    rt: &impl Abort,
-    alloc: Global,
-    postings: &[(u32, &[u32])],
-) -> Result<PostingList, Fail> {
+/// A term of field 0 with these postings.
+fn row_of(alloc: Global, bytes: &[u8], postings: &[(u32, &[u32])]) -> Result<TermRow, Fail> {
     let mut list = Vec::new(alloc);
-    for (doc, positions) in postings {
-        let positions = positions.to_vec(alloc)?;
-        assert!(rt; PositionList::are_ascending(positions.as_slice()));
-        list.push((*doc, PositionList::of(positions)))?;
+    for (document, positions) in postings {
+        list.push((*document, PositionList::of(positions.to_vec(alloc)?)))?;
     }
-    assert!(rt; PostingList::are_ascending(list.as_slice()));
-    Ok(PostingList::of(list))
+    Ok(TermRow {
+        term: (0, Bytes::of(bytes.to_vec(alloc)?)),
+        postings: PostingList::of(list),
+    })
+}
+
+/// The bytes of these rows.
+fn written(rt: &impl Abort, alloc: Global, rows: Vec<TermRow>) -> Result<Vec<u8>, Fail> {
+    assert!(rt; RowList::are_rows(rows.as_slice()));
+    let mut bytes = Vec::new(alloc);
+    TermTable::written(&RowList::of(rows), &mut bytes)?;
+    Ok(bytes)
 }
 
 #[test]
 fn cursors(rt: HostRuntime) -> Result<(), Fail> {
-    let text: [(u32, &[u32]); 6] = [
-        (0, &[0]),
-        (7, &[1, 102]),
-        (63, &[0]),
-        (64, &[0, 1, 2]),
-        (65, &[5]),
-        (200, &[0]),
+    let keyword: [(u32, &[u32]); 6] = [
+        (0, &[]),
+        (7, &[]),
+        (63, &[]),
+        (64, &[]),
+        (65, &[]),
+        (200, &[]),
     ];
-    let keyword: [(u32, &[u32]); 1] = [(64, &[])];
-    let mut lists = Vec::new(rt.alloc());
-    lists.push(list_of(&rt, rt.alloc(), &text)?)?;
-    lists.push(list_of(&rt, rt.alloc(), &[])?)?;
-    lists.push(list_of(&rt, rt.alloc(), &keyword)?)?;
-    let table = PostingsTable::built(rt.alloc(), PostingLists::of(lists))?;
-    assert_eq!(rt; table.count(), 3);
+    let text: [(u32, &[u32]); 4] = [(0, &[0]), (7, &[1, 102]), (64, &[0, 1, 2]), (200, &[0])];
+    let mut rows = Vec::new(rt.alloc());
+    rows.push(row_of(rt.alloc(), b"a", &keyword)?)?;
+    rows.push(row_of(rt.alloc(), b"b", &text)?)?;
+    let bytes = written(&rt, rt.alloc(), rows)?;
+    let found = TermTable::places(rt.alloc(), bytes.as_slice(), 0)?;
+    assert!(rt; found.is_some());
+    let Some((places, _)) = found else {
+        return Ok(());
+    };
+    let table = PostingsTable::over(bytes.as_slice(), &places);
+    assert_eq!(rt; table.count(), 2);
     assert_eq!(rt; table.documents(0), 6);
-    assert_eq!(rt; table.documents(1), 0);
+    assert!(rt; !table.has_positions(0));
+    assert!(rt; table.has_positions(1));
 
     // each from the place where the one before it left the cursor: never back, and past the last it stays
-    let moves: [(u32, Option<u32>); 9] = [
-        (0, Some(0)),
-        (1, Some(7)),
-        (3, Some(7)),
-        (63, Some(63)),
-        (64, Some(64)),
-        (0, Some(64)),
-        (66, Some(200)),
-        (201, None),
-        (0, None),
+    let moves: [(u32, Option<u32>, Option<u32>); 8] = [
+        (0, Some(0), Some(0)),
+        (1, Some(7), Some(7)),
+        (3, Some(7), Some(7)),
+        (8, Some(63), Some(64)),
+        (64, Some(64), Some(64)),
+        (0, Some(64), Some(64)),
+        (66, Some(200), Some(200)),
+        (201, None, None),
     ];
-    let mut cursor = table.cursor(0);
-    for (to, doc) in moves {
-        assert!(rt; cursor.advance(to) == doc);
-        assert!(rt; cursor.doc() == doc);
+    let mut plain = table.cursor(0);
+    let mut positioned = table.cursor(1);
+    for (to, one, other) in moves {
+        assert!(rt; plain.advance(to) == one);
+        assert!(rt; positioned.advance(to) == other);
     }
-
-    let mut cursor = table.cursor(0);
-    let walk: [(Option<u32>, u32); 5] = [
-        (Some(7), 2),
-        (Some(63), 1),
-        (Some(64), 3),
-        (Some(65), 1),
-        (Some(200), 1),
-    ];
-    for (doc, positions) in walk {
-        assert!(rt; cursor.next() == doc);
-        assert!(rt; cursor.doc().is_some());
-        assert_eq!(rt; cursor.positions(), positions);
-    }
-    assert!(rt; cursor.next() == None);
-    assert!(rt; cursor.next() == None);
-
-    let mut cursor = table.cursor(0);
-    assert!(rt; cursor.advance(7) == Some(7));
+    let mut cursor = table.cursor(1);
+    assert!(rt; cursor.next() == Some(7));
     assert!(rt; cursor.doc().is_some());
-    assert!(rt; 1 < cursor.positions());
+    assert_eq!(rt; cursor.positions(), 2);
     assert_eq!(rt; cursor.position(1), 102);
-
-    let mut cursor = table.cursor(2);
-    assert!(rt; cursor.doc() == Some(64));
-    assert!(rt; cursor.doc().is_some());
-    assert_eq!(rt; cursor.positions(), 0);
-    assert!(rt; cursor.advance(65) == None);
-    assert!(rt; table.cursor(1).doc() == None);
-    Ok(())
-}
-
-#[test]
-fn order(rt: HostRuntime) -> Result<(), Fail> {
-    assert!(rt; PositionList::are_ascending(&[]));
-    assert!(rt; PositionList::are_ascending(&[0, 1, u32::MAX]));
-    assert!(rt; !PositionList::are_ascending(&[1, 1]));
-    assert!(rt; !PositionList::are_ascending(&[2, 0]));
-    assert!(rt; PostingList::are_ascending(&[]));
-    let empty = PostingsTable::built(rt.alloc(), PostingLists::of(Vec::new(rt.alloc())))?;
-    assert_eq!(rt; empty.count(), 0);
     Ok(())
 }

@@ -9,7 +9,7 @@ use Rattle.std.proofs.lemmas.Bool.{cases_eq, cases_lt}
 use Rattle.block_bits.specs.Flags.{is_marked, cleared}
 use Rattle.segment.specs.Agree.{AreColumns}
 use Rattle.segment.specs.Live.{LiveState, IsLiveOver, live_docs, root_of, block_start, block_end, killed}
-use Rattle.segment.specs.Roots.{root_flags}
+use Rattle.segment.specs.Parts.{root_flags}
 use Rattle.segment.specs.declared.columns.Columns.{Columns}
 use Rattle.block_bits.proofs.Ranges.{length-cleared, cleared-before, cleared-inside, cleared-after}
 use Rattle.segment.proofs.Places.{length-root_flags, end_edge, start_edge, block-ordered, block-within}
@@ -72,7 +72,7 @@ IsLiveOver-killed columns live root agree over h =
     over_from columns (cleared (block_start columns.scopes root) (block_end columns.scopes root) live.docs) (set live.roots root false) agree
     (length-set live.roots root false ∙ over.roots)
     (ap (λ docs. cleared (block_start columns.scopes root) (block_end columns.scopes root) docs) over.docs
-    ∙ live_docs-killed columns.scopes live.roots root (over.roots ∙ agree.rooted.roots) h
+    ∙ live_docs-killed columns.scopes live.roots root (over.roots ∙ agree.parts.rooted) h
     (omega (arith, block-within columns root agree (omega (arith, h, over.roots)), length-root_flags columns.documents columns.scopes agree.rooted.scopes)))
 
 -- the block lies within the flags of documents

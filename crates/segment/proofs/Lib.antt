@@ -1,9 +1,11 @@
-pub mod ByDocument
-pub mod Deaths
-pub mod Keyed
-pub mod Loops
-pub mod NumberKeys
-pub mod Numbers
+mod Deaths
+mod Listed
+mod Loops
+mod NumberKeys
+mod Ordered
 pub mod Passes
-pub mod Places
-pub mod Searches
+mod Places
+mod PostingKinds
+mod TermKinds
+pub mod Tested
+mod Within

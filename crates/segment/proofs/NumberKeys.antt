@@ -6,7 +6,7 @@ use Rattle.std.proofs.lemmas.Int.{ints}
 use Rattle.std.proofs.lemmas.List.{length-map, get_or-map}
 use Rattle.std.proofs.lemmas.Nat.{be_bytes_8, from_be_bytes-to_be_bytes_8}
 use Rattle.std.proofs.Math.Facts.{to_z-neg}
-use Rattle.segment.specs.Keys.{shifted, number_key}
+use Rattle.term_table.specs.Keys.{shifted, number_key}
 
 -- 2^63 more without the carry, and then read as a number with a sign, is the number that was shifted
 pub shifted_back : (n : ℕ) → n < 2 ^ 64 → shifted (to_z w64 ((n + 2 ^ 63) % 2 ^ 64)) ≡ n

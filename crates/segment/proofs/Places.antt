@@ -12,35 +12,10 @@ use Rattle.segment.specs.declared.columns.Columns.{Columns}
 use Rattle.segment.specs.Live.{root_of, block_start, block_end}
 use Rattle.std.proofs.lemmas.Bool.{cases_lt}
 use Rattle.std.proofs.lemmas.Bool.Decides.{nat_tests}
-use Rattle.segment.specs.Roots.{marked_places, root_documents, root_flags}
-
--- one flag more
-pub count-mark : (flag : Bool) (flags : List Bool) → count_by is_marked (flag ∷ flags) ≡ cond flag 1 0 + count_by is_marked flags
-count-mark flag flags = sum_by-cons (λ one. cond one 1 0) flag flags
-
--- as many places as marks
-pub length-marked_places : (start : ℕ) (flags : List Bool) → length (marked_places start flags) ≡ count_by is_marked flags
-length-marked_places start [] = refl
-length-marked_places start (true ∷ flags) = omega (arith, count-mark true flags, length-marked_places (start + 1) flags)
-length-marked_places start (false ∷ flags) = omega (arith, count-mark false flags, length-marked_places (start + 1) flags)
-
--- each place lies within the list
-pub marked_places-within : (start : ℕ) (flags : List Bool) (i : ℕ) → i < count_by is_marked flags → (start ≤ get_or (marked_places start flags) i 0) × (get_or (marked_places start flags) i 0 < start + length flags)
-marked_places-within start [] i h = absurd (omega arith)
-marked_places-within start (true ∷ flags) zero h = (omega arith, omega arith)
-marked_places-within start (true ∷ flags) (suc i) h =
-    let rest = marked_places-within (start + 1) flags i (omega (arith, h, count-mark true flags)) in
-    (omega (arith, rest.0), omega (arith, rest.1))
-marked_places-within start (false ∷ flags) i h =
-    let rest = marked_places-within (start + 1) flags i (omega (arith, h, count-mark false flags)) in
-    (omega (arith, rest.0), omega (arith, rest.1))
-
--- places ascend
-pub marked_places-ascend : (start : ℕ) (flags : List Bool) (i : ℕ) → suc i < count_by is_marked flags → get_or (marked_places start flags) i 0 < get_or (marked_places start flags) (suc i) 0
-marked_places-ascend start [] i h = absurd (omega arith)
-marked_places-ascend start (true ∷ flags) zero h = omega (arith, (marked_places-within (start + 1) flags 0 (omega (arith, h, count-mark true flags))).0)
-marked_places-ascend start (true ∷ flags) (suc i) h = marked_places-ascend (start + 1) flags i (omega (arith, h, count-mark true flags))
-marked_places-ascend start (false ∷ flags) i h = marked_places-ascend (start + 1) flags i (omega (arith, h, count-mark false flags))
+use Rattle.segment.specs.Text.{marked_places}
+use Rattle.segment.specs.Marks.{count-mark, length-marked_places, marked_places-within, marked_places-ascend}
+use Rattle.segment.specs.Parts.{root_flags}
+use Rattle.segment.specs.Roots.{root_documents}
 
 -- a place is at or before mark `root` exactly where at most so many marks come before it
 pub marks_before : (start : ℕ) (flags : List Bool) (root place : ℕ) → root < count_by is_marked flags → (place + start ≤ get_or (marked_places start flags) root 0) ↔ (count_by is_marked (take place flags) ≤ root)
@@ -146,7 +121,7 @@ pub record ArePlaces (own now : Columns) (places : List ℕ) : Type 0 where
 
 pub place_there : (own now : Columns) (places : List ℕ) (root : ℕ) → ArePlaces own now places → root < length now.roots → root < length places
 place_there own now places root it h =
-    omega (arith, h, ap (λ (ps : List ℕ). length ps) it.are, length-root_documents own.scopes, it.agree.rooted.roots, ap (λ (one : Columns). length one.roots) it.seen)
+    omega (arith, h, ap (λ (ps : List ℕ). length ps) it.are, length-root_documents own.scopes, it.agree.parts.rooted, ap (λ (one : Columns). length one.roots) it.seen)
 
 pub place_is : (own now : Columns) (places : List ℕ) (root doc : ℕ) → ArePlaces own now places → root < length now.roots → doc ≡ get_or places root doc → slice_get (root_documents now.scopes) root ≡ Some doc
 place_is own now places root doc it h read =
@@ -210,7 +185,7 @@ block-ordered scopes (suc root) h =
 
 pub block-within : (columns : Columns) (root : ℕ) → AreColumns columns → root < length columns.roots → block_end columns.scopes root ≤ columns.documents
 block-within columns root agree h =
-    omega (arith, root_documents-within columns.scopes root (omega (arith, h, agree.rooted.roots)), length-root_flags columns.documents columns.scopes agree.rooted.scopes)
+    omega (arith, root_documents-within columns.scopes root (omega (arith, h, agree.parts.rooted)), length-root_flags columns.documents columns.scopes agree.rooted.scopes)
 
 pub before_root : (own now : Columns) (root before doc : ℕ) → own ≡ now → AreColumns own → (root ≡ 0 → ⊥) → root < length now.roots
     → slice_get (root_documents now.scopes) (root - 1) ≡ Some before → slice_get (root_documents now.scopes) root ≡ Some doc → before < doc
@@ -223,5 +198,5 @@ before_root own now (suc root) before doc seen agree some h one other =
       get_or_from_slice_get (root_documents now.scopes) (suc root - 1) before 0 one,
       ap (λ r. get_or (root_documents now.scopes) r 0) e,
       get_or_from_slice_get (root_documents now.scopes) (suc root) doc 0 other,
-      root_documents-ascend now.scopes root (omega (arith, h, is.rooted.roots)),
+      root_documents-ascend now.scopes root (omega (arith, h, is.parts.rooted)),
     )

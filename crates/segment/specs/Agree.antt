@@ -1,18 +1,18 @@
 -- When columns are those of one segment: each sentence speaks of columns alone, and of no mapping.
-use Rattle.std.specs.Prelude.{◌≡◌, ℕ, ℤ, ◌<◌, ◌≤◌, Bool, false, List, [], length, map, count_by, slice_get, slice_index_or, Contains, Option, Some, None, IsTrue, IsNone, IsSomeAnd}
+use Rattle.std.specs.Prelude.{◌≡◌, ℕ, ℤ, ◌<◌, ◌≤◌, ◌-◌, Bool, false, List, [], length, map, count_by, slice_get, slice_index_or, Contains, Option, Some, None, IsTrue, IsNone, IsSomeAnd}
 use Rattle.std.specs.List.{All}
-use Rattle.std.specs.List.Sorted.{IsStrictlyIncreasing}
 use Rattle.block_bits.specs.Flags.{is_marked}
 use Rattle.block_bits.specs.Blocks.{HaveOneScope}
 use Rattle.postings.specs.Postings.{documents}
 use Rattle.doc_values.specs.Values.{values_of}
-use Rattle.segment.specs.Fields.{column_of, fields}
-use Rattle.segment.specs.Keys.{number_key}
-use Rattle.segment.specs.Roots.{root_flags}
+use Rattle.term_table.specs.Keys.{number_key}
+use Rattle.stored_sources.specs.declared.root.Join.{Join}
+use Rattle.stored_sources.specs.declared.root.Join.TheVariants.{Unjoined, Named, Child}
+use Rattle.stored_sources.specs.declared.root.Root.{Root}
+use Rattle.segment.specs.Fields.{column_of}
+use Rattle.segment.specs.Lists.{terms_of, postings_of}
+use Rattle.segment.specs.Parts.{root_flags, AreParts}
 use Rattle.segment.specs.declared.columns.Columns.{Columns}
-use Rattle.segment.specs.declared.root.Join.{Join}
-use Rattle.segment.specs.declared.root.Join.TheVariants.{Unjoined, Named, Child}
-use Rattle.segment.specs.declared.root.Root.{Root}
 
 -- an id has 1 to 512 bytes
 abbrev pub IsId : List ℕ → Type 0
@@ -24,20 +24,30 @@ HasParentId Unjoined = Unit {0}
 HasParentId (Named relation) = Unit {0}
 HasParentId (Child relation parent) = IsId parent
 
-abbrev pub HasIds : Root → Type 0
-HasIds root = IsId root.id × HasParentId root.join
+-- a root with ids, and a source of at most 16,777,216 bytes
+pub record IsStored (root : Root) : Type 0 where
+  pub id : IsId root.id
+  pub parent : HasParentId root.join
+  pub source : length root.source ≤ 16777216
 
--- one or more documents, each below the number of documents: those of a term's postings, or of a column's rows
-abbrev pub HasDocuments : {X : Type 0} → ℕ → List (ℕ × X) → Type 0
-HasDocuments {X} count rows = (1 ≤ length rows) × All (λ (row : ℕ × X). row.0 < count) rows
+-- the documents and the roots: each document is of one scope, the last document is a root, and the last scope has documents
+pub record AreRooted (columns : Columns) : Type 0 where
+  pub scopes : HaveOneScope columns.documents columns.scopes
+  pub last : IsTrue (slice_index_or (root_flags columns.scopes) (columns.documents - 1) false)
+  pub greatest : 1 ≤ count_by is_marked (slice_index_or columns.scopes (length columns.scopes - 1) [])
+  pub stored : All IsStored columns.roots
 
--- a flag for each document, one or more of them set
-abbrev pub HasFlags : ℕ → List Bool → Type 0
-HasFlags count flags = (length flags ≡ count) × (1 ≤ count_by is_marked flags)
+-- each document of a column is one of so many
+abbrev pub AreWithin : {X : Type 0} → ℕ → List (ℕ × X) → Type 0
+AreWithin {X} count rows = All (λ (row : ℕ × X). row.0 < count) rows
 
--- no field has a column of each of two kinds
-abbrev pub AreApart : {X Y : Type 0} → List (ℕ × X) → List (ℕ × Y) → Type 0
-AreApart {X} {Y} ones others = All (λ (one : ℕ × X). IsNone (column_of one.0 others)) ones
+-- the columns of fields: no field has columns of two kinds, they name documents that are there, and a text field has some
+pub record HaveFields (columns : Columns) : Type 0 where
+  pub ordinals_apart : All (λ (column : ℕ × List (ℕ × List ℕ)). IsNone (column_of column.0 columns.numbers) × IsNone (column_of column.0 columns.present)) columns.ordinals
+  pub numbers_apart : All (λ (column : ℕ × List (ℕ × List ℤ)). IsNone (column_of column.0 columns.present)) columns.numbers
+  pub ordinals_within : All (λ (column : ℕ × List (ℕ × List ℕ)). AreWithin columns.documents column.1) columns.ordinals
+  pub numbers_within : All (λ (column : ℕ × List (ℕ × List ℤ)). AreWithin columns.documents column.1) columns.numbers
+  pub present_some : All (λ (column : ℕ × List Bool). 1 ≤ count_by is_marked column.1) columns.present
 
 -- a word of a text field stands in a document at one or more positions, and the document has a value of the field
 pub record IsWordAt (present : List Bool) (posting : ℕ × List ℕ) : Type 0 where
@@ -61,7 +71,7 @@ IsTermOf None None (Some rows) ordinal bytes postings = All (IsNumberAt rows byt
 IsTermOf None None None ordinal bytes postings = ⊥
 
 -- an ordinal in a column is the place of a term of that field, one of whose documents is the row's
-pub record IsOrdinal (terms : List (ℕ × List ℕ)) (postings : List (List (ℕ × List ℕ))) (field doc ordinal : ℕ) : Type 0 where
+pub record IsOrdinalAt (terms : List (ℕ × List ℕ)) (postings : List (List (ℕ × List ℕ))) (field doc ordinal : ℕ) : Type 0 where
   pub of_field : IsSomeAnd (slice_get terms ordinal) (λ (term : ℕ × List ℕ). term.0 ≡ field)
   pub posted : Contains (documents (slice_index_or postings ordinal [])) doc
 
@@ -73,55 +83,26 @@ pub record IsKeyed (terms : List (ℕ × List ℕ)) (postings : List (List (ℕ 
 
 abbrev pub HaveOrdinals : List (ℕ × List ℕ) → List (List (ℕ × List ℕ)) → ℕ × List (ℕ × List ℕ) → Type 0
 HaveOrdinals terms postings column =
-    All (λ (row : ℕ × List ℕ). All (λ ordinal. IsOrdinal terms postings column.0 row.0 ordinal) row.1) column.1
+    All (λ (row : ℕ × List ℕ). All (λ ordinal. IsOrdinalAt terms postings column.0 row.0 ordinal) row.1) column.1
 
 abbrev pub HaveKeys : List (ℕ × List ℕ) → List (List (ℕ × List ℕ)) → ℕ × List (ℕ × List ℤ) → Type 0
 HaveKeys terms postings column =
     All (λ (row : ℕ × List ℤ). All (λ number. IsKeyed terms postings column.0 row.0 number) row.1) column.1
 
--- the documents, their scopes and the roots
-pub record AreRooted (columns : Columns) : Type 0 where
-  pub some : 1 ≤ columns.documents
-  pub scopes : HaveOneScope columns.documents columns.scopes
-  pub roots : length columns.roots ≡ count_by is_marked (root_flags columns.scopes)
-  pub sources : length columns.sources ≡ length columns.roots
-  pub ids : All HasIds columns.roots
-
--- the columns of fields: fields ascend in each list, and no field has columns of two kinds
-pub record HaveFields (columns : Columns) : Type 0 where
-  pub ordinals : IsStrictlyIncreasing (fields columns.ordinals)
-  pub numbers : IsStrictlyIncreasing (fields columns.numbers)
-  pub present : IsStrictlyIncreasing (fields columns.present)
-  pub ordinals_numbers : AreApart columns.ordinals columns.numbers
-  pub ordinals_present : AreApart columns.ordinals columns.present
-  pub numbers_present : AreApart columns.numbers columns.present
-
--- the documents that lists and columns name
-pub record HaveDocuments (columns : Columns) : Type 0 where
-  pub postings : All (HasDocuments columns.documents) columns.postings
-  pub ordinals : All (λ (column : ℕ × List (ℕ × List ℕ)). HasDocuments columns.documents column.1) columns.ordinals
-  pub numbers : All (λ (column : ℕ × List (ℕ × List ℤ)). HasDocuments columns.documents column.1) columns.numbers
-  pub present : All (λ (column : ℕ × List Bool). HasFlags columns.documents column.1) columns.present
-
 -- a term of at most 32,766 bytes, whose documents are as the field's column says
 pub record IsTermAt (columns : Columns) (ordinal : ℕ) (term : ℕ × List ℕ) : Type 0 where
   pub short : length term.1 ≤ 32766
-  pub is : IsTermOf (column_of term.0 columns.present) (column_of term.0 columns.ordinals) (column_of term.0 columns.numbers) ordinal term.1 (slice_index_or columns.postings ordinal [])
-
--- a list of postings for each term, and each term's documents are as its field's column says
-pub record AreTerms (columns : Columns) : Type 0 where
-  pub lists : length columns.postings ≡ length columns.terms
-  pub terms : (ordinal : ℕ) (term : ℕ × List ℕ) → slice_get columns.terms ordinal ≡ Some term → IsTermAt columns ordinal term
+  pub is : IsTermOf (column_of term.0 columns.present) (column_of term.0 columns.ordinals) (column_of term.0 columns.numbers) ordinal term.1 (slice_index_or (postings_of columns) ordinal [])
 
 -- terms and the columns of fields say the same
 pub record HaveTerms (columns : Columns) : Type 0 where
-  pub terms : AreTerms columns
-  pub ordinals : All (HaveOrdinals columns.terms columns.postings) columns.ordinals
-  pub numbers : All (HaveKeys columns.terms columns.postings) columns.numbers
+  pub terms : (ordinal : ℕ) (term : ℕ × List ℕ) → slice_get (terms_of columns) ordinal ≡ Some term → IsTermAt columns ordinal term
+  pub ordinals : All (HaveOrdinals (terms_of columns) (postings_of columns)) columns.ordinals
+  pub numbers : All (HaveKeys (terms_of columns) (postings_of columns)) columns.numbers
 
--- the columns agree
+-- the columns can be written, and they agree
 pub record AreColumns (columns : Columns) : Type 0 where
+  pub parts : AreParts columns
   pub rooted : AreRooted columns
   pub fields : HaveFields columns
-  pub documents : HaveDocuments columns
   pub terms : HaveTerms columns

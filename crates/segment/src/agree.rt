@@ -1,79 +1,108 @@
-//! Whether columns agree, so that they are those of one segment.
+//! Whether the columns of a segment agree: its documents, its roots and the columns of its fields.
 
-ghost use Rattle.std.specs.Prelude.{◌≡◌, ◌↔◌, ◌<◌, List, length, count_by, IsTrue, All};
-ghost use Rattle.std.specs.List.Sorted.{IsStrictlyIncreasing};
+ghost use Rattle.std.specs.Prelude.{◌≡◌, ◌↔◌, ◌<◌, ◌≤◌, ◌-◌, ℕ, false, [], List, length, count_by, slice_index_or, IsTrue, IsNone};
+ghost use Rattle.std.specs.List.{All};
 ghost use Rattle.block_bits.specs.Flags.{is_marked};
-ghost use Rattle.segment.specs.Agree.{IsId, HasParentId, HasIds, HasDocuments, HasFlags, AreApart, AreRooted, HaveFields, HaveDocuments, HaveTerms, AreColumns};
-ghost use Rattle.segment.specs.Fields.{fields};
-ghost use Rattle.segment.specs.Roots.{root_flags};
+ghost use Rattle.stored_sources.specs.Roots.{root_of, lent_join};
+ghost use Rattle.segment.specs.Fields.{column_of};
+ghost use Rattle.segment.specs.Parts.{root_flags, IsHead};
+ghost use Rattle.segment.specs.Agree.{IsId, HasParentId, IsStored, AreRooted, AreWithin, HaveFields, HaveTerms, AreColumns};
 
 use crate::agree_columns::{have_keys, have_ordinals};
 use crate::agree_terms::are_terms;
-use crate::{ByField, Columns, Join, Root};
+use crate::parts::Parts;
 use block_bits::BitSet;
-use doc_values::RowList;
-use postings::PostingLists;
+use doc_values::{Column, ColumnValue};
+use stored_sources::{JoinValue, StoredSources};
 
-/// Whether columns are those of one segment.
-pub(crate) fn are_columns(columns: &Columns) -> bool
-    ensures { IsTrue result ↔ AreColumns columns.now }
+/// The most bytes of a source.
+const MAX_SOURCE_LEN: u32 = 16_777_216;
+
+/// The most bytes of an id.
+const MAX_ID_LEN: usize = 512;
+
+/// Whether columns that can be written are those of one segment.
+pub(crate) fn are_columns(parts: &Parts) -> bool
+    ensures { IsTrue result ↔ AreColumns parts.now }
 {
-    are_rooted(columns) && have_fields(columns) && have_documents(columns) && have_terms(columns)
+    let _bytes = parts.bytes();
+    are_rooted(parts) && have_fields(parts) && have_terms(parts)
 }
 
 /// Whether terms and the columns of fields say the same.
-fn have_terms(columns: &Columns) -> bool
-    ensures { IsTrue result ↔ HaveTerms columns.now }
+fn have_terms(parts: &Parts) -> bool
+    ensures { IsTrue result ↔ HaveTerms parts.now }
 {
-    if !are_terms(columns) {
+    if !are_terms(parts) {
         return false;
     }
-    if !have_ordinals(columns) {
+    if !have_ordinals(parts) {
         return false;
     }
-    have_keys(columns)
+    have_keys(parts)
 }
 
-/// Whether there are documents, each of one scope, and for each root an entry and a source.
-fn are_rooted(columns: &Columns) -> bool
-    ensures { IsTrue result ↔ AreRooted columns.now }
+/// Whether each document is of one scope, the last document is a root, the last scope has documents, and the roots can be
+/// stored.
+fn are_rooted(parts: &Parts) -> bool
+    ensures { IsTrue result ↔ AreRooted parts.now }
 {
-    let roots = columns.roots.as_slice();
-    columns.documents > 0
-        && columns.scopes.give_one_scope(columns.documents)
-        && roots.len() == count_roots(columns.scopes.as_slice()) as usize
-        && columns.sources.as_slice().len() == roots.len()
-        && have_ids(roots)
+    let _bytes = parts.bytes();
+    let documents = parts.documents();
+    let scopes = parts.scopes();
+    scopes.give_one_scope(documents)
+        && ends_with_root(scopes.as_slice(), documents)
+        && has_greatest(scopes.as_slice())
+        && are_stored(&parts.sources())
 }
 
-/// How many documents are roots, by the documents of each scope.
-fn count_roots(scopes: &[BitSet]) -> u32
-    ensures { result ≡ count_by is_marked (root_flags scopes.now) }
+/// Whether the last document is a root.
+fn ends_with_root(scopes: &[BitSet], documents: u32) -> bool
+    requires { IsHead documents scopes.now }
+    ensures { IsTrue result ↔ IsTrue (slice_index_or (root_flags scopes.now) (documents - 1) false) }
 {
-    match scopes {
-        [] => 0,
-        [roots, ..] => roots.count(),
-    }
+    scopes[0].has(documents - 1)
 }
 
-fn have_ids(roots: &[Root]) -> bool
-    ensures { IsTrue result ↔ All HasIds roots.now }
+/// Whether the last scope has documents.
+fn has_greatest(scopes: &[BitSet]) -> bool
+    requires { 1 ≤ length scopes.now }
+    ensures { IsTrue result ↔ (1 ≤ count_by is_marked (slice_index_or scopes.now (length scopes.now - 1) [])) }
 {
-    'roots: for root in roots {
-        if !is_id(root.id.as_slice()) || !has_parent_id(&root.join) {
+    scopes[scopes.len() - 1].count() >= 1
+}
+
+/// Whether ids and sources have as many bytes as they may have.
+#[tactic(auto, using(crate::proofs::Passes::passes))]
+fn are_stored(sources: &StoredSources) -> bool
+    ensures { IsTrue result ↔ All IsStored sources.now }
+{
+    'roots: for root in 0..sources.count() {
+        if !is_stored(sources, root) {
             return false;
         }
     }
     true
 }
 
+/// Whether the ids and the source of a root have as many bytes as they may have.
+fn is_stored(sources: &StoredSources, root: u32) -> bool
+    requires { root < length sources.now }
+    ensures { IsTrue result ↔ IsStored (root_of sources.now root) }
+{
+    is_id(sources.id(root))
+        && has_parent_id(sources.join(root))
+        && sources.source_len(root) <= MAX_SOURCE_LEN
+}
+
 /// Whether a join value names its parent by an id, where it names one.
-fn has_parent_id(join: &Join) -> bool
-    ensures { IsTrue result ↔ HasParentId join.now }
+fn has_parent_id(join: JoinValue) -> bool
+    ensures { IsTrue result ↔ HasParentId (lent_join join.entry) }
 {
     match join {
-        Join::Unjoined | Join::Named(_) => true,
-        Join::Child(_, parent) => is_id(parent.as_slice()),
+        JoinValue::Unjoined => true,
+        JoinValue::Named(_) => true,
+        JoinValue::Child(_, parent) => is_id(parent),
     }
 }
 
@@ -81,114 +110,95 @@ fn has_parent_id(join: &Join) -> bool
 fn is_id(bytes: &[u8]) -> bool
     ensures { IsTrue result ↔ IsId bytes.now }
 {
-    !bytes.is_empty() && bytes.len() <= 512
+    !bytes.is_empty() && bytes.len() <= MAX_ID_LEN
 }
 
-/// Whether fields ascend in each list of columns, and no field has columns of two kinds.
-fn have_fields(columns: &Columns) -> bool
-    ensures { IsTrue result ↔ HaveFields columns.now }
+/// Whether no field has columns of two kinds, columns name documents that are there, and each text field has some.
+fn have_fields(parts: &Parts) -> bool
+    ensures { IsTrue result ↔ HaveFields parts.now }
 {
-    if !are_ascending(&columns.ordinals) {
+    if !are_ordinals_apart(parts) {
         return false;
     }
-    if !are_ascending(&columns.numbers) {
+    if !are_numbers_apart(parts) {
         return false;
     }
-    if !are_ascending(&columns.present) {
+    if !are_ordinals_within(parts) {
         return false;
     }
-    if !are_apart(&columns.ordinals, &columns.numbers) {
+    if !are_numbers_within(parts) {
         return false;
     }
-    if !are_apart(&columns.ordinals, &columns.present) {
-        return false;
-    }
-    are_apart(&columns.numbers, &columns.present)
+    have_present(parts.present().as_slice())
 }
 
-/// Whether the fields of columns strictly ascend.
-fn are_ascending<C: Drop>(columns: &ByField<C>) -> bool
-    ensures { IsTrue result ↔ IsStrictlyIncreasing (fields columns.now) }
+/// Whether no field of ordinals has numbers or is a text field.
+#[tactic(auto, using(crate::proofs::Passes::passes))]
+fn are_ordinals_apart(parts: &Parts) -> bool
+    ensures { IsTrue result ↔ All (λ column. IsNone (column_of column.0 parts.now.numbers) × IsNone (column_of column.0 parts.now.present)) parts.now.ordinals }
 {
-    let columns = columns.as_slice();
-    'columns: for at in 1..columns.len() {
-        if columns[at].0 <= columns[at - 1].0 {
+    'columns: for at in 0..parts.ordinal_columns() {
+        let field = parts.ordinal_column(at).0;
+        if parts.numbers(field).is_some() || parts.present().get(field).is_some() {
             return false;
         }
     }
     true
 }
 
-/// Whether no field has a column in both lists.
-fn are_apart<C: Drop, D: Drop>(ones: &ByField<C>, others: &ByField<D>) -> bool
-    ensures { IsTrue result ↔ AreApart ones.now others.now }
+/// Whether no field of numbers is a text field.
+#[tactic(auto, using(crate::proofs::Passes::passes))]
+fn are_numbers_apart(parts: &Parts) -> bool
+    ensures { IsTrue result ↔ All (λ column. IsNone (column_of column.0 parts.now.present)) parts.now.numbers }
 {
-    'columns: for (field, _) in ones.as_slice() {
-        if others.get(*field).is_some() {
+    'columns: for at in 0..parts.number_columns() {
+        let field = parts.number_column(at).0;
+        if parts.present().get(field).is_some() {
             return false;
         }
     }
     true
 }
 
-/// Whether each list and each column names a document, and none that isn't there.
-fn have_documents(columns: &Columns) -> bool
-    ensures { IsTrue result ↔ HaveDocuments columns.now }
+/// Whether columns of ordinals name documents that are there.
+#[tactic(auto, using(crate::proofs::Passes::passes))]
+fn are_ordinals_within(parts: &Parts) -> bool
+    ensures { IsTrue result ↔ All (λ column. AreWithin parts.now.documents column.1) parts.now.ordinals }
 {
-    let count = columns.documents;
-    if !have_postings(&columns.postings, count) {
-        return false;
-    }
-    if !have_rows(&columns.ordinals, count) {
-        return false;
-    }
-    if !have_rows(&columns.numbers, count) {
-        return false;
-    }
-    have_flags(&columns.present, count)
-}
-
-fn have_postings(lists: &PostingLists, count: u32) -> bool
-    ensures { IsTrue result ↔ All (HasDocuments count) lists.now }
-{
-    'lists: for list in lists.as_slice() {
-        if !are_documents(list.as_slice(), count) {
+    'columns: for at in 0..parts.ordinal_columns() {
+        let (_, column) = parts.ordinal_column(at);
+        if !are_within(&column, parts.documents()) {
             return false;
         }
     }
     true
 }
 
-fn have_rows<T: Ord + Copy>(columns: &ByField<RowList<T>>, count: u32) -> bool
-    ensures { IsTrue result ↔ All (λ column. HasDocuments count column.1) columns.now }
+/// Whether columns of numbers name documents that are there.
+#[tactic(auto, using(crate::proofs::Passes::passes))]
+fn are_numbers_within(parts: &Parts) -> bool
+    ensures { IsTrue result ↔ All (λ column. AreWithin parts.now.documents column.1) parts.now.numbers }
 {
-    'columns: for (_, rows) in columns.as_slice() {
-        if !are_documents(rows.as_slice(), count) {
+    'columns: for at in 0..parts.number_columns() {
+        let (_, column) = parts.number_column(at);
+        if !are_within(&column, parts.documents()) {
             return false;
         }
     }
     true
 }
 
-/// Whether rows are one or more, and the document of each is one of so many.
-fn are_documents<X>(rows: &[(u32, X)], count: u32) -> bool
-    ensures { IsTrue result ↔ HasDocuments count rows.now }
+/// Whether the documents of a column are below their number: the last one is, since they ascend.
+fn are_within<T: ColumnValue>(column: &Column<T>, documents: u32) -> bool
+    ensures { IsTrue result ↔ AreWithin documents column.now }
 {
-    'rows: for (doc, _) in rows {
-        if *doc >= count {
-            return false;
-        }
-    }
-    !rows.is_empty()
+    let rows = column.rows();
+    rows == 0 || column.doc(rows - 1) < documents
 }
 
-fn have_flags(columns: &ByField<BitSet>, count: u32) -> bool
-    ensures { IsTrue result ↔ All (λ column. HasFlags count column.1) columns.now }
+/// Whether each text field has documents.
+fn have_present(columns: &[(u32, BitSet)]) -> bool
+    ensures { IsTrue result ↔ All (λ column. 1 ≤ count_by is_marked column.1) columns.now }
 {
-    'columns: for (_, set) in columns.as_slice() {
-        if set.len() != count || set.count() == 0 {
-            return false;
-        }
-    }
-    true
+    columns.iter().all(|(_, set)| set.count() >= 1)
 }

@@ -1,25 +1,24 @@
 //! Whether what the columns of keyword and number fields hold stands among the terms and their postings.
 
-ghost use Rattle.std.specs.Prelude.{◌≡◌, ◌↔◌, ℕ, List, [], IsTrue, Contains, slice_index_or};
+ghost use Rattle.std.specs.Prelude.{◌≡◌, ◌↔◌, ◌<◌, ℕ, List, [], length, slice_get, Some, IsTrue, Contains, slice_index_or};
 ghost use Rattle.std.specs.List.{All};
 ghost use Rattle.postings.specs.Postings.{documents};
-ghost use Rattle.segment.specs.Agree.{IsOrdinal, IsKeyed, HaveOrdinals, HaveKeys};
+ghost use Rattle.segment.specs.Lists.{terms_of, postings_of};
+ghost use Rattle.segment.specs.Agree.{IsOrdinalAt, IsKeyed, HaveOrdinals, HaveKeys};
 
-use crate::Columns;
-use crate::number_key::key_of;
-use crate::rows::place_of;
-use crate::term_search::place_of_term;
-use doc_values::{NumberList, NumberRows, OrdinalList, OrdinalRows};
-use postings::{PostingList, PostingLists};
-use term_table::TermList;
+use crate::parts::Parts;
+use doc_values::{NumberColumn, OrdinalColumn, Values};
+use term_table::number_key;
 
 /// Whether each ordinal in a column is the place of a term of the column's field, and the row's document is one of
 /// that term's.
-pub(crate) fn have_ordinals(columns: &Columns) -> bool
-    ensures { IsTrue result ↔ All (HaveOrdinals columns.now.terms columns.now.postings) columns.now.ordinals }
+#[tactic(auto, using(crate::proofs::Passes::passes))]
+pub(crate) fn have_ordinals(parts: &Parts) -> bool
+    ensures { IsTrue result ↔ All (HaveOrdinals (terms_of parts.now) (postings_of parts.now)) parts.now.ordinals }
 {
-    'columns: for (field, rows) in columns.ordinals.as_slice() {
-        if !is_ordinal_column(&columns.terms, &columns.postings, *field, rows) {
+    'columns: for at in 0..parts.ordinal_columns() {
+        let (field, column) = parts.ordinal_column(at);
+        if !are_ordinal_rows(parts, field, &column) {
             return false;
         }
     }
@@ -28,11 +27,13 @@ pub(crate) fn have_ordinals(columns: &Columns) -> bool
 
 /// Whether each number in a column stands by its key among the terms of the column's field, and the row's document is
 /// one of that term's.
-pub(crate) fn have_keys(columns: &Columns) -> bool
-    ensures { IsTrue result ↔ All (HaveKeys columns.now.terms columns.now.postings) columns.now.numbers }
+#[tactic(auto, using(crate::proofs::Passes::passes))]
+pub(crate) fn have_keys(parts: &Parts) -> bool
+    ensures { IsTrue result ↔ All (HaveKeys (terms_of parts.now) (postings_of parts.now)) parts.now.numbers }
 {
-    'columns: for (field, rows) in columns.numbers.as_slice() {
-        if !is_keyed_column(&columns.terms, &columns.postings, *field, rows) {
+    'columns: for at in 0..parts.number_columns() {
+        let (field, column) = parts.number_column(at);
+        if !are_keyed_rows(parts, field, &column) {
             return false;
         }
     }
@@ -40,16 +41,12 @@ pub(crate) fn have_keys(columns: &Columns) -> bool
 }
 
 /// Whether each ordinal in a field's rows is the place of a term of the field that the row's document has.
-fn is_ordinal_column(
-    terms: &TermList,
-    postings: &PostingLists,
-    field: u32,
-    rows: &OrdinalRows,
-) -> bool
-    ensures { IsTrue result ↔ HaveOrdinals terms.now postings.now (field, rows.now) }
+#[tactic(auto, using(crate::proofs::Passes::passes))]
+fn are_ordinal_rows(parts: &Parts, field: u32, column: &OrdinalColumn) -> bool
+    ensures { IsTrue result ↔ HaveOrdinals (terms_of parts.now) (postings_of parts.now) (field, column.now) }
 {
-    'rows: for (doc, ordinals) in rows.as_slice() {
-        if !is_ordinal_row(terms, postings, field, *doc, ordinals) {
+    'rows: for row in 0..column.rows() {
+        if !are_ordinals(parts, field, column.doc(row), &column.row_values(row)) {
             return false;
         }
     }
@@ -57,11 +54,12 @@ fn is_ordinal_column(
 }
 
 /// Whether each number in a field's rows is a term of the field that the row's document has.
-fn is_keyed_column(terms: &TermList, postings: &PostingLists, field: u32, rows: &NumberRows) -> bool
-    ensures { IsTrue result ↔ HaveKeys terms.now postings.now (field, rows.now) }
+#[tactic(auto, using(crate::proofs::Passes::passes))]
+fn are_keyed_rows(parts: &Parts, field: u32, column: &NumberColumn) -> bool
+    ensures { IsTrue result ↔ HaveKeys (terms_of parts.now) (postings_of parts.now) (field, column.now) }
 {
-    'rows: for (doc, numbers) in rows.as_slice() {
-        if !is_keyed_row(terms, postings, field, *doc, numbers) {
+    'rows: for row in 0..column.rows() {
+        if !are_keyed(parts, field, column.doc(row), &column.row_values(row)) {
             return false;
         }
     }
@@ -69,17 +67,12 @@ fn is_keyed_column(terms: &TermList, postings: &PostingLists, field: u32, rows: 
 }
 
 /// Whether each ordinal of a document is the place of a term of the field that the document has.
-fn is_ordinal_row(
-    terms: &TermList,
-    postings: &PostingLists,
-    field: u32,
-    doc: u32,
-    ordinals: &OrdinalList,
-) -> bool
-    ensures { IsTrue result ↔ All (λ ordinal. IsOrdinal terms.now postings.now field doc ordinal) ordinals.now }
+#[tactic(auto, using(crate::proofs::Passes::passes))]
+fn are_ordinals(parts: &Parts, field: u32, doc: u32, values: &Values<u64>) -> bool
+    ensures { IsTrue result ↔ All (λ ordinal. IsOrdinalAt (terms_of parts.now) (postings_of parts.now) field doc ordinal) values.now }
 {
-    'ordinals: for ordinal in ordinals.as_slice() {
-        if !is_ordinal(terms, postings, field, doc, *ordinal) {
+    'values: for at in 0..values.len() {
+        if !is_ordinal(parts, field, doc, values.value(at)) {
             return false;
         }
     }
@@ -87,17 +80,12 @@ fn is_ordinal_row(
 }
 
 /// Whether each number of a document is a term of the field that the document has.
-fn is_keyed_row(
-    terms: &TermList,
-    postings: &PostingLists,
-    field: u32,
-    doc: u32,
-    numbers: &NumberList,
-) -> bool
-    ensures { IsTrue result ↔ All (λ number. IsKeyed terms.now postings.now field doc number) numbers.now }
+#[tactic(auto, using(crate::proofs::Passes::passes))]
+fn are_keyed(parts: &Parts, field: u32, doc: u32, values: &Values<i64>) -> bool
+    ensures { IsTrue result ↔ All (λ number. IsKeyed (terms_of parts.now) (postings_of parts.now) field doc number) values.now }
 {
-    'numbers: for number in numbers.as_slice() {
-        if !is_keyed(terms, postings, field, doc, *number) {
+    'values: for at in 0..values.len() {
+        if !is_keyed(parts, field, doc, values.value(at)) {
             return false;
         }
     }
@@ -105,39 +93,37 @@ fn is_keyed_row(
 }
 
 /// Whether an ordinal is the place of a term of the field that the document has.
-fn is_ordinal(terms: &TermList, postings: &PostingLists, field: u32, doc: u32, ordinal: u64) -> bool
-    ensures { IsTrue result ↔ IsOrdinal terms.now postings.now field doc ordinal }
+fn is_ordinal(parts: &Parts, field: u32, doc: u32, ordinal: u64) -> bool
+    ensures { IsTrue result ↔ IsOrdinalAt (terms_of parts.now) (postings_of parts.now) field doc ordinal }
 {
-    let place = ordinal as usize;
-    match terms.as_slice().get(place) {
-        Some((own, _)) => *own == field && is_posted(postings, place, doc),
-        None => false,
+    let terms = parts.terms();
+    if ordinal >= terms.count() {
+        return false;
     }
+    terms.term(ordinal).0 == field && is_posted(parts, ordinal, doc)
 }
 
 /// Whether a number is a term of the field that the document has.
-fn is_keyed(terms: &TermList, postings: &PostingLists, field: u32, doc: u32, number: i64) -> bool
-    ensures { IsTrue result ↔ IsKeyed terms.now postings.now field doc number }
+fn is_keyed(parts: &Parts, field: u32, doc: u32, number: i64) -> bool
+    ensures { IsTrue result ↔ IsKeyed (terms_of parts.now) (postings_of parts.now) field doc number }
 {
-    match place_of_term(terms.as_slice(), field, &key_of(number)) {
-        Some(place) => is_posted(postings, place, doc),
+    let terms = parts.terms();
+    let _count = terms.count();
+    match terms.find(field, &number_key(number)) {
+        Some(ordinal) => is_posted(parts, ordinal, doc),
         None => false,
     }
 }
 
-/// Whether a document has the term at this place; no document has one past the last.
-fn is_posted(postings: &PostingLists, place: usize, doc: u32) -> bool
-    ensures { IsTrue result ↔ Contains (documents (slice_index_or postings.now place [])) doc }
+/// Whether a document has the term with this ordinal.
+fn is_posted(parts: &Parts, ordinal: u64, doc: u32) -> bool
+    requires { ordinal < length (terms_of parts.now) }
+    ensures { IsTrue result ↔ Contains (documents (slice_index_or (postings_of parts.now) ordinal [])) doc }
 {
-    match postings.as_slice().get(place) {
-        Some(list) => has_posting(list, doc),
+    let mut cursor = parts.postings().cursor(ordinal);
+    let _first = cursor.doc();
+    match cursor.advance(doc) {
+        Some(own) => own == doc,
         None => false,
     }
-}
-
-/// Whether a document is one of a term's.
-fn has_posting(list: &PostingList, doc: u32) -> bool
-    ensures { IsTrue result ↔ Contains (documents list.now) doc }
-{
-    place_of(list.as_slice(), doc).is_some()
 }

@@ -1,34 +1,39 @@
 //! Whether terms say the same as the columns of their fields.
 
-ghost use Rattle.std.specs.Prelude.{◌≡◌, ◌<◌, ◌↔◌, ℕ, List, length, map, slice_get, slice_index_or, Some, [], All, Contains, IsTrue, FitsSigned};
+ghost use Rattle.std.specs.Prelude.{◌≡◌, ◌<◌, ◌≤◌, ◌↔◌, ℕ, List, length, map, slice_get, slice_index_or, Some, [], All, Contains, IsTrue, FitsSigned};
 ghost use Rattle.std.specs.Int.{w64};
-ghost use Rattle.std.specs.List.Sorted.{IsSorted};
-ghost use Rattle.std.specs.Ordering.{int_cmp};
-ghost use Rattle.doc_values.specs.Values.{values_of};
-ghost use Rattle.segment.specs.Agree.{AreTerms, IsTermAt, IsTermOf, IsWordAt, IsKeywordAt, IsNumberAt};
+ghost use Rattle.term_table.specs.Keys.{number_key};
 ghost use Rattle.segment.specs.Fields.{column_of};
-ghost use Rattle.segment.specs.Keys.{number_key};
+ghost use Rattle.segment.specs.Lists.{terms_of, postings_of};
+ghost use Rattle.segment.specs.Agree.{IsTermAt, IsTermOf, IsWordAt, IsKeywordAt, IsNumberAt};
+ghost use Rattle.segment.specs.Kinds.{IsPosting, HasFits};
 
-use crate::Columns;
-use crate::number_key::number_of;
-use crate::rows::values_of;
+use crate::parts::Parts;
 use block_bits::BitSet;
-use doc_values::{NumberRows, OrdinalRows};
-use postings::PositionList;
+use doc_values::{NumberColumn, OrdinalColumn, Values};
+use postings::Cursor;
+use term_table::number_of;
 
 /// The greatest number of bytes of a term (Lucene's `IndexWriter.MAX_TERM_LENGTH`).
 const MAX_TERM_LEN: usize = 32_766;
 
-/// Whether there is a list of postings for each term, and each term's documents are as its field's column says.
-pub(crate) fn are_terms(columns: &Columns) -> bool
-    ensures { IsTrue result ↔ AreTerms columns.now }
+/// What a term is, as the column of its field is.
+#[derive(Drop)]
+enum Kind<'a> {
+    /// A word of a text field, by the documents with a value.
+    Word(&'a BitSet),
+    /// A keyword, by the field's column and the term's ordinal.
+    Keyword(OrdinalColumn<'a>, u64),
+    /// A number, by the field's column and the term's key.
+    Number(NumberColumn<'a>, &'a [u8]),
+}
+
+/// Whether each term has documents as its field's column says.
+pub(crate) fn are_terms(parts: &Parts) -> bool
+    ensures { IsTrue result ↔ ((ordinal : ℕ) (term : ℕ × List ℕ) → slice_get (terms_of parts.now) ordinal ≡ Some term → IsTermAt parts.now ordinal term) }
 {
-    let terms = columns.terms.as_slice();
-    if columns.postings.as_slice().len() != terms.len() {
-        return false;
-    }
-    'terms: for ordinal in 0..terms.len() {
-        if !is_term_at(columns, ordinal) {
+    'ordinals: for ordinal in 0..parts.terms().count() {
+        if !is_term_at(parts, ordinal) {
             return false;
         }
     }
@@ -36,131 +41,130 @@ pub(crate) fn are_terms(columns: &Columns) -> bool
 }
 
 /// Whether a term has at most 32,766 bytes, and documents as its field's column says.
-fn is_term_at(columns: &Columns, ordinal: usize) -> bool
-    requires term { ordinal < length columns.now.terms }
-    requires postings { ordinal < length columns.now.postings }
-    ensures { (term : ℕ × List ℕ) → slice_get columns.now.terms ordinal ≡ Some term → (IsTrue result ↔ IsTermAt columns.now ordinal term) }
+fn is_term_at(parts: &Parts, ordinal: u64) -> bool
+    requires { ordinal < length (terms_of parts.now) }
+    ensures { (term : ℕ × List ℕ) → slice_get (terms_of parts.now) ordinal ≡ Some term → (IsTrue result ↔ IsTermAt parts.now ordinal term) }
 {
-    let (field, bytes) = &columns.terms.as_slice()[ordinal];
-    let postings = columns.postings.as_slice()[ordinal].as_slice();
-    bytes.as_slice().len() <= MAX_TERM_LEN
-        && is_term_of(columns, *field, ordinal as u64, bytes.as_slice(), postings)
+    let (field, bytes) = parts.terms().term(ordinal);
+    if bytes.len() > MAX_TERM_LEN {
+        return false;
+    }
+    is_term_of(parts, field, ordinal, bytes)
 }
 
 /// Whether the postings of a term are as its field's column says; a field without a column has no term.
-fn is_term_of(
-    columns: &Columns,
-    field: u32,
-    ordinal: u64,
-    bytes: &[u8],
-    postings: &[(u32, PositionList)],
-) -> bool
-    ensures { IsTrue result ↔ IsTermOf (column_of field columns.now.present) (column_of field columns.now.ordinals) (column_of field columns.now.numbers) ordinal bytes.now postings.now }
+fn is_term_of(parts: &Parts, field: u32, ordinal: u64, bytes: &[u8]) -> bool
+    requires { ordinal < length (terms_of parts.now) }
+    ensures { IsTrue result ↔ IsTermOf (column_of field parts.now.present) (column_of field parts.now.ordinals) (column_of field parts.now.numbers) ordinal bytes.now (slice_index_or (postings_of parts.now) ordinal []) }
 {
-    match columns.present.get(field) {
-        Some(present) => are_word(present, postings),
-        None => match columns.ordinals.get(field) {
-            Some(rows) => are_keyword(rows, ordinal, postings),
-            None => match columns.numbers.get(field) {
-                Some(rows) => are_number(rows, bytes, postings),
-                None => false,
-            },
-        },
+    let _parts = parts.bytes();
+    let cursor = parts.postings().cursor(ordinal);
+    if let Some(present) = parts.present().get(field) {
+        return are_postings(&Kind::Word(present), cursor);
     }
+    if let Some(rows) = parts.ordinals(field) {
+        return are_postings(&Kind::Keyword(rows, ordinal), cursor);
+    }
+    if let Some(rows) = parts.numbers(field) {
+        return are_postings(&Kind::Number(rows, bytes), cursor);
+    }
+    false
 }
 
-/// Whether postings are those of a word of a text field.
-fn are_word(present: &BitSet, postings: &[(u32, PositionList)]) -> bool
-    ensures { IsTrue result ↔ All (IsWordAt present.now) postings.now }
+/// Whether the postings from a cursor on are those of a term of a kind.
+fn are_postings(kind: &Kind, postings: Cursor) -> bool
+    requires fits { HasFits kind.now }
+    requires start { postings.at ≡ 0 }
+    ensures { IsTrue result ↔ All (IsPosting kind.now) postings.entry.postings }
 {
-    'postings: for posting in postings {
-        if !is_word_at(present, posting) {
+    let mut cursor = postings;
+    let mut present = cursor.doc();
+    'postings: while let Some(doc) = present {
+        if !is_posting(kind, doc, cursor.positions()) {
             return false;
         }
+        present = cursor.next();
     }
     true
+}
+
+/// Whether a posting with this document and so many positions is one of a term of a kind.
+fn is_posting(kind: &Kind, doc: u32, positions: u32) -> bool
+    requires { HasFits kind.now }
+    ensures { (posting : ℕ × List ℕ) → posting.0 ≡ doc → length posting.1 ≡ positions → (IsTrue result ↔ IsPosting kind.now posting) }
+{
+    match kind {
+        Kind::Word(set) => is_word(set, doc, positions),
+        Kind::Keyword(rows, ordinal) => is_keyword(rows, *ordinal, doc, positions),
+        Kind::Number(rows, key) => is_number(rows, key, doc, positions),
+    }
 }
 
 /// Whether a posting is one of a word: with positions, and of a document that has a value of the field.
-fn is_word_at(present: &BitSet, posting: &(u32, PositionList)) -> bool
-    ensures { IsTrue result ↔ IsWordAt present.now posting.now }
+fn is_word(set: &BitSet, doc: u32, positions: u32) -> bool
+    ensures { (posting : ℕ × List ℕ) → posting.0 ≡ doc → length posting.1 ≡ positions → (IsTrue result ↔ IsWordAt set.now posting) }
 {
-    let (doc, positions) = posting;
-    !positions.as_slice().is_empty() && *doc < present.len() && present.has(*doc)
-}
-
-/// Whether postings are those of the keyword with this ordinal.
-fn are_keyword(rows: &OrdinalRows, ordinal: u64, postings: &[(u32, PositionList)]) -> bool
-    ensures { IsTrue result ↔ All (IsKeywordAt rows.now ordinal) postings.now }
-{
-    'postings: for posting in postings {
-        if !is_keyword_at(rows, ordinal, posting) {
-            return false;
-        }
+    if positions == 0 {
+        return false;
     }
-    true
+    if doc >= set.len() {
+        return false;
+    }
+    set.has(doc)
 }
 
 /// Whether a posting is one of a keyword: without positions, and of a document that has it in the field's column.
-fn is_keyword_at(rows: &OrdinalRows, ordinal: u64, posting: &(u32, PositionList)) -> bool
-    ensures { IsTrue result ↔ IsKeywordAt rows.now ordinal posting.now }
+fn is_keyword(rows: &OrdinalColumn, ordinal: u64, doc: u32, positions: u32) -> bool
+    ensures { (posting : ℕ × List ℕ) → posting.0 ≡ doc → length posting.1 ≡ positions → (IsTrue result ↔ IsKeywordAt rows.now ordinal posting) }
 {
-    let (doc, positions) = posting;
-    positions.as_slice().is_empty() && values_of(rows, *doc).binary_search(&ordinal).is_ok()
-}
-
-/// Whether postings are those of the number with this key.
-fn are_number(rows: &NumberRows, key: &[u8], postings: &[(u32, PositionList)]) -> bool
-    ensures { IsTrue result ↔ All (IsNumberAt rows.now key.now) postings.now }
-{
-    'postings: for posting in postings {
-        if !is_number_at(rows, key, posting) {
-            return false;
-        }
+    if positions > 0 {
+        return false;
     }
-    true
+    has_ordinal(&rows.values(doc), ordinal)
 }
 
 /// Whether a posting is one of a number: without positions, and of a document that has it in the field's column.
-fn is_number_at(rows: &NumberRows, key: &[u8], posting: &(u32, PositionList)) -> bool
-    ensures { IsTrue result ↔ IsNumberAt rows.now key.now posting.now }
+fn is_number(rows: &NumberColumn, key: &[u8], doc: u32, positions: u32) -> bool
+    requires { All (λ row. All (FitsSigned w64) row.1) rows.now }
+    ensures { (posting : ℕ × List ℕ) → posting.0 ≡ doc → length posting.1 ≡ positions → (IsTrue result ↔ IsNumberAt rows.now key.now posting) }
 {
-    let (doc, positions) = posting;
-    positions.as_slice().is_empty() && has_key(values_of(rows, *doc), key)
+    if positions > 0 {
+        return false;
+    }
+    has_key(&rows.values(doc), key)
 }
 
-/// Whether one of these numbers, which ascend, has this key.
-fn has_key(numbers: &[i64], key: &[u8]) -> bool
-    requires { IsSorted int_cmp numbers.now }
-    ensures { IsTrue result ↔ Contains (map number_key numbers.now) key.now }
+/// Whether an ordinal is one of these.
+fn has_ordinal(values: &Values<u64>, ordinal: u64) -> bool
+    ensures { IsTrue result ↔ Contains values.now ordinal }
+{
+    'values: for at in 0..values.len() {
+        if values.value(at) == ordinal {
+            return true;
+        }
+    }
+    false
+}
+
+/// Whether one of these numbers has this key.
+fn has_key(values: &Values<i64>, key: &[u8]) -> bool
+    requires { All (FitsSigned w64) values.now }
+    ensures { IsTrue result ↔ Contains (map number_key values.now) key.now }
 {
     match number_of(key) {
-        Some(number) => has_number(numbers, number),
+        Some(number) => has_number(values, number),
         None => false,
     }
 }
 
-/// Whether a number is one of these, which ascend.
-fn has_number(numbers: &[i64], number: i64) -> bool
-    requires { IsSorted int_cmp numbers.now }
-    ensures contained { IsTrue result ↔ Contains numbers.now number }
-    // they fit their type, so that each has a key of its own
-    ensures fit { All (FitsSigned w64) numbers.now }
+/// Whether a number is one of these.
+fn has_number(values: &Values<i64>, number: i64) -> bool
+    ensures { IsTrue result ↔ Contains values.now number }
 {
-    lies_between(numbers, number) && numbers.binary_search(&number).is_ok()
-}
-
-/// Whether a number lies between the first and the last of these, which ascend.
-fn lies_between(numbers: &[i64], number: i64) -> bool
-    requires { IsSorted int_cmp numbers.now }
-    ensures contained { Contains numbers.now number → IsTrue result }
-    // since the first and the last do
-    ensures fit { All (FitsSigned w64) numbers.now }
-{
-    if numbers.is_empty() {
-        return false;
+    'values: for at in 0..values.len() {
+        if values.value(at) == number {
+            return true;
+        }
     }
-    let first = numbers[0];
-    let last = numbers[numbers.len() - 1];
-    first <= number && number <= last
+    false
 }

@@ -1,12 +1,13 @@
-//! Columns by field.
+//! One thing a field.
 
-ghost use Rattle.std.specs.Prelude.{◌≡◌};
+ghost use Rattle.std.specs.Prelude.{◌≡◌, ◌↔◌, ◌<◌, ◌^◌, length, IsTrue};
 ghost use Rattle.std.specs.Option.{option_map};
-ghost use Rattle.segment.specs.Fields.{column_of};
+ghost use Rattle.std.specs.List.Sorted.{IsStrictlyIncreasing};
+ghost use Rattle.segment.specs.Fields.{column_of, fields};
 
 use std::marker::Model;
 
-/// One column a field, each with its field.
+/// One column a field, or what is kept of it, each with its field and by ascending field.
 #[derive(Drop)]
 pub struct ByField<C: Drop> {
     columns: Vec<(u32, C)>,
@@ -14,32 +15,43 @@ pub struct ByField<C: Drop> {
 
 impl<C: Drop> Model for ByField<C> {
     ghost use Rattle.std.specs.Prelude.{ℕ, List};
+    ghost use Rattle.std.specs.List.Sorted.{IsStrictlyIncreasing};
+    ghost use Rattle.segment.specs.Fields.{fields};
 
     ghost Value = { List (ℕ × C) };
 
     ghost view = { λ it. it.columns.items };
+
+    ghost invariant = { λ it. IsStrictlyIncreasing (fields it.columns.items) };
 }
 
 impl<C: Drop> ByField<C> {
-    /// The list of these columns. Takes no memory.
+    /// The list of these columns, as `are_ascending` tests them. Takes no memory.
     pub fn of(columns: Vec<(u32, C)>) -> ByField<C>
+        requires { IsStrictlyIncreasing (fields columns.items) }
         ensures { result ≡ columns.items }
     {
         ByField { columns }
     }
 
-    /// The columns, in order.
-    pub fn as_slice(&self) -> &[(u32, C)]
-        ensures { result.now ≡ self.now }
+    /// Whether the fields of columns strictly ascend.
+    pub fn are_ascending(columns: &[(u32, C)]) -> bool
+        ensures { IsTrue result ↔ IsStrictlyIncreasing (fields columns.now) }
     {
-        self.columns.as_slice()
+        'columns: for at in 1..columns.len() {
+            if columns[at].0 <= columns[at - 1].0 {
+                return false;
+            }
+        }
+        true
     }
 
-    /// The vector again. Takes no memory.
-    pub fn into_vec(self) -> Vec<(u32, C)>
-        ensures { result.items ≡ self }
+    /// The columns, in order.
+    pub fn as_slice(&self) -> &[(u32, C)]
+        ensures columns { result.now ≡ self.now }
+        ensures ascending { IsStrictlyIncreasing (fields self.now) }
     {
-        self.columns
+        self.columns.as_slice()
     }
 
     /// The column of a field, and None where the field has none.

@@ -1,8 +1,8 @@
-//! One segment: the columns of a list of blocks, and which of its roots are live.
+//! One segment: the documents of a list of blocks in one byte string, and which of its roots are live.
 //!
-//! A segment never changes; a delete clears live bits beside it (Lucene's `SegmentReader` and its live docs,
-//! package `org.apache.lucene.index`). The crate stands on the five kinds of columns. A segment is seen as the
-//! columns that it was made from: `Segment::of_columns` makes it, and refuses columns that disagree.
+//! A segment never changes; a delete clears live bits beside it (Lucene's `SegmentReader` and its live docs, package
+//! `org.apache.lucene.index`). The crate stands on the crates of the parts. A segment is seen as the columns that its bytes
+//! are the text of: `Segment::of_bytes` reads them, `Segment::of_columns` writes them. Begin reading with `specs/Text.antt`.
 #![tactic(auto)]
 
 mod agree;
@@ -10,25 +10,27 @@ mod agree_columns;
 mod agree_terms;
 mod by_field;
 mod columns;
+mod head;
 mod live_bits;
-mod number_key;
 mod parts;
+mod presence;
 mod refusal;
-mod root;
 mod root_docs;
-mod rows;
 mod segment;
-mod term_search;
+mod taken;
 #[cfg(test)]
 mod tests;
+mod values;
+mod writable;
+mod written;
 
 pub use by_field::ByField;
-pub use columns::Columns;
+pub use columns::{ColumnList, Columns};
 pub use live_bits::LiveBits;
 pub use refusal::SegmentRefusal;
-pub use root::{Join, JoinValue, Root, RootList};
 pub use segment::Segment;
 use std::alloc::{AllocError, AllocFailed};
+pub use stored_sources::{Bytes, Join, JoinValue, Root};
 
 /// Memory ran out. What the call was to change is as it was.
 #[derive(Clone, Copy, Debug, PartialEq, Eq)]
@@ -52,26 +54,8 @@ impl From<block_bits::NoMemory> for NoMemory {
     }
 }
 
-impl From<term_table::NoMemory> for NoMemory {
-    fn from(_: term_table::NoMemory) -> NoMemory {
-        NoMemory
-    }
-}
-
-impl From<postings::NoMemory> for NoMemory {
-    fn from(_: postings::NoMemory) -> NoMemory {
-        NoMemory
-    }
-}
-
-impl From<doc_values::NoMemory> for NoMemory {
-    fn from(_: doc_values::NoMemory) -> NoMemory {
-        NoMemory
-    }
-}
-
-impl From<stored_sources::NoMemory> for NoMemory {
-    fn from(_: stored_sources::NoMemory) -> NoMemory {
+impl From<part_text::NoMemory> for NoMemory {
+    fn from(_: part_text::NoMemory) -> NoMemory {
         NoMemory
     }
 }

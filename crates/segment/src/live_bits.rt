@@ -68,6 +68,20 @@ impl LiveBits {
         self.roots.clear(root);
     }
 
+    /// The live documents, one flag a document.
+    pub fn documents(&self) -> &BitSet
+        ensures { result.now ≡ self.now.docs }
+    {
+        &self.docs
+    }
+
+    /// The live roots, one flag a root.
+    pub fn live_roots(&self) -> &BitSet
+        ensures { result.now ≡ self.now.roots }
+    {
+        &self.roots
+    }
+
     /// All documents and roots are live.
     fn all(alloc: Global, segment: &Segment) -> Result<LiveBits, NoMemory>
         ensures over { IfOk result (λ live. IsLiveOver segment.now live) }

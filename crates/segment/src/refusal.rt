@@ -1,11 +1,11 @@
-//! Why columns make no segment.
+//! Why there is no segment.
 
 use std::alloc::AllocError;
 
 /// Why there is no segment.
 #[derive(Clone, Copy, Debug, PartialEq, Eq)]
 pub enum SegmentRefusal {
-    /// The columns disagree.
+    /// The columns disagree, or the bytes are the text of none that agree.
     NotASegment,
     /// An allocation failed.
     NoMemory,

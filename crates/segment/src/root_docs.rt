@@ -1,7 +1,8 @@
 //! The documents of the roots, listed from their bits.
 
 ghost use Rattle.std.specs.Prelude.{◌≡◌, IfOk};
-ghost use Rattle.segment.specs.Roots.{marked_places, root_documents};
+ghost use Rattle.segment.specs.Text.{marked_places};
+ghost use Rattle.segment.specs.Roots.{root_documents};
 
 use crate::NoMemory;
 use block_bits::{BitList, BitSet};

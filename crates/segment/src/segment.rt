@@ -1,25 +1,32 @@
 //! The segment and its readers.
 
-ghost use Rattle.std.specs.Prelude.{◌≡◌, ◌↔◌, ℕ, ◌<◌, ◌≤◌, ◌^◌, length, slice_get, Some, IsSomeAnd, IfOk, IsErrOf};
+ghost use Rattle.std.specs.Prelude.{◌≡◌, ◌↔◌, ℕ, ◌<◌, ◌≤◌, ◌^◌, length, slice_get, Some, IfOk, IsErrOf};
 ghost use Rattle.std.specs.Option.{option_map};
+ghost use Rattle.stored_sources.specs.Roots.{root_of, lent_join};
 ghost use Rattle.segment.specs.Agree.{AreColumns};
+ghost use Rattle.segment.specs.Encoding.{IsEncoding};
 ghost use Rattle.segment.specs.Fields.{column_of};
+ghost use Rattle.segment.specs.Lists.{terms_of, postings_of};
 ghost use Rattle.segment.specs.Live.{block_start, block_end};
-ghost use Rattle.segment.specs.Roots.{root_documents, lent_join};
+ghost use Rattle.segment.specs.Roots.{root_documents};
+ghost use Rattle.segment.specs.Text.{segment_text};
+ghost use Rattle.segment.specs.declared.columns.Columns.{Columns};
 
 use crate::agree::are_columns;
 use crate::parts::Parts;
 use crate::root_docs::root_places;
-use crate::{Columns, Join, JoinValue, SegmentRefusal};
-use block_bits::{BitList, BitSet};
+use crate::writable::are_parts;
+use crate::written::segment_bytes;
+use crate::{Columns, SegmentRefusal};
+use block_bits::{BitList, BitSet, words_are_of_one_set};
 use doc_values::{NumberColumn, OrdinalColumn};
 use postings::PostingsTable;
 use std::alloc::Global;
 use std::marker::Model;
-use stored_sources::StoredSources;
+use stored_sources::{Bytes, JoinValue, StoredSources};
 use term_table::TermTable;
 
-/// The columns of one segment, and the document of each root. It never changes.
+/// The bytes of one segment, where its parts stand in them, and the document of each root. It never changes.
 #[derive(Drop)]
 pub struct Segment {
     parts: Parts,
@@ -31,32 +38,75 @@ impl Model for Segment {
 
     ghost Value = { Columns };
 
-    ghost use Rattle.segment.specs.Kept.{IsKept};
+    ghost use Rattle.segment.specs.Segments.{IsSegment};
 
     ghost view = { λ it. it.parts };
 
-    ghost invariant = { IsKept };
+    ghost invariant = { IsSegment };
 }
 
 impl Segment {
+    /// The segment that these bytes are. It keeps them, and copies nothing but the bits of scopes and text fields.
+    pub fn of_bytes(alloc: Global, bytes: Bytes) -> Result<Segment, SegmentRefusal>
+        ensures segment { IfOk result (λ segment. IsEncoding segment bytes) }
+        ensures none { IsErrOf result SegmentRefusal.NotASegment → (columns : Columns) → IsEncoding columns bytes → ⊥ }
+    {
+        words_are_of_one_set();
+        let Some(parts) = Parts::read(alloc, bytes.into_vec())? else {
+            return Err(SegmentRefusal::NotASegment);
+        };
+        if !are_columns(&parts) {
+            return Err(SegmentRefusal::NotASegment);
+        }
+        Ok(Segment::over(alloc, parts)?)
+    }
+
     /// The segment of these columns, if they agree.
     ///
-    /// They disagree where a document has no scope or several; where roots, their sources and the documents of
-    /// scope 0 differ in number, or an id has 0 or more than 512 bytes; where fields don't ascend or a field has
-    /// columns of two kinds; where a list names no document or one that isn't there; or where a term is too long
-    /// or its documents differ from those of its field's column. Whether the documents are blocks, and what a
-    /// mapping says of the fields, isn't looked at.
+    /// They disagree where lists are not as long as there are documents or roots; where a document has no scope or several,
+    /// the last document is no root, or the last scope has no document; where an id has 0 or more than 512 bytes or a source
+    /// more than 16,777,216; where a field has columns of two kinds; where a column names a document that isn't there; or
+    /// where a term is too long or its documents differ from those of its field's column. Whether the documents are blocks,
+    /// and what a mapping says of the fields, isn't looked at.
     pub fn of_columns(alloc: Global, columns: Columns) -> Result<Segment, SegmentRefusal>
         ensures columns { IfOk result (λ segment. segment ≡ columns) }
         ensures agree { IfOk result (λ segment. AreColumns columns) }
-        ensures disagree { IsErrOf result SegmentRefusal.NotASegment ↔ ¬ AreColumns columns }
+        ensures disagree { IsErrOf result SegmentRefusal.NotASegment → AreColumns columns → ⊥ }
     {
-        if !are_columns(&columns) {
+        words_are_of_one_set();
+        if !are_parts(&columns) {
             return Err(SegmentRefusal::NotASegment);
         }
-        let root_docs = root_places(alloc, &columns.scopes)?;
-        let parts = Parts::built(alloc, columns)?;
+        let bytes = segment_bytes(alloc, &columns)?;
+        Segment::of_bytes(alloc, Bytes::of(bytes))
+    }
+
+    /// The segment of columns that are known to agree, as those that a builder or a merge makes are.
+    pub fn of_agreeing(alloc: Global, columns: Columns) -> Result<Segment, crate::NoMemory>
+        requires { AreColumns columns }
+        ensures { IfOk result (λ segment. segment ≡ columns) }
+    {
+        words_are_of_one_set();
+        let bytes = segment_bytes(alloc, &columns)?;
+        let parts = Parts::read(alloc, bytes)?.unwrap();
+        Segment::over(alloc, parts)
+    }
+
+    /// The segment of parts that agree.
+    fn over(alloc: Global, parts: Parts) -> Result<Segment, crate::NoMemory>
+        requires { AreColumns parts }
+        ensures { IfOk result (λ segment. segment ≡ parts) }
+    {
+        let root_docs = root_places(alloc, parts.scopes())?;
         Ok(Segment { parts, root_docs })
+    }
+
+    /// The segment's bytes. Takes no memory.
+    pub fn bytes(&self) -> &[u8]
+        ensures { IsEncoding self.now result.now }
+    {
+        let _ = &self.root_docs;
+        self.parts.bytes()
     }
 
     /// How many documents there are, one or more.
@@ -64,65 +114,101 @@ impl Segment {
         ensures documents { result ≡ self.now.documents }
         ensures agree { AreColumns self.now }
     {
-        self.parts.documents
+        self.parts.documents()
     }
 
     /// The documents of each scope.
     pub fn scopes(&self) -> &BitList
         ensures { result.now ≡ self.now.scopes }
     {
-        &self.parts.scopes
+        self.parts.scopes()
     }
 
     /// The terms of all fields.
-    pub fn terms(&self) -> &TermTable
-        ensures { result.now ≡ self.now.terms }
+    pub fn terms(&self) -> TermTable<'_>
+        ensures { result ≡ terms_of self.now }
     {
-        &self.parts.terms
+        self.parts.terms()
     }
 
     /// The documents and positions of each term, by its ordinal.
-    pub fn postings(&self) -> &PostingsTable
-        ensures postings { result.now ≡ self.now.postings }
-        ensures long { length result.now ≡ length self.now.terms }
+    pub fn postings(&self) -> PostingsTable<'_>
+        ensures postings { result ≡ postings_of self.now }
+        ensures long { length result ≡ length (terms_of self.now) }
     {
-        &self.parts.postings
+        self.parts.postings()
     }
 
     /// The numbers of a field of kind long, boolean or date; None where no document has one.
-    pub fn numbers(&self, field: u32) -> Option<&NumberColumn>
-        ensures { option_map (λ column. column.now) result ≡ column_of field self.now.numbers }
+    pub fn numbers(&self, field: u32) -> Option<NumberColumn<'_>>
+        ensures { result ≡ column_of field self.now.numbers }
     {
-        self.parts.numbers.get(field)
+        self.parts.numbers(field)
+    }
+
+    /// How many fields have numbers.
+    pub fn number_columns(&self) -> usize
+        ensures { result ≡ length self.now.numbers }
+    {
+        self.parts.number_columns()
+    }
+
+    /// Of the fields that have numbers, by ascending field: the one at this place, and its numbers.
+    pub fn number_column(&self, at: usize) -> (u32, NumberColumn<'_>)
+        requires { at < length self.now.numbers }
+        ensures { slice_get self.now.numbers at ≡ Some result }
+    {
+        self.parts.number_column(at)
     }
 
     /// The values of a keyword field, as ordinals of its terms; None where no document has one.
-    pub fn ordinals(&self, field: u32) -> Option<&OrdinalColumn>
-        ensures { option_map (λ column. column.now) result ≡ column_of field self.now.ordinals }
+    pub fn ordinals(&self, field: u32) -> Option<OrdinalColumn<'_>>
+        ensures { result ≡ column_of field self.now.ordinals }
     {
-        self.parts.ordinals.get(field)
+        self.parts.ordinals(field)
+    }
+
+    /// How many fields have ordinals.
+    pub fn ordinal_columns(&self) -> usize
+        ensures { result ≡ length self.now.ordinals }
+    {
+        self.parts.ordinal_columns()
+    }
+
+    /// Of the fields that have ordinals, by ascending field: the one at this place, and its ordinals.
+    pub fn ordinal_column(&self, at: usize) -> (u32, OrdinalColumn<'_>)
+        requires { at < length self.now.ordinals }
+        ensures { slice_get self.now.ordinals at ≡ Some result }
+    {
+        self.parts.ordinal_column(at)
     }
 
     /// The documents with a value of a text field; None where no document has one.
     pub fn present(&self, field: u32) -> Option<&BitSet>
         ensures { option_map (λ set. set.now) result ≡ column_of field self.now.present }
     {
-        self.parts.present.get(field)
+        self.parts.present().get(field)
     }
 
-    /// The sources of the roots.
-    pub fn sources(&self) -> &StoredSources
-        ensures sources { result.now ≡ self.now.sources }
-        ensures long { length result.now ≡ length self.now.roots }
+    /// The text fields, by ascending field, each with the documents that have a value.
+    pub fn present_columns(&self) -> &[(u32, BitSet)]
+        ensures { result.now ≡ self.now.present }
     {
-        &self.parts.sources
+        self.parts.present().as_slice()
+    }
+
+    /// The roots with their sources.
+    pub fn sources(&self) -> StoredSources<'_>
+        ensures { result ≡ self.now.roots }
+    {
+        self.parts.sources()
     }
 
     /// How many roots there are.
     pub fn roots(&self) -> u32
         ensures { result ≡ length self.now.roots }
     {
-        self.parts.sources.count()
+        self.parts.sources().count()
     }
 
     /// The document of a root: the last one of its block.
@@ -132,12 +218,12 @@ impl Segment {
         ensures within { result < self.now.documents }
         ensures numbered { self.now.documents < 2 ^ 32 }
     {
-        let _documents = self.parts.count();
+        let _bytes = self.parts.bytes();
         self.root_docs[root as usize]
     }
 
     /// The documents of a root's block: the first, and the one past the last.
-    pub(crate) fn block(&self, root: u32) -> (u32, u32)
+    pub fn block(&self, root: u32) -> (u32, u32)
         requires { root < length self.now.roots }
         ensures agree { AreColumns self.now }
         ensures range { result ≡ (block_start self.now.scopes root, block_end self.now.scopes root) }
@@ -156,28 +242,32 @@ impl Segment {
     /// The bytes of a root's id.
     pub fn root_id(&self, root: u32) -> &[u8]
         requires { root < length self.now.roots }
-        ensures { IsSomeAnd (slice_get self.now.roots root) (λ own. result.now ≡ own.id) }
+        ensures { result.now ≡ (root_of self.now.roots root).id }
     {
-        self.parts.roots.as_slice()[root as usize].id.as_slice()
+        self.parts.sources().id(root)
     }
 
     /// The sequence number of a root.
     pub fn root_number(&self, root: u32) -> u64
         requires { root < length self.now.roots }
-        ensures { IsSomeAnd (slice_get self.now.roots root) (λ own. result ≡ own.number) }
+        ensures { result ≡ (root_of self.now.roots root).number }
     {
-        self.parts.roots.as_slice()[root as usize].number
+        self.parts.sources().number(root)
+    }
+
+    /// The generation of the mapping that a root was indexed under.
+    pub fn root_generation(&self, root: u32) -> u32
+        requires { root < length self.now.roots }
+        ensures { result ≡ (root_of self.now.roots root).generation }
+    {
+        self.parts.sources().generation(root)
     }
 
     /// The join value of a root.
     pub fn root_join(&self, root: u32) -> JoinValue<'_>
         requires { root < length self.now.roots }
-        ensures { IsSomeAnd (slice_get self.now.roots root) (λ own. lent_join result ≡ own.join) }
+        ensures { lent_join result ≡ (root_of self.now.roots root).join }
     {
-        match &self.parts.roots.as_slice()[root as usize].join {
-            Join::Unjoined => JoinValue::Unjoined,
-            Join::Named(relation) => JoinValue::Named(*relation),
-            Join::Child(relation, parent) => JoinValue::Child(*relation, parent.as_slice()),
-        }
+        self.parts.sources().join(root)
     }
 }

@@ -1,40 +1,89 @@
--- Rows kept end to end: one more row leaves those before it.
-use Rattle.std.proofs.Common.{◌≡◌, ℕ, ◌+◌, ◌-◌, ◌<◌, ◌≤◌, List, [], ◌∷◌, ◌++◌, length, drop, get_or, sym, ◌∙◌, ap, arith}
-use Rattle.std.proofs.lemmas.List.{length-drop, take-append-le, drop-append-le, get_or_append_left, get_or_push, take_all, drop_at}
-use Rattle.std.proofs.lemmas.Grind.{common_steps}
-use Rattle.std.specs.List.{slice_range}
-use Rattle.stored_sources.specs.Kept.{row, AreStarts}
+-- Roots in place, each between its place and the next.
+use Rattle.std.proofs.Common.{◌≡◌, ℕ, ◌+◌, ◌-◌, ◌<◌, List, [], ◌∷◌, ◌++◌, length, get_or, drop, map, take, Some, refl, sym, ap, ◌∙◌, arith}
+use Rattle.std.specs.List.{All}
+use Rattle.std.proofs.lemmas.List.{append-nil, length-map, get_or-map, take_more}
+use Rattle.std.proofs.lemmas.List.Concat.{flat_map-append}
+use Rattle.std.proofs.lemmas.List.Elements.{All-head, All-tail}
+use Rattle.part_text.specs.Places.{row, rows_of}
+use Rattle.part_text.specs.Placed.{length-rows_of, get_or-rows_of, rows_of-places_from, places_are, length-places_from}
+use Rattle.stored_sources.specs.declared.root.Root.{Root}
+use Rattle.stored_sources.specs.Roots.{no_root, root_of}
+use Rattle.stored_sources.specs.Text.{root_text, roots_text}
+use Rattle.stored_sources.specs.Stands.{IsRoot, Belong}
+use Rattle.stored_sources.specs.Reading.{root_at, root_reads}
+use Rattle.stored_sources.specs.Kept.{root_read, root_in, roots_in, IsRootText, AreKept}
 
--- a part of the front of two lists is a part of the first
-pub slice_range-append : (flat more : List ℕ) (from to : ℕ) → from ≤ length flat → to ≤ length flat → slice_range (flat ++ more) from to ≡ slice_range flat from to
-slice_range-append flat more from to starts ends =
-    let short : to - from ≤ length (drop from flat) = rw length-drop (omega arith) in
-    rw (drop-append-le from flat more starts) (take-append-le (to - from) (drop from flat) more short)
+pub length-roots_in : (places bytes : List ℕ) → length (roots_in places bytes) ≡ length places - 1
+unfolding roots_in
+length-roots_in places bytes = length-map (rows_of places bytes) root_in ∙ length-rows_of places bytes
 
--- what is appended is the part behind the first list
-pub slice_range-appended : (flat more : List ℕ) (from to : ℕ) → from ≡ length flat → to ≡ length flat + length more → slice_range (flat ++ more) from to ≡ more
-slice_range-appended flat more from to starts ends =
-    let long : length more ≤ to - from = omega arith in
-    rw (drop_at flat more from (sym starts)) (take_all (to - from) more long)
+pub root_of-in : (places bytes : List ℕ) (at : ℕ) → at + 1 < length places → root_of (roots_in places bytes) at ≡ root_in (row places bytes at)
+unfolding roots_in
+root_of-in places bytes at below =
+    get_or-map root_in (rows_of places bytes) at [] no_root (omega (arith, length-rows_of places bytes))
+    ∙ ap root_in (get_or-rows_of places bytes at [] below)
 
-pub row-push_before : (starts : List ℕ) (flat more : List ℕ) (end at : ℕ) → AreStarts starts (length flat) → at + 1 < length starts → row (starts ++ end ∷ []) (flat ++ more) at ≡ row starts flat at
-row-push_before starts flat more end at are below =
-    let here : at < length starts = omega arith in
-    rw (get_or_append_left starts (end ∷ []) 0 at here, get_or_append_left starts (end ∷ []) 0 (at + 1) below)
-    (slice_range-append flat more _ _ (are.within at here) (are.within (at + 1) below))
+-- what is read of the text of a root
+pub text_read : (bytes : List ℕ) (text : IsRootText bytes) → root_at bytes ≡ Some (text.root, [])
+text_read bytes text =
+    ap root_at (text.text ∙ sym (append-nil (root_text text.root)))
+    ∙ (root_reads {B = Unit {0}}).again tt text.root [] text.is
 
-pub row-push_last : (starts : List ℕ) (flat more : List ℕ) (end at : ℕ) → AreStarts starts (length flat) → end ≡ length flat + length more → at + 1 ≡ length starts → row (starts ++ end ∷ []) (flat ++ more) at ≡ more
-row-push_last starts flat more end at are ends last =
-    let here : at < length starts = omega arith in
-    let same : at ≡ length starts - 1 = omega arith in
-    rw (get_or_append_left starts (end ∷ []) 0 at here, get_or_push starts end 0 (at + 1) (sym last))
-    (slice_range-appended flat more _ end (ap (λ place. get_or starts place 0) same ∙ are.last) ends)
+pub text_in : (bytes : List ℕ) (text : IsRootText bytes) → root_in bytes ≡ text.root
+unfolding root_in
+text_in bytes text = ap root_read (text_read bytes text)
 
--- the starts with one more row
-pub AreStarts-push : (starts : List ℕ) (old end : ℕ) → AreStarts starts old → old ≤ end → AreStarts (starts ++ end ∷ []) end
-AreStarts-push starts old end are grows = record {
-  some = grind (arith, common_steps);
-  rising = λ at below. grind (arith, common_steps, are.rising at, are.within at);
-  within = λ at below. grind (arith, common_steps, are.within at);
-  last = grind (arith, common_steps);
-}
+pub root_back : (root : Root) → IsRoot root → root_in (root_text root) ≡ root
+root_back root is = text_in (root_text root) (record { root = root; is = is; text = refl })
+
+roots_back : (roots : List Root) → All IsRoot roots → map root_in (map root_text roots) ≡ roots
+roots_back [] each = refl
+roots_back (root ∷ roots) each =
+    ap (λ first. first ∷ map root_in (map root_text roots)) (root_back root (All-head IsRoot root roots each))
+    ∙ ap (λ others. root ∷ others) (roots_back roots (All-tail IsRoot root roots each))
+
+pub belong_roots : (bytes places : List ℕ) (roots : List Root) → Belong bytes places roots → roots_in places bytes ≡ roots
+unfolding roots_in
+belong_roots bytes places roots belong =
+    let it = belong.stands in
+    ap (λ own. map root_in (rows_of own bytes)) it.placed
+    ∙ ap (map root_in) (rows_of-places_from root_text belong.at roots bytes (drop belong.end bytes) it.there)
+    ∙ roots_back roots it.are.each
+
+pub belong_kept : (bytes places : List ℕ) (roots : List Root) → Belong bytes places roots → AreKept places bytes
+belong_kept bytes places roots belong =
+    let it = belong.stands in
+    let count : length places ≡ length roots + 1 = ap length it.placed ∙ length-places_from root_text belong.at roots in
+    record {
+      places_are = rw it.placed (places_are root_text belong.at roots bytes (drop belong.end bytes) (omega (arith, it.ends, it.within)) it.there);
+      fewer = omega (arith, count, it.are.fewer);
+      texts = λ at below.
+          let inside : at < length roots = omega (arith, below, count) in
+          record {
+            root = get_or roots at no_root;
+            is = it.are.each at no_root inside;
+            text =
+                sym (get_or-rows_of places bytes at [] below)
+                ∙ ap (λ own. get_or (rows_of own bytes) at []) it.placed
+                ∙ ap (λ own. get_or own at []) (rows_of-places_from root_text belong.at roots bytes (drop belong.end bytes) it.there)
+                ∙ get_or-map root_text roots at no_root [] inside;
+          };
+    }
+
+-- the bytes of a root are its text
+pub row_text : (places bytes : List ℕ) (at : ℕ) → AreKept places bytes → at + 1 < length places → row places bytes at ≡ root_text (root_of (roots_in places bytes) at)
+row_text places bytes at kept below =
+    let text = kept.texts at below in
+    text.text ∙ ap root_text (sym (root_of-in places bytes at below ∙ text_in (row places bytes at) text))
+
+pub live_more : (roots : List Root) (live : List ℕ) (i own : ℕ) → i < length live → own ≡ get_or live i own → roots_text (map (root_of roots) (take (i + 1) live)) ≡ roots_text (map (root_of roots) (take i live)) ++ root_text (root_of roots own)
+live_more roots live i own below is =
+    let one : take (i + 1) live ≡ take i live ++ own ∷ [] = take_more live i own below ∙ sym (ap (λ next. take i live ++ next ∷ []) is) in
+    ap (λ all. roots_text (map (root_of roots) all)) one
+    ∙ ap roots_text (map_push (take i live))
+    ∙ flat_map-append root_text (map (root_of roots) (take i live)) (root_of roots own ∷ [])
+    ∙ ap (λ last. roots_text (map (root_of roots) (take i live)) ++ last) (append-nil (root_text (root_of roots own)))
+  where
+    map_push : (front : List ℕ) → map (root_of roots) (front ++ own ∷ []) ≡ map (root_of roots) front ++ root_of roots own ∷ []
+    map_push [] = refl
+    map_push (x ∷ front) = ap (λ others. root_of roots x ∷ others) (map_push front)

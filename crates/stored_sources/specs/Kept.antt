@@ -1,23 +1,32 @@
--- How the sources are kept: end to end in one list, with the place where each begins.
-use Rattle.std.specs.Prelude.{◌≡◌, ℕ, ◌+◌, ◌-◌, ◌<◌, ◌≤◌, ◌^◌, List, length, map, slice_index}
-use Rattle.std.specs.List.{range_with_len, slice_range}
+-- How roots are read in place: each from the bytes between its place and the next.
+use Rattle.std.specs.Prelude.{◌≡◌, ℕ, ◌+◌, ◌<◌, ◌≤◌, ◌^◌, List, length, map, Option, Some, None}
+use Rattle.part_text.specs.Places.{row, rows_of, ArePlaces}
+use Rattle.stored_sources.specs.declared.root.Root.{Root}
+use Rattle.stored_sources.specs.Roots.{no_root}
+use Rattle.stored_sources.specs.Text.{root_text}
+use Rattle.stored_sources.specs.Stands.{IsRoot}
+use Rattle.stored_sources.specs.Reading.{root_at}
 
--- from the start of source `root` up to the start of the next one
-abbrev pub row : List ℕ → List ℕ → ℕ → List ℕ
-row starts bytes root = slice_range bytes (slice_index starts root) (slice_index starts (root + 1))
+abbrev pub root_read : Option (Root × List ℕ) → Root
+root_read None = no_root
+root_read (Some read) = read.0
 
--- one start for each source and the end of the last: they don't fall, and the end is that of the bytes
-pub record AreStarts (starts : List ℕ) (end : ℕ) : Type 0 where
-  pub some : 0 < length starts
-  pub rising : (at : ℕ) → at + 1 < length starts → slice_index starts at ≤ slice_index starts (at + 1)
-  pub within : (at : ℕ) → at < length starts → slice_index starts at ≤ end
-  pub last : slice_index starts (length starts - 1) ≡ end
+-- the root that bytes are the text of
+unfoldable pub root_in : List ℕ → Root
+root_in bytes = root_read (root_at bytes)
 
--- all sources, in order
-unfoldable pub sources_of : List ℕ → List ℕ → List (List ℕ)
-sources_of starts bytes = map (row starts bytes) (range_with_len 0 (length starts - 1))
+-- all roots, in order
+unfoldable pub roots_in : List ℕ → List ℕ → List Root
+roots_in places bytes = map root_in (rows_of places bytes)
 
--- the starts belong to the bytes, and there are fewer than 2^32 sources
-pub record AreSources (starts bytes : List ℕ) : Type 0 where
-  pub starts_are : AreStarts starts (length bytes)
-  pub fewer : length starts ≤ 2 ^ 32
+-- bytes that are the text of a root
+pub record IsRootText (bytes : List ℕ) : Type 0 where
+  pub root : Root
+  pub is : IsRoot root
+  pub text : bytes ≡ root_text root
+
+-- the places belong to the bytes: between them stand roots, fewer than 2^32
+pub record AreKept (places bytes : List ℕ) : Type 0 where
+  pub places_are : ArePlaces places (length bytes)
+  pub fewer : length places ≤ 2 ^ 32
+  pub texts : (at : ℕ) → at + 1 < length places → IsRootText (row places bytes at)

@@ -1,31 +1,20 @@
-//! The sources of a segment's documents, each as it was indexed, by root.
+//! What a segment stores of its roots: ids, numbers, mapping generations, sources and join values, read in place.
 //!
-//! It stands on `source_steps`, the counter of sources that were read. `StoredSources` is seen as the list of
-//! sources that it was built from. `fetch` gives the bytes of one root's source and ticks the counter once:
-//! a caller whose contract leaves the counter as it was has read no source.
+//! It stands on `part_text`, for texts and places, and on `source_steps`, the counter of sources that were read.
+//! `StoredSources` is seen as the list of roots that its text is of. `fetch` gives the bytes of one root's source and
+//! ticks the counter once: a caller whose contract leaves the counter as it was has read no source. Begin reading with
+//! `specs/Roots.antt` and `specs/Text.antt`.
 #![tactic(auto)]
 
-mod list;
+mod kept;
+mod placing;
+mod root;
 mod sources;
 #[cfg(test)]
 mod tests;
+mod walk;
+mod written;
 
-pub use list::{Bytes, BytesList};
+pub use part_text::{NoMemory, PlaceList};
+pub use root::{Bytes, Join, JoinValue, Root, RowList, roots_have_one_text};
 pub use sources::StoredSources;
-use std::alloc::{AllocError, AllocFailed};
-
-/// Memory ran out. What the call was to change is as it was.
-#[derive(Clone, Copy, Debug, PartialEq, Eq)]
-pub struct NoMemory;
-
-impl From<AllocError> for NoMemory {
-    fn from(_: AllocError) -> NoMemory {
-        NoMemory
-    }
-}
-
-impl<T: Drop> From<AllocFailed<T>> for NoMemory {
-    fn from(_: AllocFailed<T>) -> NoMemory {
-        NoMemory
-    }
-}

@@ -1,57 +1,135 @@
-//! The sources of a segment.
+//! The roots of a segment with their sources, read in place.
 
-ghost use Rattle.std.specs.Prelude.{◌≡◌, ℕ, ◌+◌, ◌<◌, ◌≤◌, ◌^◌, ◌++◌, length, map, sum_by, vec_len, vec_capacity, IfOk, OnOk, OnErr};
+ghost use Rattle.std.specs.Prelude.{◌≡◌, ℕ, ◌+◌, ◌<◌, ◌≤◌, ◌^◌, ◌++◌, List, length, map, drop, IfOk, IfSome, IsNone, OnOk, OnErr};
 ghost use Rattle.std.specs.List.{All};
-ghost use Rattle.stored_sources.specs.Sources.{source_of};
-ghost use Rattle.stored_sources.specs.Kept.{row, AreStarts, sources_of};
+ghost use Rattle.stored_sources.specs.declared.root.Root.{Root};
+ghost use Rattle.stored_sources.specs.Roots.{root_of, source_of, lent_join};
+ghost use Rattle.stored_sources.specs.Text.{roots_text};
+ghost use Rattle.stored_sources.specs.Stands.{AreRoots, Stands, Belong};
+ghost use Rattle.stored_sources.specs.Lent.{lent_root};
 
-use crate::{Bytes, BytesList, NoMemory};
+use crate::kept::{lent_at, put_live};
+use crate::placing::{from_place, placed_roots};
+use crate::walk::LentRoot;
+use crate::written::put_roots;
+use crate::{JoinValue, RowList};
+use part_text::{NoMemory, PlaceList};
 use source_steps::Steps;
 use std::alloc::Global;
 use std::marker::Model;
 use std::sync::ledger::Ledger;
 
-/// The sources of a segment's roots: the first root has the number 0.
-///
-/// The bytes of all sources stand in one vector, end to end.
+/// The roots of a segment: the first root has the number 0.
 #[derive(Drop)]
-pub struct StoredSources {
-    starts: Vec<u64>,
-    bytes: Vec<u8>,
+pub struct StoredSources<'a> {
+    bytes: &'a [u8],
+    places: &'a [u64],
 }
 
-impl Model for StoredSources {
-    ghost use Rattle.std.specs.Prelude.{ℕ, List};
-    ghost use Rattle.stored_sources.specs.Kept.{sources_of, AreSources};
+impl<'a> Model for StoredSources<'a> {
+    ghost use Rattle.std.specs.Prelude.{List};
+    ghost use Rattle.stored_sources.specs.declared.root.Root.{Root};
+    ghost use Rattle.stored_sources.specs.Kept.{roots_in, AreKept};
 
-    ghost Value = { List (List ℕ) };
+    ghost Value = { List Root };
 
-    ghost view = { λ stored. sources_of stored.starts.items stored.bytes.items };
+    ghost view = { λ stored. roots_in stored.places.now stored.bytes.now };
 
-    ghost invariant = { λ stored. AreSources stored.starts.items stored.bytes.items };
+    ghost invariant = { λ stored. AreKept stored.places.now stored.bytes.now };
 }
 
-impl StoredSources {
-    /// The store of these sources.
-    pub fn built(alloc: Global, sources: BytesList) -> Result<StoredSources, NoMemory>
-        ensures { IfOk result (λ stored. stored ≡ sources) }
+impl<'a> StoredSources<'a> {
+    /// The roots that stand at these places of bytes, as `places` finds them. Takes no memory.
+    pub fn over(bytes: &'a [u8], places: &'a PlaceList) -> StoredSources<'a>
+        requires { (roots : List Root) × Belong bytes.now places.now roots }
+        ensures { (roots : List Root) → Belong bytes.now places.now roots → result ≡ roots }
     {
-        let list = sources.as_slice();
-        let mut starts = Vec::with_capacity(alloc, list.len().saturating_add(1))?;
-        let mut bytes = Vec::with_capacity(alloc, byte_count(list))?;
-        starts.push(0)?;
-        'sources: for source in list {
-            bytes.extend_from_slice(source.as_slice())?;
-            starts.push(bytes.len() as u64)?;
+        StoredSources {
+            bytes,
+            places: places.as_slice(),
         }
-        Ok(StoredSources { starts, bytes })
     }
 
-    /// How many sources there are.
+    /// Where so many roots stand that are written from a place on, and the place behind them; None exactly where so many
+    /// roots don't stand there.
+    pub fn places(
+        alloc: Global,
+        bytes: &[u8],
+        at: u64,
+        roots: u32,
+    ) -> Result<Option<(PlaceList, u64)>, NoMemory>
+        ensures found { IfOk result (λ found. IfSome found (λ it. (own : List Root) × (length own ≡ roots) × Stands bytes.now at own it.0 it.1)) }
+        ensures only { IfOk result (λ found. IsNone found → (own : List Root) (rest : List ℕ)
+            → at ≤ length bytes.now → length own ≡ roots → AreRoots own → drop at bytes.now ≡ roots_text own ++ rest → ⊥) }
+    {
+        let end = bytes.len() as u64;
+        let Some(own) = from_place(bytes, at) else {
+            return Ok(None);
+        };
+        match placed_roots(alloc, roots, own, end)? {
+            Some((places, rest)) => Ok(Some((places, end - rest.len() as u64))),
+            None => Ok(None),
+        }
+    }
+
+    /// Appends roots as they are written. After NoMemory the bytes are as they were.
+    pub fn written(roots: &RowList, into: &mut Vec<u8>) -> Result<(), NoMemory>
+        ensures written { OnOk result (into.new.items ≡ into.old.items ++ roots_text roots.now) }
+        ensures unchanged { OnErr result (into.new.items ≡ into.old.items) }
+    {
+        let old = into.len();
+        let done = put_roots(roots, into);
+        if done.is_err() {
+            into.truncate(old);
+        }
+        done
+    }
+
+    /// How many roots there are.
     pub fn count(&self) -> u32
         ensures { result ≡ length self.now }
     {
-        (self.starts.len() - 1) as u32
+        (self.places.len() - 1) as u32
+    }
+
+    /// The bytes of a root's id.
+    pub fn id(&self, root: u32) -> &'a [u8]
+        requires { root < length self.now }
+        ensures { result.now ≡ (root_of self.now root).id }
+    {
+        self.lent(root).id
+    }
+
+    /// A root's sequence number.
+    pub fn number(&self, root: u32) -> u64
+        requires { root < length self.now }
+        ensures { result ≡ (root_of self.now root).number }
+    {
+        self.lent(root).number
+    }
+
+    /// The generation of the mapping that a root was indexed under.
+    pub fn generation(&self, root: u32) -> u32
+        requires { root < length self.now }
+        ensures { result ≡ (root_of self.now root).generation }
+    {
+        self.lent(root).generation
+    }
+
+    /// A root's join value.
+    pub fn join(&self, root: u32) -> JoinValue<'a>
+        requires { root < length self.now }
+        ensures { lent_join result ≡ (root_of self.now root).join }
+    {
+        self.lent(root).join
+    }
+
+    /// How many bytes a root's source has.
+    pub fn source_len(&self, root: u32) -> u32
+        requires { root < length self.now }
+        ensures { result ≡ length (source_of self.now root) }
+    {
+        self.lent(root).source.len() as u32
     }
 
     /// Appends the source of a root to `out`, and ticks `steps` once, whatever it answers.
@@ -69,74 +147,31 @@ impl StoredSources {
         ensures step { steps.new ≡ steps.old + 1 }
     {
         steps.tick();
-        out.extend_from_slice(self.source(root))?;
+        out.extend_from_slice(self.lent(root).source)?;
         Ok(())
     }
 
-    /// Appends the sources of these roots of `from`, in their order, as a merge wants them.
-    pub fn append_live(&mut self, from: &StoredSources, live: &[u32]) -> Result<(), NoMemory>
-        requires within { All (λ root. root < length from.now) live.now }
-        requires fewer { length self.old + length live.now < 2 ^ 32 }
-        ensures appended { OnOk result (self.new ≡ self.old ++ map (source_of from.now) live.now) }
-        ensures unchanged { OnErr result (self.new ≡ self.old) }
-    {
-        self.starts.reserve(live.len())?;
-        self.bytes.reserve(from.live_bytes(live)?)?;
-        append_rows(&mut self.starts, &mut self.bytes, from, live);
-        Ok(())
-    }
-
-    /// How many bytes the sources of these roots have together.
-    fn live_bytes(&self, live: &[u32]) -> Result<usize, NoMemory>
+    /// Appends these roots as they are written, in their order, as a merge wants them. After NoMemory the bytes are as they
+    /// were.
+    pub fn append_live(&self, live: &[u32], into: &mut Vec<u8>) -> Result<(), NoMemory>
         requires { All (λ root. root < length self.now) live.now }
-        ensures { IfOk result (λ count. count ≡ sum_by (λ root. length (source_of self.now root)) live.now) }
+        ensures appended { OnOk result (into.new.items ≡ into.old.items ++ roots_text (map (root_of self.now) live.now)) }
+        ensures unchanged { OnErr result (into.new.items ≡ into.old.items) }
     {
-        let mut count = 0usize;
-        'live: for root in live {
-            count = count.checked_add(self.source(*root).len()).ok_or(NoMemory)?;
+        let old = into.len();
+        let done = put_live(self.places, self.bytes, live, into);
+        if done.is_err() {
+            into.truncate(old);
         }
-        Ok(count)
+        done
     }
 
-    /// The source of a root.
-    fn source(&self, root: u32) -> &[u8]
+    /// A root, read in place.
+    fn lent(&self, root: u32) -> LentRoot<'a>
         requires { root < length self.now }
-        ensures { result.now ≡ source_of self.now root }
+        ensures root { lent_root result ≡ root_of self.now root }
+        ensures short { length result.source.now < 2 ^ 32 }
     {
-        row(self.starts.as_slice(), self.bytes.as_slice(), root as usize)
+        lent_at(self.places, self.bytes, root as usize)
     }
-}
-
-/// Appends the sources of these roots; there is room for them.
-fn append_rows(starts: &mut Vec<u64>, bytes: &mut Vec<u8>, from: &StoredSources, live: &[u32])
-    requires starts { AreStarts starts.old.items (length bytes.old.items) }
-    requires within { All (λ root. root < length from.now) live.now }
-    requires room { vec_len starts.old + length live.now ≤ vec_capacity starts.old }
-    requires bytes_room { vec_len bytes.old + sum_by (λ root. length (source_of from.now root)) live.now ≤ vec_capacity bytes.old }
-    ensures starts { AreStarts starts.new.items (length bytes.new.items) }
-    ensures count { length starts.new.items ≡ length starts.old.items + length live.now }
-    ensures appended { sources_of starts.new.items bytes.new.items ≡ sources_of starts.old.items bytes.old.items ++ map (source_of from.now) live.now }
-{
-    'live: for root in live {
-        bytes.extend_from_slice(from.source(*root)).unwrap();
-        starts.push(bytes.len() as u64).unwrap();
-    }
-}
-
-/// The part of `bytes` from the start of source `root` up to the start of the next one.
-fn row<'a>(starts: &[u64], bytes: &'a [u8], root: usize) -> &'a [u8]
-    requires starts { AreStarts starts.now (length bytes.now) }
-    requires below { root + 1 < length starts.now }
-    ensures { result.now ≡ row starts.now bytes.now root }
-{
-    &bytes[starts[root] as usize..starts[root + 1] as usize]
-}
-
-/// The bytes of all sources together, or the greatest number if they are more.
-fn byte_count(sources: &[Bytes]) -> usize {
-    let mut count = 0usize;
-    'sources: for source in sources {
-        count = count.saturating_add(source.as_slice().len());
-    }
-    count
 }

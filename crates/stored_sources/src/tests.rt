@@ -1,7 +1,8 @@
-//! Sources worked out by hand.
+//! Roots by hand, and each public call once.
+
 ghost use Rattle.std.specs.Prelude.{◌≡◌, ◌<◌};
 
-use crate::{Bytes, BytesList, StoredSources};
+use crate::*;
 use source_steps::Steps;
 use std::alloc::Global;
 use std::marker::Brand;
@@ -9,71 +10,88 @@ use std::process::Abort;
 use std::sync::ledger::{Blank, Ledger};
 use std::test::Fail;
 
-/// The store of these sources.
-fn store_of(rt: &impl Abort, alloc: Global, sources: &[&[u8]]) -> Result<StoredSources, Fail> {
-    let mut list = Vec::new(alloc);
-    for source in sources {
-        list.push(Bytes::of(source.to_vec(alloc)?))?;
-    }
-    assert!(rt; list.len() < 100);
-    Ok(StoredSources::built(alloc, BytesList::of(list))?)
+/// Bytes of their own.
+fn own(alloc: Global, bytes: &[u8]) -> Result<Bytes, Fail> {
+    Ok(Bytes::of(bytes.to_vec(alloc)?))
 }
 
-/// Fetches the source of a root behind the bytes `x`.
-fn fetches<L: Ledger>(
+/// A parent and its child.
+fn roots(rt: &impl Abort, alloc: Global) -> Result<RowList, Fail> {
+    let mut list = Vec::new(alloc);
+    list.push(Root {
+        id: own(alloc, b"1")?,
+        number: 7,
+        generation: 1,
+        source: own(alloc, b"{}")?,
+        join: Join::Named(0),
+    })?;
+    list.push(Root {
+        id: own(alloc, b"22")?,
+        number: 8,
+        generation: 3,
+        source: own(alloc, b"[]")?,
+        join: Join::Child(1, own(alloc, b"1")?),
+    })?;
+    assert!(rt; RowList::are_roots(list.as_slice()));
+    Ok(RowList::of(list))
+}
+
+/// The source of root 1.
+fn fetched<L: Ledger>(
     rt: &impl Abort,
-    alloc: Global,
     stored: &StoredSources,
-    root: u32,
-    source: &[u8],
+    out: &mut Vec<u8>,
     blank: Blank,
-) -> Result<(), Fail>
+) -> Result<(), NoMemory>
     requires name { L.name ≡ blank.name }
     requires parts { L.parts ≡ blank.parts }
     requires some { 0 < blank.parts }
 {
     let mut steps = Steps::<L>::start(blank);
-    let mut out = b"x".to_vec(alloc)?;
-    assert!(rt; root < stored.count());
-    stored.fetch(root, &mut out, &mut steps)?;
-    assert!(rt; out.len() == source.len() + 1);
-    assert!(rt; out.as_slice().split_at(1).1 == source);
-    Ok(())
+    assert!(rt; 1 < stored.count());
+    stored.fetch(1, out, &mut steps)
 }
 
 #[test]
-fn sources(rt: HostRuntime) -> Result<(), Fail> {
-    let written: [&[u8]; 4] = [b"{}", b"", b"{\"a\":1}", b"{\"b\":\"c\"}"];
-    let mut stored = store_of(&rt, rt.alloc(), &written)?;
-    assert_eq!(rt; stored.count(), 4);
-    let rows: [(u32, &[u8]); 4] = [
-        (0, b"{}"),
-        (1, b""),
-        (2, b"{\"a\":1}"),
-        (3, b"{\"b\":\"c\"}"),
+fn two_roots(rt: HostRuntime) -> Result<(), Fail> {
+    let list = roots(&rt, rt.alloc())?;
+    let mut bytes = Vec::new(rt.alloc());
+    StoredSources::written(&list, &mut bytes)?;
+    let text = [
+        1, 0, 0, 0, b'1', 7, 0, 0, 0, 0, 0, 0, 0, 1, 0, 0, 0, 2, 0, 0, 0, b'{', b'}', 1, 0, 0, 0,
+        0, 2, 0, 0, 0, b'2', b'2', 8, 0, 0, 0, 0, 0, 0, 0, 3, 0, 0, 0, 2, 0, 0, 0, b'[', b']', 2,
+        1, 0, 0, 0, 1, 0, 0, 0, b'1',
     ];
-    for (root, source) in rows {
-        fetches::<Brand>(&rt, rt.alloc(), &stored, root, source, Blank::new(1))?;
+    assert_eq!(rt; bytes.as_slice(), text.as_slice());
+    assert!(rt; StoredSources::places(rt.alloc(), bytes.as_slice(), 0, 3)?.is_none());
+    match StoredSources::places(rt.alloc(), bytes.as_slice(), 0, 2)? {
+        Some((places, end)) => {
+            assert_eq!(rt; (places.as_slice(), end), ([0, 28, 62].as_slice(), 62));
+            read(
+                &rt,
+                rt.alloc(),
+                &StoredSources::over(bytes.as_slice(), &places),
+            )?;
+        }
+        None => panic!(rt; "the roots stand there"),
     }
-
-    let other: [&[u8]; 3] = [b"[0]", b"[1]", b"[22]"];
-    let from = store_of(&rt, rt.alloc(), &other)?;
-    assert!(rt; from.count() == 3);
-    assert!(rt; stored.count() == 4);
-    stored.append_live(&from, &[])?;
-    assert!(rt; stored.count() == 4);
-    stored.append_live(&from, &[0, 2])?;
-    assert!(rt; stored.count() == 6);
-    fetches::<Brand>(&rt, rt.alloc(), &stored, 4, b"[0]", Blank::new(1))?;
-    fetches::<Brand>(&rt, rt.alloc(), &stored, 5, b"[22]", Blank::new(1))?;
-    fetches::<Brand>(&rt, rt.alloc(), &stored, 3, b"{\"b\":\"c\"}", Blank::new(1))?;
     Ok(())
 }
 
-#[test]
-fn no_sources(rt: HostRuntime) -> Result<(), Fail> {
-    let empty = store_of(&rt, rt.alloc(), &[])?;
-    assert_eq!(rt; empty.count(), 0);
-    assert!(rt; Bytes::of(b"a".to_vec(rt.alloc())?).into_vec().as_slice() == b"a".as_slice());
+/// Reads root 1.
+fn read(rt: &impl Abort, alloc: Global, stored: &StoredSources) -> Result<(), Fail> {
+    assert!(rt; 1 < stored.count());
+    assert_eq!(rt; stored.id(1), b"22".as_slice());
+    assert_eq!(rt;
+        (stored.number(1), stored.generation(1), stored.source_len(1)),
+        (8, 3, 2)
+    );
+    assert_eq!(rt; stored.join(1), JoinValue::Child(1, b"1"));
+    let mut out = Vec::new(alloc);
+    fetched::<Brand>(rt, stored, &mut out, Blank::new(1))?;
+    assert_eq!(rt; out.as_slice(), b"[]".as_slice());
+    let live: &[u32] = &[1];
+    stored.append_live(live, &mut out)?;
+    assert_eq!(rt; out.len(), 36);
     Ok(())
 }

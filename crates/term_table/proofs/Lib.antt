@@ -1,3 +1,4 @@
-pub mod Flat
-pub mod Tables
 pub mod Orders
+pub mod Tables
+pub mod Found
+pub mod NumberKeys

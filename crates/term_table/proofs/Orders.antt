@@ -4,11 +4,10 @@ use Rattle.std.specs.List.{starts_with}
 use Rattle.std.specs.Ordering.{nat_cmp, is_lt, is_le, is_gt, ordering_reverse, ordering_then}
 use Rattle.std.specs.declared.cmp.Ordering.{Ordering}
 use Rattle.std.specs.declared.cmp.Ordering.TheVariants.{Less, Equal, Greater}
-use Rattle.std.specs.Cmp.{IsTotalOrder}
 use Rattle.std.specs.Cmp.Lexicographic.{slice_cmp}
 use Rattle.std.proofs.lemmas.List.{get_or_default}
-use Rattle.std.proofs.lemmas.Cmp.{nat_list_cmp_total, nat_cmp_total, then_total, on_total, by_ranked, ranked, upto, tied_itself}
-use Rattle.std.proofs.lemmas.Map.Keys.{Less-from_sorted, sorted_from_all_adjacent}
+use Rattle.std.proofs.lemmas.Cmp.{nat_list_cmp_total, by_ranked, ranked, upto, tied_itself}
+use Rattle.std.proofs.lemmas.Map.Keys.{Less-from_sorted}
 use Rattle.std.proofs.lemmas.Option.{slice_get_within, get_or_from_slice_get, slice_get-get_or}
 use Rattle.std.proofs.lemmas.Bool.{cases_lt, false≢true}
 use Rattle.std.proofs.lemmas.Bool.Decides.{nat_tests}
@@ -244,13 +243,6 @@ starts_with-cuts (x ∷ xs) (y ∷ ys) =
 
 pub has_prefix-cuts : (field : ℕ) (prefix : Bor (List ℕ)) (term : ℕ × List ℕ) → (not (comes_before field (Low (Closed prefix)) term) && comes_before field (Prefix prefix) term) ≡ has_prefix field prefix.now term
 has_prefix-cuts field prefix term = grind (arith, starts_with-cuts prefix.now term.1)
-
--- terms in order, by each and the next
-term_cmp_total : IsTotalOrder term_cmp
-term_cmp_total = then_total (on_total (λ (term : ℕ × List ℕ). term.0) nat_cmp_total) (on_total (λ (term : ℕ × List ℕ). term.1) nat_list_cmp_total)
-
-pub ascending_from_adjacent : (terms : List (ℕ × List ℕ)) → ((k : ℕ) (d : ℕ × List ℕ) → k + 1 < length terms → term_cmp (get_or terms k d) (get_or terms (k + 1) d) ≡ Less) → AreAscending terms
-ascending_from_adjacent terms adjacent = let d : ℕ × List ℕ = (0, []) in sorted_from_all_adjacent term_cmp_total terms d (λ k below. adjacent k d below)
 
 pub ascending_at : (terms : List (ℕ × List ℕ)) (before at : ℕ) (one other : ℕ × List ℕ) → AreAscending terms → before < at → at < length terms → one ≡ get_or terms before one → other ≡ get_or terms at other → is_lt (term_cmp one other) ≡ true
 ascending_at terms before at one other ascend earlier inside is_one is_other =

@@ -24,6 +24,10 @@ is_to (Past edge) bytes = is_lt (slice_cmp nat_cmp bytes edge.now)
 abbrev pub is_between : ℕ → Edge → Edge → ℕ × List ℕ → Bool
 is_between field low high term = (term.0 == field) && (is_from low term.1 && is_to high term.1)
 
+-- a term of the field
+abbrev pub is_of_field : ℕ → ℕ × List ℕ → Bool
+is_of_field field term = term.0 == field
+
 -- a term of the field that begins with the bytes
 abbrev pub has_prefix : ℕ → List ℕ → ℕ × List ℕ → Bool
 has_prefix field bytes term = (term.0 == field) && starts_with nat_eq term.1 bytes

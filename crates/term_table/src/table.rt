@@ -1,60 +1,88 @@
 //! The table of a segment's terms.
 
-ghost use Rattle.std.specs.Prelude.{◌≡◌, ℕ, ◌+◌, ◌<◌, ◌≤◌, ◌↔◌, List, length, Some, slice_get, IsTrue, IsNone, IfSome, IfOk, Contains};
+ghost use Rattle.std.specs.Prelude.{◌≡◌, ℕ, ◌==◌, ◌+◌, ◌<◌, ◌≤◌, ◌↔◌, List, length, map, Some, slice_get, IsTrue, IsNone, IfSome, IfOk, OnOk, OnErr, Contains, ◌++◌, drop};
+ghost use Rattle.part_text.specs.Places.{row, ArePlaces};
+ghost use Rattle.term_table.specs.declared.rows.TermRow.{TermRow};
 ghost use Rattle.term_table.specs.Terms.{AreAscending};
-ghost use Rattle.term_table.specs.Kept.{row, AreStarts};
-ghost use Rattle.term_table.specs.Ranges.{is_between, has_prefix, comes_before, lies_below, IsFront, IsRange};
+ghost use Rattle.term_table.specs.Part.{AreRows, rows_text, Stand, Belong};
+ghost use Rattle.term_table.specs.Kept.{term_of, HasTerm};
+ghost use Rattle.term_table.specs.Ranges.{is_between, is_of_field, has_prefix, comes_before, lies_below, IsFront, IsRange};
 
 use crate::cut::{Cut, is_before};
-use crate::{Edge, NoMemory, TermList};
+use crate::placing::{from_place, placed_rows};
+use crate::written::put_rows;
+use crate::{Edge, NoMemory, PlaceList, RowList};
+use part_text::{first_u32, row, u64_at};
 use std::alloc::Global;
 use std::marker::Model;
 
 /// The terms of a segment by ordinal: the first term has the ordinal 0.
 ///
-/// The bytes of all terms stand in one vector, end to end.
+/// It reads the segment's bytes in place.
 #[derive(Drop)]
-pub struct TermTable {
-    fields: Vec<u32>,
-    starts: Vec<u64>,
-    bytes: Vec<u8>,
+pub struct TermTable<'a> {
+    bytes: &'a [u8],
+    places: &'a [u64],
 }
 
-impl Model for TermTable {
+impl<'a> Model for TermTable<'a> {
     ghost use Rattle.std.specs.Prelude.{ℕ, List};
     ghost use Rattle.term_table.specs.Kept.{terms_of, IsTable};
 
     ghost Value = { List (ℕ × List ℕ) };
 
-    ghost view = { λ table. terms_of table.fields.items table.starts.items table.bytes.items };
+    ghost view = { λ table. terms_of table.bytes.now table.places.now };
 
-    ghost invariant = { λ table. IsTable table.fields.items table.starts.items table.bytes.items };
+    ghost invariant = { λ table. IsTable table.bytes.now table.places.now };
 }
 
-impl TermTable {
-    /// The table of these terms.
-    #[tactic(auto, using(crate::proofs::Tables::fills))]
-    pub fn built(alloc: Global, terms: TermList) -> Result<TermTable, NoMemory>
-        ensures { IfOk result (λ table. table ≡ terms) }
+impl<'a> TermTable<'a> {
+    /// The table of the terms that stand in these bytes at these places. Takes no memory and reads nothing.
+    pub fn over(bytes: &'a [u8], places: &'a PlaceList) -> TermTable<'a>
+        requires { Belong bytes.now places.now }
+        ensures { (at : ℕ) (rows : List TermRow) (end : ℕ) → Stand bytes.now at rows places.now end → result ≡ map (λ row. row.term) rows }
     {
-        let list = terms.as_slice();
-        let mut fields = Vec::new(alloc);
-        let mut starts = Vec::new(alloc);
-        let mut bytes = Vec::new(alloc);
-        fields.reserve_exact(list.len())?;
-        starts.reserve_exact(list.len().saturating_add(1))?;
-        bytes.reserve_exact(byte_count(list))?;
-        starts.push(0)?;
-        'terms: for (field, term) in list {
-            fields.push(*field)?;
-            bytes.extend_from_slice(term.as_slice())?;
-            starts.push(bytes.len() as u64)?;
-        }
-        Ok(TermTable {
-            fields,
-            starts,
+        TermTable {
             bytes,
-        })
+            places: places.as_slice(),
+        }
+    }
+
+    /// Where the terms with their postings stand that are written from a place on, and the place behind them; None exactly
+    /// where none stand there.
+    pub fn places(
+        alloc: Global,
+        bytes: &[u8],
+        at: u64,
+    ) -> Result<Option<(PlaceList, u64)>, NoMemory>
+        ensures found { IfOk result (λ found. IfSome found (λ it. (rows : List TermRow) × Stand bytes.now at rows it.0 it.1)) }
+        ensures only { IfOk result (λ found. IsNone found → (rows : List TermRow) (rest : List ℕ)
+            → AreRows rows → drop at bytes.now ≡ rows_text rows ++ rest → ⊥) }
+    {
+        let end = bytes.len() as u64;
+        let Some(own) = from_place(bytes, at) else {
+            return Ok(None);
+        };
+        let Some((count, first)) = u64_at(own) else {
+            return Ok(None);
+        };
+        match placed_rows(alloc, count, first, end)? {
+            Some((places, rest)) => Ok(Some((places, end - rest.len() as u64))),
+            None => Ok(None),
+        }
+    }
+
+    /// Appends terms with their postings as they are written. After NoMemory the bytes are as they were.
+    pub fn written(rows: &RowList, into: &mut Vec<u8>) -> Result<(), NoMemory>
+        ensures written { OnOk result (into.new.items ≡ into.old.items ++ rows_text rows.now) }
+        ensures unchanged { OnErr result (into.new.items ≡ into.old.items) }
+    {
+        let old = into.len();
+        let done = put_rows(rows, into);
+        if done.is_err() {
+            into.truncate(old);
+        }
+        done
     }
 
     /// How many terms there are.
@@ -63,20 +91,16 @@ impl TermTable {
         ensures count { result ≡ length self.now }
         ensures ascending { AreAscending self.now }
     {
-        self.fields.len() as u64
+        (self.places.len() - 1) as u64
     }
 
     /// The field and the bytes of the term with this ordinal.
     #[tactic(auto, using(crate::proofs::Tables::tables))]
-    pub fn term(&self, ordinal: u64) -> (u32, &[u8])
+    pub fn term(&self, ordinal: u64) -> (u32, &'a [u8])
         requires { ordinal < length self.now }
         ensures { slice_get self.now ordinal ≡ Some (result.0, result.1.now) }
     {
-        let at = ordinal as usize;
-        (
-            self.fields[at],
-            row(self.starts.as_slice(), self.bytes.as_slice(), at),
-        )
+        term_of(row(self.places, self.bytes, ordinal as usize))
     }
 
     /// The ordinal of a term, and None where the table doesn't have it.
@@ -105,6 +129,15 @@ impl TermTable {
         let first = self.cut_at(field, &Cut::Low(low));
         let end = self.cut_at(field, &Cut::High(high));
         (first, end.max(first))
+    }
+
+    /// The terms of a field: the ordinal of the first, and the one past the last.
+    pub fn field_range(&self, field: u32) -> (u64, u64)
+        ensures ordered { result.0 ≤ result.1 }
+        ensures within { result.1 ≤ length self.now }
+        ensures of_field { IsRange (is_of_field field) self.now result.0 result.1 }
+    {
+        self.range(field, Edge::Unbounded, Edge::Unbounded)
     }
 
     /// The terms of a field that begin with these bytes: the ordinal of the first, and the one past the last.
@@ -160,20 +193,13 @@ impl TermTable {
     }
 }
 
-/// The part of `flat` from the start of row `at` up to the start of the next one.
-fn row<'a>(starts: &[u64], flat: &'a [u8], at: usize) -> &'a [u8]
-    requires starts { AreStarts starts.now (length flat.now) }
-    requires below { at + 1 < length starts.now }
-    ensures { result.now ≡ row starts.now flat.now at }
+/// The term at the front of a row.
+fn term_of(row: &[u8]) -> (u32, &[u8])
+    requires { HasTerm row.now }
+    ensures { (result.0, result.1.now) ≡ term_of row.now }
 {
-    &flat[starts[at] as usize..starts[at + 1] as usize]
-}
-
-/// The bytes of all terms together, or the greatest number if they are more.
-fn byte_count(terms: &[(u32, crate::Bytes)]) -> usize {
-    let mut count = 0usize;
-    'terms: for (_, bytes) in terms {
-        count = count.saturating_add(bytes.as_slice().len());
-    }
-    count
+    let (_, behind_field) = row.split_at(4);
+    let count = first_u32(behind_field) as usize;
+    let (_, behind_length) = row.split_at(8);
+    (first_u32(row), behind_length.split_at(count).0)
 }

@@ -1,14 +1,15 @@
+use Rattle.std.proofs.Common.{subst, sym, All, Bool, List, ℕ, length, count_by, ◌≤◌}
 use Rattle.segment.proofs.agree.have_fields.Goals as goal
 
 pub returns : goal.returns
-returns c = (
-  λ yes. record {
-    ordinals = c.are_ascending.ensures.0 c.if-not-are_ascending.false;
-    numbers = c.are_ascending-2.ensures.0 c.if-not-are_ascending-2.false;
-    present = c.are_ascending-3.ensures.0 c.if-not-are_ascending-3.false;
-    ordinals_numbers = c.are_apart.ensures.0 c.if-not-are_apart.false;
-    ordinals_present = c.are_apart-2.ensures.0 c.if-not-are_apart-2.false;
-    numbers_present = c.are_apart-3.ensures.0 yes;
-  },
-  λ it. c.are_apart-3.ensures.1 it.numbers_present,
-)
+returns c =
+    let some = rw (c.as_slice.ensures.columns, c.present.ensures) at c.have_present.ensures in (
+      λ yes. record {
+        ordinals_apart = c.are_ordinals_apart.ensures.0 c.if-not-are_ordinals_apart.false;
+        numbers_apart = c.are_numbers_apart.ensures.0 c.if-not-are_numbers_apart.false;
+        ordinals_within = c.are_ordinals_within.ensures.0 c.if-not-are_ordinals_within.false;
+        numbers_within = c.are_numbers_within.ensures.0 c.if-not-are_numbers_within.false;
+        present_some = some.0 yes;
+      },
+      λ it. some.1 it.present_some,
+    )

@@ -1,12 +1,14 @@
-use Rattle.segment.proofs.Passes.{pass_more, pass_all, pass_fails}
+use Rattle.std.proofs.Common.{arith}
+use Rattle.segment.specs.Agree.{HaveKeys}
+use Rattle.segment.specs.Lists.{terms_of, postings_of}
+use Rattle.segment.proofs.Passes.{pass_more, answer_all, answer_not}
 use Rattle.segment.proofs.agree_columns.have_keys.Goals as goal
 
-pub columns-preserved : goal.columns-preserved
-columns-preserved c = pass_more _ _ _ _ _ _ c.columns.invariant c.columns-test.true c.columns-item.is c.is_keyed_column.ensures c.if-not-is_keyed_column.false
+pub returns-then-not-are_keyed_rows : goal.returns-then-not-are_keyed_rows
+returns-then-not-are_keyed_rows c = answer_not (HaveKeys (terms_of c.args.parts.now) (postings_of c.args.parts.now)) c.args.parts.now.numbers c.columns.at c.number_column-field.result c.are_keyed_rows.result c.number_column-field.ensures c.are_keyed_rows.ensures c.if-not-are_keyed_rows.true
 
-pub returns-then-not-is_keyed_column : goal.returns-then-not-is_keyed_column
-returns-then-not-is_keyed_column c =
-    pass_fails _ _ _ _ _ _ _ c.as_slice-field-items.ensures c.columns.invariant c.columns-test.true c.columns-item.is c.is_keyed_column.ensures c.if-not-is_keyed_column.true
+pub columns-preserved : goal.columns-preserved
+columns-preserved c = pass_more (HaveKeys (terms_of c.args.parts.now) (postings_of c.args.parts.now)) c.args.parts.now.numbers c.columns.at c.number_column-field.result c.columns.invariant c.number_column-field.ensures (c.are_keyed_rows.ensures.0 c.if-not-are_keyed_rows.false)
 
 pub returns : goal.returns
-returns c = pass_all _ _ _ _ c.as_slice-field-items.ensures c.columns.invariant c.columns-test.false
+returns c = answer_all (HaveKeys (terms_of c.args.parts.now) (postings_of c.args.parts.now)) c.args.parts.now.numbers c.columns.at c.columns.invariant (omega (arith, c.columns-test.false, c.number_columns-at-end.ensures))

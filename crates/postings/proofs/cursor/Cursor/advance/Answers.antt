@@ -1,30 +1,52 @@
-use Rattle.std.proofs.Common.{◌∙◌, ap, arith, inl, inr, ℕ}
+use Rattle.std.proofs.Common.{ℕ, ◌+◌, ◌*◌, true, List, drop, sym, ap, subst, ◌∙◌, arith, inl, inr}
 use Rattle.std.proofs.lemmas.Bool.{cases_lt}
 use Rattle.postings.specs.Postings.{place_from}
 use Rattle.postings.specs.Search.{AreBelow}
-use Rattle.postings.proofs.Standings.{documents_ascend, place_from-postings_of}
+use Rattle.postings.specs.Kept.{postings_of, IsAt}
+use Rattle.postings.proofs.Places.{left_entries, left_place, at_leap}
 use Rattle.postings.proofs.cursor.Cursor.advance.Goals as goal
 
-pub gallop-low-requires-clause-ascending : goal.gallop-low-requires-clause-ascending
-gallop-low-requires-clause-ascending c =
-    let it = c.self.inside in documents_ascend it.docs.now it.starts.now it.positions.now it.at c.self.invariant
+pub gallop-low-requires : goal.gallop-low-requires
+gallop-low-requires c =
+    let it = c.self.inside in
+    let ps : List (ℕ × List ℕ) = postings_of it.text.now in
+    let is : IsAt ps it.count it.at it.rest.now true = subst (IsAt ps it.count it.at it.rest.now) c.if-not-self.false c.self.invariant in
+    left_entries ps it.count it.at it.rest.now is
 
-pub first_from-self-inside-requires-clause-ascending : goal.first_from-self-inside-requires-clause-ascending
-first_from-self-inside-requires-clause-ascending c =
-    let it = c.self.inside in documents_ascend it.docs.now it.starts.now it.positions.now it.at c.self.invariant
+pub first_from-passed-requires-clause-entries : goal.first_from-passed-requires-clause-entries
+first_from-passed-requires-clause-entries c =
+    let it = c.self.inside in
+    let ps : List (ℕ × List ℕ) = postings_of it.text.now in
+    let is : IsAt ps it.count it.at it.rest.now true = subst (IsAt ps it.count it.at it.rest.now) c.if-not-self.false c.self.invariant in
+    left_entries ps it.count it.at it.rest.now is
+
+pub split_at-requires : goal.split_at-requires
+split_at-requires c =
+    let it = c.self.inside in
+    let ps : List (ℕ × List ℕ) = postings_of it.text.now in
+    let is : IsAt ps it.count it.at it.rest.now true = subst (IsAt ps it.count it.at it.rest.now) c.if-not-self.false c.self.invariant in
+    omega (arith, (left_entries ps it.count it.at it.rest.now is).room, c.first_from-passed.ensures.within.1, c.gallop-low.ensures.ordered.1)
+
+pub invariant_of-self : goal.invariant_of-self
+invariant_of-self c =
+    let it = c.self.inside in
+    let ps : List (ℕ × List ℕ) = postings_of it.text.now in
+    let is : IsAt ps it.count it.at it.rest.now true = subst (IsAt ps it.count it.at it.rest.now) c.if-not-self.false c.self.invariant in
+    let passed : ℕ = c.first_from-passed.result in
+    let further : IsAt ps it.count (it.at + passed) (drop (8 * passed) it.rest.now) true = at_leap ps it.count it.at it.rest.now passed is (omega (arith, c.first_from-passed.ensures.within.1, c.gallop-low.ensures.ordered.1)) in
+    rw c.split_at.ensures.back (subst (IsAt ps it.count (it.at + passed) (drop (8 * passed) it.rest.now)) (sym c.if-not-self.false) further)
 
 pub returns-clause-place : goal.returns-clause-place
 returns-clause-place c =
     let it = c.self.inside in
+    let ps : List (ℕ × List ℕ) = postings_of it.text.now in
+    let is : IsAt ps it.count it.at it.rest.now true = subst (IsAt ps it.count it.at it.rest.now) c.if-not-self.false c.self.invariant in
     let low : ℕ = c.gallop-low.result.0 in
-    let place : ℕ = c.first_from-self-inside.result in
-    let below : AreBelow it.docs.now it.at place c.args.to = λ k beyond before.
+    let passed : ℕ = c.first_from-passed.result in
+    let below : AreBelow it.rest.now 0 passed c.args.to = λ k beyond before.
     elim (cases_lt k low) [
       | inl earlier ↦ c.gallop-low.ensures.below k beyond earlier
-      | inr later ↦ c.first_from-self-inside.ensures.below k later before
+      | inr later ↦ c.first_from-passed.ensures.below k later before
     ] in
-    place_from-postings_of it.docs.now it.starts.now it.positions.now it.at c.args.to place
-    (omega (arith, c.gallop-low.ensures.ordered.0, c.first_from-self-inside.ensures.within.0))
-    (omega (arith, c.gallop-low.ensures.ordered.2, c.first_from-self-inside.ensures.within.1))
-    below c.first_from-self-inside.ensures.reached
+    left_place ps it.count it.at it.rest.now c.args.to passed is (omega (arith, c.first_from-passed.ensures.within.1, c.gallop-low.ensures.ordered.1)) below c.first_from-passed.ensures.reached
     ∙ ap (place_from c.args.to) c.self.view_is

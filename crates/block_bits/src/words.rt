@@ -1,0 +1,113 @@
+//! The u64s of a set: 64 documents each, the first in the lowest bit.
+
+ghost use Rattle.std.specs.Prelude.{◌≡◌, ◌==◌, ◌+◌, ◌*◌, ◌/◌, ◌%◌, ◌^◌, ℕ, ◌<◌, ◌≤◌, not, nat_lt, length, replicate, slice_index, IfOk, IfSome, IfNone, if◌then◌else◌};
+ghost use Rattle.std.specs.Int.{bit_at};
+ghost use Rattle.block_bits.specs.Flags.{is_between};
+ghost use Rattle.block_bits.specs.Walks.{IsSearched, IsFirstIn, HasNoneBefore, IsAnswered};
+
+use crate::NoMemory;
+use std::alloc::Global;
+
+/// Documents a word.
+pub(crate) const WORD: u32 = 64;
+
+/// Whether the last word has a bit past the last of so many documents.
+pub(crate) fn has_past(words: &[u64], len: u32) -> bool
+    requires { length words.now ≡ (len + 63) / 64 }
+    ensures { result ≡ not (nat_lt (slice_index words.now (len / 64)) (2 ^ (len % 64))) }
+{
+    let past = len % WORD;
+    past != 0 && words[(len / WORD) as usize] >> past != 0
+}
+
+/// Each u64 of a slice is below 2^64.
+pub(crate) fn words_fit(words: &[u64])
+    ensures { (place : ℕ) → slice_index words.now place < 2 ^ 64 }
+{
+    let _count = words.len();
+}
+
+/// So many words of no document.
+pub(crate) fn zero_words(alloc: Global, count: usize) -> Result<Vec<u64>, NoMemory>
+    ensures { IfOk result (λ words. words.items ≡ replicate count 0) }
+{
+    Ok(vec![in alloc; 0; count]?)
+}
+
+/// The word of so many documents, or of 64 where there are more.
+pub(crate) fn full_word(count: u32) -> u64
+    ensures { (i : ℕ) → i < 64 → bit_at result i ≡ (if nat_lt i count then 1 else 0) }
+{
+    if count < WORD {
+        (1 << count) - 1
+    } else {
+        u64::MAX
+    }
+}
+
+/// The word of 64 documents, the first of them `start`: those from `from` up to `end`.
+pub(crate) fn range_word(start: u32, from: u32, end: u32) -> u64
+    ensures { (i : ℕ) → i < 64 → (bit_at result i == 1) ≡ is_between from end (start + i) }
+{
+    full_word(end.saturating_sub(start)) & !full_word(from.saturating_sub(start))
+}
+
+/// The documents from `from` on of the word that has it; none past the last word.
+pub(crate) fn word_from(words: &[u64], from: u32) -> u64
+    ensures { IsSearched words.now from (from / 64) result }
+{
+    let place = (from / WORD) as usize;
+    if place < words.len() {
+        words[place] & (u64::MAX << (from % WORD))
+    } else {
+        0
+    }
+}
+
+/// A search for the first document before `end`, from word `place` on, of which `word` has the documents left: the word
+/// where it ends, with the documents left there, and the document that it found.
+pub(crate) fn next_document(
+    words: &[u64],
+    place: u32,
+    word: u64,
+    end: u32,
+) -> (u32, u64, Option<u32>)
+    requires some { 0 < end }
+    requires within { end ≤ 64 * length words.now }
+    ensures answer { (from : ℕ) → IsSearched words.now from place word → IsAnswered words.now from result.0 result.1 end result.2 }
+    ensures before { IfSome result.2 (λ at. at < end) }
+{
+    let (at, left) = next_word(words, place, word, (end - 1) / WORD);
+    (at, left, first_in(at, left, end))
+}
+
+/// The first word from `place` up to `last` that has a document left, of word `place` those of `word`; or word `last`.
+fn next_word(words: &[u64], place: u32, word: u64, last: u32) -> (u32, u64)
+    requires { last < length words.now }
+    ensures searched { (from : ℕ) → IsSearched words.now from place word → IsSearched words.now from result.0 result.1 }
+    ensures up_to { result.1 ≡ 0 → last ≤ result.0 }
+{
+    let mut at = place;
+    let mut left = word;
+    'words: while left == 0 && at < last {
+        at += 1;
+        left = words[at as usize];
+    }
+    (at, left)
+}
+
+/// The first document of a word, where it is before `end`.
+fn first_in(place: u32, word: u64, end: u32) -> Option<u32>
+    ensures found { IfSome result (λ at. IsFirstIn place word at × (at < end)) }
+    ensures none { IfNone result (HasNoneBefore place word end) }
+{
+    if word == 0 {
+        return None;
+    }
+    let at = place as u64 * WORD as u64 + word.trailing_zeros() as u64;
+    if at < end as u64 {
+        Some(at as u32)
+    } else {
+        None
+    }
+}

@@ -1,0 +1,12 @@
+use Rattle.std.proofs.Common.{◌∙◌, ap, ℕ, ℤ, List, IsNone, arith}
+use Rattle.segment.specs.Fields.{column_of}
+use Rattle.segment.proofs.Passes.{pass_more, answer_all, none_seen}
+use Rattle.segment.proofs.agree.are_numbers_apart.Goals as goal
+
+pub columns-preserved : goal.columns-preserved
+columns-preserved c =
+    pass_more (λ (column : ℕ × List (ℕ × List ℤ)). IsNone (column_of column.0 c.args.parts.now.present)) c.args.parts.now.numbers c.columns.at c.number_column-field.result c.columns.invariant c.number_column-field.ensures
+    (none_seen _ c.get.result _ c.is_some.result c.is_some.ensures c.if-is_some.false (c.get.ensures ∙ ap (column_of c.number_column-field.result.0) c.present.ensures))
+
+pub returns : goal.returns
+returns c = answer_all (λ (column : ℕ × List (ℕ × List ℤ)). IsNone (column_of column.0 c.args.parts.now.present)) c.args.parts.now.numbers c.columns.at c.columns.invariant (omega (arith, c.columns-test.false, c.number_columns-at-end.ensures))

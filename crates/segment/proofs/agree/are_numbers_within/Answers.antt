@@ -1,0 +1,12 @@
+use Rattle.std.proofs.Common.{ℕ, ℤ, List, subst, arith}
+use Rattle.segment.specs.Agree.{AreWithin}
+use Rattle.segment.proofs.Passes.{pass_more, answer_all}
+use Rattle.segment.proofs.agree.are_numbers_within.Goals as goal
+
+pub columns-preserved : goal.columns-preserved
+columns-preserved c =
+    pass_more (λ (column : ℕ × List (ℕ × List ℤ)). AreWithin c.args.parts.now.documents column.1) c.args.parts.now.numbers c.columns.at c.number_column-column.result c.columns.invariant c.number_column-column.ensures
+    (subst (λ count. AreWithin count c.number_column-column.result.1) c.documents.ensures (c.are_within.ensures.0 c.if-not-are_within.false))
+
+pub returns : goal.returns
+returns c = answer_all (λ (column : ℕ × List (ℕ × List ℤ)). AreWithin c.args.parts.now.documents column.1) c.args.parts.now.numbers c.columns.at c.columns.invariant (omega (arith, c.columns-test.false, c.number_columns-at-end.ensures))

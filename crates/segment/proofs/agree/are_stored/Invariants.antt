@@ -1,0 +1,6 @@
+use Rattle.segment.proofs.Passes.{PassBefore}
+use Rattle.segment.specs.Agree.{IsStored}
+use Rattle.segment.proofs.agree.are_stored.Given as goal
+
+abbrev pub invariant-roots : goal.invariant-roots
+invariant-roots l = PassBefore IsStored l.sources l.root

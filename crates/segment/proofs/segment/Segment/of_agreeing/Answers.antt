@@ -1,0 +1,20 @@
+use Rattle.std.proofs.Common.{◌≡◌, ◌∙◌, sym, subst}
+use Rattle.segment.specs.Agree.{AreColumns}
+use Rattle.segment.specs.Whole.{segment_once}
+use Rattle.segment.specs.declared.columns.Columns.{Columns}
+use Rattle.segment.proofs.TermKinds.{when_ok}
+use Rattle.segment.proofs.segment.Segment.of_agreeing.Goals as goal
+
+pub over-requires : goal.over-requires
+over-requires c =
+    let text = rw c.unwrap-parts.ensures at c.in_ok-read.ensures.found in
+    let are = rw c.unwrap-parts.ensures at c.in_ok-read.ensures.are in
+    let same : c.args.columns ≡ c.unwrap-parts.result = segment_once c.words_are_of_one_set.ensures c.args.columns c.unwrap-parts.result c.requires.parts are (sym c.in_ok-bytes.ensures ∙ text) in
+    subst AreColumns same c.requires
+
+pub returns : goal.returns
+returns c =
+    let text = rw c.unwrap-parts.ensures at c.in_ok-read.ensures.found in
+    let are = rw c.unwrap-parts.ensures at c.in_ok-read.ensures.are in
+    let same : c.args.columns ≡ c.unwrap-parts.result = segment_once c.words_are_of_one_set.ensures c.args.columns c.unwrap-parts.result c.requires.parts are (sym c.in_ok-bytes.ensures ∙ text) in
+    when_ok (λ (segment : Columns). segment ≡ c.unwrap-parts.result) (λ (segment : Columns). segment ≡ c.args.columns) c.over.result c.over.ensures (λ segment own. own ∙ sym same)

@@ -1,0 +1,51 @@
+//! Segments to and from the bytes that a store keeps.
+//!
+//! A segment is its bytes, so the codec copies them out and takes them in (Lucene's codecs, package
+//! `org.apache.lucene.codecs`, in one format). The crate stands on `segment`. What others use is that `decode` gives a
+//! segment exactly where the bytes are an encoding, and that `encode` gives that encoding: each segment has one.
+#![tactic(auto)]
+
+ghost use Rattle.std.specs.Prelude.{◌≡◌, IfOk, IsErrOf};
+ghost use Rattle.segment.specs.Encoding.{IsEncoding};
+ghost use Rattle.segment.specs.declared.columns.Columns.{Columns};
+
+use segment::{Bytes, Segment, SegmentRefusal};
+use std::alloc::Global;
+
+/// Memory ran out.
+#[derive(Clone, Copy, Debug, PartialEq, Eq)]
+pub struct NoMemory;
+
+impl From<std::alloc::AllocError> for NoMemory {
+    fn from(_: std::alloc::AllocError) -> NoMemory {
+        NoMemory
+    }
+}
+
+/// Why bytes give no segment.
+#[derive(Clone, Copy, Debug, PartialEq, Eq)]
+pub enum CodecRefusal {
+    /// The bytes are no encoding of a segment.
+    NotASegment,
+    /// Memory ran out.
+    NoMemory,
+}
+
+/// The encoding of a segment, as a copy.
+pub fn encode(alloc: Global, segment: &Segment) -> Result<Bytes, NoMemory>
+    ensures { IfOk result (λ bytes. IsEncoding segment.now bytes) }
+{
+    Ok(Bytes::of(Vec::from_slice(alloc, segment.bytes())?))
+}
+
+/// The segment that these bytes are an encoding of. It keeps the bytes.
+pub fn decode(alloc: Global, bytes: Bytes) -> Result<Segment, CodecRefusal>
+    ensures segment { IfOk result (λ segment. IsEncoding segment bytes) }
+    ensures none { IsErrOf result CodecRefusal.NotASegment → (columns : Columns) → IsEncoding columns bytes → ⊥ }
+{
+    match Segment::of_bytes(alloc, bytes) {
+        Ok(segment) => Ok(segment),
+        Err(SegmentRefusal::NotASegment) => Err(CodecRefusal::NotASegment),
+        Err(SegmentRefusal::NoMemory) => Err(CodecRefusal::NoMemory),
+    }
+}
