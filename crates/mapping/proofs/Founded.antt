@@ -1,5 +1,5 @@
 -- The mapping of bodies has what `IsMapping` asks.
-use Rattle.std.proofs.Common.{◌≡◌, ℕ, zero, suc, ◌+◌, ◌-◌, ◌<◌, ◌≤◌, ◌^◌, ◌⊎◌, inl, inr, Bool, true, false, List, [], ◌∷◌, length, map, filter, get_or, refl, sym, ap, ◌∙◌, subst, arith, Less, Some, None, bytes_eq}
+use Rattle.std.proofs.Common.{◌≡◌, ℕ, zero, suc, ◌+◌, ◌-◌, ◌<◌, ◌≤◌, ◌^◌, inl, inr, Bool, true, false, List, [], ◌∷◌, length, map, filter, get_or, refl, sym, ap, ◌∙◌, subst, arith, Some}
 use Rattle.std.proofs.lemmas.Bool.{cases_lt, cases_order, false≢true}
 use Rattle.std.proofs.lemmas.List.{get_or_past, length-map, get_or-map}
 use Rattle.std.proofs.lemmas.Slice.Eq.{bytes_eq-Decides}
@@ -20,7 +20,7 @@ use Rattle.mapping_body.proofs.Fitting.{fit}
 use Rattle.mapping_body.proofs.Founding.{not_itself as not_own_ancestor, parent_within}
 use Rattle.mapping_body.proofs.Merges.{AreAscending-in_byte_order, put_all-after}
 use Rattle.mapping_body.proofs.Ordered.{is_order, order_permutes, place_is}
-use Rattle.mapping_body.proofs.Ranks.{AllAfter, compared}
+use Rattle.mapping_body.proofs.Ranks.{AllAfter}
 use Rattle.mapping_body.proofs.Walks.{split}
 use Rattle.mapping.specs.IsMapping.{IsMapping, IsNearestAbove}
 use Rattle.mapping.specs.Mapping.{Field, Mapping, field_at, field_by, field_named, home_of, kind_at, mapping_by, mapping_of, nearest, nested_among, no_field, no_relation, outer, root_scope, scope_at, scope_by, scope_paths, scopes_by}
@@ -30,7 +30,7 @@ use Rattle.mapping.specs.declared.scope.Scope.{Scope as Part}
 use Rattle.mapping_body.specs.declared.draft.Draft.{Draft as Made}
 use Rattle.mapping_body.specs.Kept.{made_of}
 use Rattle.mapping.proofs.Above.{above_less, above_nothing, above_in_range, above_parts}
-use Rattle.mapping.proofs.InTurn.{AreFounded, AreInTurn, HaveAbove, StandsBefore, founded}
+use Rattle.mapping.proofs.InTurn.{AreFounded, AreInTurn, StandsBefore, founded}
 use Rattle.mapping.proofs.Nearest.{nearest_last, paths_at, arounds_at, names_at, homes_at, field_paths_at}
 
 abbrev pub no_draft : Draft

@@ -1,22 +1,22 @@
 -- The fields of bodies in turn: their paths differ, none stands behind one that it lies above, and generations rise.
-use Rattle.std.proofs.Common.{◌≡◌, ℕ, zero, suc, ◌+◌, ◌<◌, ◌≤◌, ◌⊎◌, inl, inr, List, [], ◌∷◌, ◌++◌, map, filter, not, length, refl, sym, ap, ◌∙◌, subst, arith, Bool, true, false, ◌||◌, ◌&&◌, cond, bytes_eq, Option, Some, None, is_some, Less, Equal, Greater}
+use Rattle.std.proofs.Common.{◌≡◌, ℕ, ◌+◌, ◌<◌, ◌≤◌, inl, inr, List, [], ◌∷◌, ◌++◌, map, filter, not, length, refl, sym, ap, ◌∙◌, subst, arith, Bool, true, false, ◌||◌, bytes_eq, is_some, Less}
 use Rattle.std.proofs.lemmas.Bool.{false≢true, or_cases}
 use Rattle.std.proofs.lemmas.List.{map-append}
 use Rattle.std.proofs.lemmas.List.Folds.{list_any-append}
 use Rattle.std.proofs.lemmas.Slice.Eq.{bytes_eq-Decides}
-use Rattle.std.specs.List.{AllByRecursion, list_all, list_any, position_from}
+use Rattle.std.specs.List.{AllByRecursion, list_all, position_from}
 use Rattle.std.specs.List.Sorted.{IsStrictlySortedBy}
 use Rattle.tree_json.specs.Value.{JsonValue}
 use Rattle.mapping_body.specs.Body.{Property, is_body, properties_of}
 use Rattle.mapping_body.specs.Fields.{Draft, draft_of, draft_paths, drafts_added, drafts_from, drafts_of}
-use Rattle.mapping_body.specs.Names.{AreAscending, in_byte_order, is_among, lies_above, place_of, put, put_all}
+use Rattle.mapping_body.specs.Names.{AreAscending, in_byte_order, is_among, lies_above, put, put_all}
 use Rattle.mapping_body.proofs.Ascending.{not_back, not_itself}
 use Rattle.mapping_body.proofs.Closed.{IsClosed, closed_body, has_name}
 use Rattle.mapping_body.proofs.Distinct.{AreOutside, added_ascend, added_outside}
 use Rattle.mapping_body.proofs.Merges.{same_name}
 use Rattle.mapping_body.proofs.Ranks.{AllAfter, by_ordering, compared}
 use Rattle.mapping_body.proofs.Walks.{split}
-use Rattle.mapping.proofs.Above.{above_less, both, joint}
+use Rattle.mapping.proofs.Above.{above_less, both}
 
 -- one field before another
 pub record StandsBefore (d e : Draft) : Type 0 where

@@ -5,3 +5,4 @@ pub mod Numbering
 pub mod Fields
 pub mod InTurn
 pub mod Founded
+pub mod Keeps

@@ -1,5 +1,5 @@
 -- What is kept of a mapping, looked up.
-use Rattle.std.proofs.Common.{◌≡◌, ℕ, zero, suc, ◌+◌, ◌-◌, ◌<◌, ◌≤◌, ◌==◌, ◌&&◌, ◌||◌, List as Seq, [], ◌∷◌, map, length, drop, subst, get_or, refl, sym, ap, ◌∙◌, arith, Bool, cond, Some, option_map, bytes_eq}
+use Rattle.std.proofs.Common.{◌≡◌, ℕ, zero, suc, ◌-◌, ◌<◌, ◌≤◌, ◌==◌, ◌&&◌, ◌||◌, List as Seq, [], ◌∷◌, map, length, get_or, refl, sym, ap, ◌∙◌, arith, Bool}
 use Rattle.std.proofs.lemmas.List.{length-map, get_or-map}
 use Rattle.mapping.specs.declared.scope.ScopePath.{ScopePath}
 use Rattle.mapping.specs.declared.scope.Scope.{Scope as Part}

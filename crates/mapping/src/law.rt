@@ -1,7 +1,11 @@
-//! Laws: what holds of the scopes of every mapping, as the contract of a function that does nothing.
-ghost use Rattle.std.specs.Prelude.{◌≡◌, ℕ, ◌<◌, ◌⊎◌, ◌==◌, ◌||◌, true, length};
+//! Laws: what holds of every mapping, as the contracts of functions that do nothing.
+ghost use Rattle.std.specs.Prelude.{◌≡◌, ℕ, List, [], ◌∷◌, ◌++◌, Bool, ◌<◌, ◌⊎◌, ◌==◌, ◌||◌, true, length};
+ghost use Rattle.tree_json.specs.Value.{JsonValue};
+ghost use Rattle.mapping_body.specs.Bodies.{AreBodies};
+ghost use Rattle.mapping_body.specs.Body.{is_body};
+ghost use Rattle.mapping.specs.Growth.{KeepsNumbers};
 ghost use Rattle.mapping.specs.IsMapping.{IsMapping};
-ghost use Rattle.mapping.specs.Mapping.{Mapping, IsAbove, home_of, included, is_above, outer};
+ghost use Rattle.mapping.specs.Mapping.{Mapping, IsAbove, home_of, included, is_above, mapping_of, outer};
 
 /// The scopes above a nested path form a chain that ends at the root: of two of them one is above the other, and those
 /// above a nested path are the scope around it and those above that one. A scope above another has a smaller number. Values
@@ -12,4 +16,10 @@ pub fn scopes_form_chains()
     ensures smaller { (m : Mapping) (a b : ℕ) → IsMapping m → IsAbove m a b → (a < b) × (b < length m.scopes) }
     ensures root { (m : Mapping) (n : ℕ) → IsMapping m → 0 < n → n < length m.scopes → IsAbove m 0 n }
     ensures included { (m : Mapping) (field scope : ℕ) → IsMapping m → field < length m.fields → included m field scope ≡ true → (home_of m field ≡ scope) ⊎ IsAbove m scope (home_of m field) }
+{}
+
+/// A further body leaves what stands under each number: the path, the kind, the home and the generation of a field, and
+/// all that is said of a scope and of a relation.
+pub fn growth_keeps_numbers()
+    ensures { (bodies : List JsonValue) (body : JsonValue) (on later : Bool) → AreBodies bodies → is_body body ≡ true → KeepsNumbers (mapping_of bodies on) (mapping_of (bodies ++ body ∷ []) later) }
 {}

@@ -1,4 +1,4 @@
-use Rattle.std.proofs.Common.{◌≡◌, ◌<◌, ◌^◌, ◌∙◌, sym, ap, subst, length, arith, List}
+use Rattle.std.proofs.Common.{◌<◌, ◌^◌, subst, length, arith, List}
 use Rattle.std.proofs.lemmas.Grind.{common_steps}
 use Rattle.tree_json.specs.Value.{JsonValue}
 use Rattle.mapping_body.specs.Bodies.{AreBodies}

@@ -1,7 +1,7 @@
 use Rattle.std.proofs.Common.{◌≡◌, ◌∙◌, sym, ap, subst, length, ℕ, Option, IfSome}
 use Rattle.mapping_body.specs.Fields.{drafts_of}
 use Rattle.mapping_body.specs.Names.{joined}
-use Rattle.mapping.specs.Mapping.{Mapping, field_at, field_named, mapping_of}
+use Rattle.mapping.specs.Mapping.{Mapping, field_at, field_named}
 use Rattle.mapping.proofs.Fields.{path_named}
 use Rattle.mapping.proofs.LookUps.{field_many, field_place}
 use Rattle.mapping.proofs.mapping.Mapping.field_joined.Goals as goal

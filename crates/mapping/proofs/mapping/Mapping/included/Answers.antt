@@ -1,4 +1,4 @@
-use Rattle.std.proofs.Common.{◌≡◌, ◌<◌, ◌∙◌, List, ℕ, length, map, get_or, sym, subst, ap, arith}
+use Rattle.std.proofs.Common.{◌≡◌, ◌<◌, ◌∙◌, List, ℕ, length, map, get_or, sym, subst, ap}
 use Rattle.std.proofs.lemmas.List.{get_or-map}
 use Rattle.mapping.specs.Mapping.{Mapping, mapping_of, home_of, included, no_field}
 use Rattle.mapping.specs.Stored.{Parts, scope_seen, reaches_among}

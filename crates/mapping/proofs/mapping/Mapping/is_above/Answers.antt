@@ -1,8 +1,7 @@
-use Rattle.std.proofs.Common.{◌≡◌, ◌<◌, ◌∙◌, ◌&&◌, length, true, nat_lt, sym, ap, arith, map}
+use Rattle.std.proofs.Common.{◌≡◌, ◌<◌, ◌∙◌, length, true, nat_lt, sym, ap, arith, map}
 use Rattle.std.proofs.lemmas.Bool.Decides.{nat_tests}
 use Rattle.std.proofs.lemmas.List.{length-map}
-use Rattle.mapping_body.specs.Names.{lies_above}
-use Rattle.mapping.specs.Mapping.{Mapping, mapping_of}
+use Rattle.mapping.specs.Mapping.{mapping_of}
 use Rattle.mapping.proofs.LookUps.{path_kept, length_kept}
 use Rattle.mapping.proofs.mapping.Mapping.is_above.Goals as goal
 

@@ -1,7 +1,5 @@
-use Rattle.std.proofs.Common.{◌≡◌, ◌<◌, ◌∙◌, sym, ap, length, arith, nat_le}
-use Rattle.mapping_body.specs.Fields.{drafts_of}
-use Rattle.mapping.specs.Mapping.{Mapping, field_at, field_by, kind_at, knows, mapping_of, scope_paths}
-use Rattle.mapping_body.specs.Kept.{made_of}
+use Rattle.std.proofs.Common.{◌<◌, ◌∙◌, sym, ap, length, arith}
+use Rattle.mapping.specs.Mapping.{Mapping, kind_at}
 use Rattle.mapping.proofs.LookUps.{field_count, field_seen}
 use Rattle.mapping.proofs.mapping.Mapping.kind.Goals as goal
 

@@ -1,5 +1,5 @@
-use Rattle.std.proofs.Common.{◌≡◌, ◌<◌, ◌∙◌, sym, ap, length, arith, nat_le}
-use Rattle.mapping.specs.Mapping.{Mapping, knows_relation, mapping_of}
+use Rattle.std.proofs.Common.{◌<◌, ◌∙◌, sym, ap, length, arith, nat_le}
+use Rattle.mapping.specs.Mapping.{Mapping, knows_relation}
 use Rattle.mapping.proofs.LookUps.{relation_many, relation_seen}
 use Rattle.mapping.proofs.mapping.Mapping.knows_relation.Goals as goal
 
