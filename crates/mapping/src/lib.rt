@@ -2,7 +2,7 @@
 //!
 //! Stands on `mapping_body`, which says which bodies are a mapping. `specs/Mapping` says what a mapping is, `specs/IsMapping`
 //! what holds of each, and `specs/Growth` how a further body adds to it; the look-ups of `Mapping` answer as these say.
-//! Others cite the look-ups and the law `scopes_form_chains`. Begin with `specs/Mapping`.
+//! Others cite the look-ups and the laws in `law`. Begin with `specs/Mapping`.
 #![tactic(auto)]
 
 mod law;
