@@ -9,7 +9,7 @@ use Rattle.mapping_body.specs.declared.refusal.TheConstants.{MOST_FIELDS, MOST_N
 use Rattle.mapping_body.specs.Bodies.{compact_size, exceeded, has_bad_joins, has_bad_relations, is_bad_join, is_deep, says_join, says_nested}
 use Rattle.mapping_body.specs.Fields.{additions_of, drafts_of}
 use Rattle.mapping_body.specs.Relations.{has_two_parents, pairs_of, relations_of, turns_back}
-use Rattle.mapping_body.proofs.Tests.{neither}
+use Rattle.mapping_body.proofs.Booleans.{neither}
 
 pub record Fit (bs : Seq JsonValue) : Type 0 where
   pub fields : length (additions_of bs) ≤ MOST_FIELDS

@@ -9,7 +9,7 @@ use Rattle.mapping_body.specs.Relations.{IsAncestor, parent, further, Pair, Rela
 use Rattle.mapping_body.proofs.Climbs.{climbed-add, climbed-None}
 use Rattle.mapping_body.proofs.Conflicts.{placed_at}
 use Rattle.mapping_body.proofs.Distinct.{names_with}
-use Rattle.mapping_body.proofs.Tests.{neither}
+use Rattle.mapping_body.proofs.Booleans.{neither}
 
 -- ---- parents are relations
 

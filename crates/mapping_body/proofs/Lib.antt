@@ -1,4 +1,4 @@
-pub mod Tests
+pub mod Booleans
 pub mod Orders
 pub mod Ranks
 pub mod Puts

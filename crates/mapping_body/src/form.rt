@@ -146,7 +146,7 @@ fn is_flag(value: &Json) -> bool
 }
 
 /// Whether a property of a kind takes a member besides its type.
-#[tactic(auto, using(crate::proofs::Tests::tests))]
+#[tactic(auto, using(crate::proofs::Booleans::tests))]
 fn may_have(kind: Kind, name: &[u8], value: &Json) -> bool
     ensures { result ≡ list_any (λ t. bytes_eq name.now t.0 && t.1 (view value.now)) (property_takes kind) }
 {
@@ -163,7 +163,7 @@ fn may_have(kind: Kind, name: &[u8], value: &Json) -> bool
 }
 
 /// Whether a property of a kind takes a member.
-#[tactic(auto, using(crate::proofs::Tests::tests))]
+#[tactic(auto, using(crate::proofs::Booleans::tests))]
 fn takes(kind: Kind, name: &[u8], value: &Json) -> bool
     ensures { result ≡ list_any (λ t. bytes_eq name.now t.0 && t.1 (view value.now)) (takes_type (property_takes kind)) }
 {
@@ -220,7 +220,7 @@ fn is_index_name(value: &Json) -> bool
 }
 
 /// Whether a body takes a member.
-#[tactic(auto, using(crate::proofs::Tests::tests))]
+#[tactic(auto, using(crate::proofs::Booleans::tests))]
 fn body_takes(name: &[u8], value: &Json) -> bool
     ensures { result ≡ list_any (λ t. bytes_eq name.now t.0 && t.1 (view value.now)) body_takes }
 {
