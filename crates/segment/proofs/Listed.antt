@@ -1,10 +1,10 @@
 -- The documents of a set, written one after the other.
-use Rattle.std.proofs.Common.{◌≡◌, ℕ, ◌+◌, ◌-◌, ◌≤◌, Bool, List, [], ◌∷◌, ◌++◌, length, drop, Option, Some, None, append_assoc, refl, sym, ap, ◌∙◌, arith}
+use Rattle.std.proofs.Common.{◌≡◌, ℕ, ◌+◌, ◌-◌, Bool, List, [], ◌∷◌, ◌++◌, length, drop, Some, None, append_assoc, sym, ap, ◌∙◌, arith}
 use Rattle.std.specs.List.{flat_map, count_by}
 use Rattle.std.proofs.lemmas.List.{append-nil, drop-drop}
 use Rattle.block_bits.specs.Flags.{is_marked}
 use Rattle.block_bits.specs.Places.{next_place}
-use Rattle.part_text.specs.Text.{u32_text, counted_text}
+use Rattle.part_text.specs.Text.{u32_text}
 use Rattle.segment.specs.Text.{marked_places, presence_text}
 use Rattle.segment.specs.Marks.{length-marked_places}
 use Rattle.segment.proofs.Places.{marked_places-next, marked_places-none}

@@ -1,5 +1,5 @@
 -- Terms by the column of their field.
-use Rattle.std.proofs.Common.{◌≡◌, ◌⊎◌, inl, inr, ◌↔◌, ℕ, ℤ, suc, ◌<◌, Bool, true, false, IsTrue, List, [], ◌∷◌, length, Option, Some, None, All, w64, FitsSigned, Result, Ok, Err, IfOk, refl, sym, subst, ap, arith}
+use Rattle.std.proofs.Common.{◌≡◌, ◌⊎◌, inl, inr, ◌↔◌, ℕ, ℤ, suc, Bool, true, false, IsTrue, List, [], ◌∷◌, Option, Some, None, All, w64, FitsSigned, Result, Ok, Err, IfOk, refl, sym, subst, arith}
 use Rattle.std.specs.Prelude.{◌==◌}
 use Rattle.std.proofs.lemmas.Option.{same_Some}
 use Rattle.segment.specs.Fields.{column_of, AreByField}

@@ -1,5 +1,5 @@
 -- A segment's bytes with the places of its parts.
-use Rattle.std.specs.Prelude.{◌≡◌, ℕ, ℤ, ◌<◌, ◌^◌, List, FitsSigned}
+use Rattle.std.specs.Prelude.{◌≡◌, FitsSigned}
 use Rattle.std.specs.List.{All}
 use Rattle.std.specs.Int.{w64}
 use Rattle.std.specs.Ordering.{nat_cmp, int_cmp}

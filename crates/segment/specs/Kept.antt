@@ -4,9 +4,9 @@ use Rattle.std.specs.List.{flat_map}
 use Rattle.std.specs.List.Sorted.{IsStrictlyIncreasing}
 use Rattle.std.specs.Prelude.{slice_index, ◌==◌}
 use Rattle.std.specs.declared.cmp.Ordering.{Ordering}
-use Rattle.std.proofs.lemmas.List.{drop_at, drop-drop, length-append, length-drop, length-map, get_or-map, map-append, append-nil}
+use Rattle.std.proofs.lemmas.List.{drop_at, drop-drop, length-append, length-drop, length-map, get_or-map, map-append}
 use Rattle.std.proofs.lemmas.Option.{slice_get-get_or, same_Some}
-use Rattle.std.proofs.lemmas.List.Elements.{All-push, All-map}
+use Rattle.std.proofs.lemmas.List.Elements.{All-push}
 use Rattle.part_text.specs.Text.{u32_text, counted_text}
 use Rattle.part_text.specs.Reading.{Reader}
 use Rattle.part_text.specs.Reads.{Reads, first_u32-text, length-u32_text, reads_once}
@@ -16,7 +16,7 @@ use Rattle.doc_values.specs.Text.{entry_text, column_text}
 use Rattle.doc_values.specs.Stands.{IsColumn, Stands, Belong}
 use Rattle.doc_values.specs.Reading.{column_at, column_reads}
 use Rattle.segment.specs.Fields.{fields, column_of, AreByField}
-use Rattle.segment.specs.Once.{IsTaken, IsNowhere, IsOnce, AreFew, IsTaking, taking_none, taking_more, many_nowhere, counted_breaks, counted_taken, counted_ends, counted_once, once_as}
+use Rattle.segment.specs.Once.{IsTaken, IsNowhere, IsOnce, AreFew, IsTaking, taking_none, taking_more, counted_taken, counted_ends, counted_once, once_as}
 
 -- what was read, or the column of no field
 abbrev pub column_read : {X : Type 0} → Option ((ℕ × List (ℕ × List X)) × List ℕ) → ℕ × List (ℕ × List X)

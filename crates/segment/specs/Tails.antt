@@ -1,11 +1,9 @@
 -- The fields of a segment, read in place up to the end of its bytes.
-use Rattle.std.proofs.Common.{◌≡◌, ℕ, ℤ, ◌+◌, ◌-◌, ◌<◌, ◌≤◌, ◌^◌, Bool, List, [], ◌∷◌, ◌++◌, length, drop, All, w64, FitsSigned, nat_cmp, int_cmp, refl, sym, ap, subst, ◌∙◌, append_assoc, arith}
+use Rattle.std.proofs.Common.{◌≡◌, ℕ, ℤ, ◌<◌, ◌^◌, Bool, List, [], ◌++◌, drop, All, w64, FitsSigned, nat_cmp, int_cmp, sym, ap, ◌∙◌}
 use Rattle.std.proofs.lemmas.List.{append-nil}
 use Rattle.part_text.specs.Text.{u32_text, u64_text, i64_text, counted_text}
 use Rattle.part_text.specs.Reading.{u64_at, i64_at}
 use Rattle.part_text.specs.Reads.{u64_reads, i64_reads}
-use Rattle.doc_values.specs.Text.{column_text}
-use Rattle.doc_values.specs.Stands.{IsColumn}
 use Rattle.doc_values.specs.Values.{IsOrdinal}
 use Rattle.segment.specs.Text.{ordinals_text, numbers_text, presence_text, present_text}
 use Rattle.segment.specs.Fields.{AreByField}

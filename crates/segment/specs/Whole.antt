@@ -1,14 +1,13 @@
 -- A segment's text and its columns: the parts together, and that bytes are the text of one segment at most.
-use Rattle.std.proofs.Common.{◌≡◌, ℕ, ℤ, ◌+◌, ◌-◌, ◌<◌, ◌≤◌, ◌^◌, Bool, List, [], ◌∷◌, ◌++◌, length, drop, All, nat_cmp, int_cmp, refl, sym, ap, subst, ◌∙◌, append_assoc, arith}
+use Rattle.std.proofs.Common.{◌≡◌, ℕ, ℤ, ◌+◌, ◌-◌, ◌≤◌, Bool, List, [], ◌++◌, length, drop, nat_cmp, int_cmp, refl, sym, ap, subst, ◌∙◌, append_assoc, arith}
 use Rattle.std.specs.List.{count_by}
 use Rattle.std.proofs.lemmas.List.{append-nil, drop_at, length-append}
 use Rattle.block_bits.specs.Flags.{is_marked}
 use Rattle.part_text.specs.Reading.{u64_at, i64_at}
 use Rattle.stored_sources.specs.declared.root.Root.{Root}
 use Rattle.stored_sources.specs.Text.{roots_text}
-use Rattle.stored_sources.specs.Stands.{AreRoots}
 use Rattle.term_table.specs.declared.rows.TermRow.{TermRow}
-use Rattle.term_table.specs.Part.{rows_text, AreRows}
+use Rattle.term_table.specs.Part.{rows_text}
 use Rattle.segment.specs.Text.{head_text, rows_part, ordinals_text, numbers_text, present_text, segment_text}
 use Rattle.segment.specs.Fields.{AreByField}
 use Rattle.segment.specs.Parts.{IsHead, IsPresence, root_flags, AreParts}

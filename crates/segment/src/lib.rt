@@ -18,8 +18,6 @@ mod refusal;
 mod root_docs;
 mod segment;
 mod taken;
-#[cfg(test)]
-mod tests;
 mod values;
 mod writable;
 mod written;

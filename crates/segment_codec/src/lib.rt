@@ -5,6 +5,9 @@
 //! segment exactly where the bytes are an encoding, and that `encode` gives that encoding: each segment has one.
 #![tactic(auto)]
 
+#[cfg(test)]
+mod tests;
+
 ghost use Rattle.std.specs.Prelude.{◌≡◌, IfOk, IsErrOf};
 ghost use Rattle.segment.specs.Encoding.{IsEncoding};
 ghost use Rattle.segment.specs.declared.columns.Columns.{Columns};

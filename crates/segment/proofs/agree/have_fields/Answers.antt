@@ -1,4 +1,3 @@
-use Rattle.std.proofs.Common.{subst, sym, All, Bool, List, ℕ, length, count_by, ◌≤◌}
 use Rattle.segment.proofs.agree.have_fields.Goals as goal
 
 pub returns : goal.returns

@@ -1,4 +1,4 @@
-use Rattle.std.proofs.Common.{◌≡◌, ◌∙◌, ◌↔◌, IsTrue, Some, slice_get, ℕ, List, All, sym, ap, arith}
+use Rattle.std.proofs.Common.{◌∙◌, Some, ℕ, List, All, sym, ap, arith}
 use Rattle.segment.specs.Agree.{IsOrdinalAt}
 use Rattle.segment.specs.Lists.{terms_of, postings_of}
 use Rattle.segment.proofs.Passes.{pass_more, answer_all, answer_not}

@@ -1,8 +1,8 @@
-use Rattle.std.proofs.Common.{◌≡◌, ◌∙◌, ◌<◌, length, sym, subst, ap, arith, Some, None, List, ℕ}
+use Rattle.std.proofs.Common.{◌∙◌, ◌<◌, length, sym, ap, arith}
 use Rattle.std.proofs.lemmas.Bool.{false≢true}
 use Rattle.std.proofs.lemmas.Option.{slice_get_within}
 use Rattle.segment.specs.Kinds.{IsPosting}
-use Rattle.segment.proofs.Tested.{IsTested, stands_at, tested_all, tested_fails}
+use Rattle.segment.proofs.Tested.{stands_at, tested_all, tested_fails}
 use Rattle.segment.proofs.agree_terms.are_postings.Goals as goal
 
 pub returns-then-not-is_posting : goal.returns-then-not-is_posting

@@ -1,4 +1,4 @@
-use Rattle.std.proofs.Common.{arith, subst, ◌≤◌, length}
+use Rattle.std.proofs.Common.{arith}
 use Rattle.segment.proofs.PostingKinds.{no_word, no_document, a_word}
 use Rattle.segment.proofs.agree_terms.is_word.Goals as goal
 

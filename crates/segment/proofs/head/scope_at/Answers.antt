@@ -1,4 +1,4 @@
-use Rattle.std.proofs.Common.{refl, All, ◌≡◌, ◌∙◌, ◌+◌, ◌/◌, ◌<◌, ◌^◌, length, arith, sym}
+use Rattle.std.proofs.Common.{refl, ◌≡◌, ◌+◌, ◌/◌, arith}
 use Rattle.segment.specs.Heads.{scope_short, scope_other}
 use Rattle.segment.proofs.head.scope_at.Goals as goal
 

@@ -1,4 +1,4 @@
-use Rattle.std.proofs.Common.{refl, sym, subst, ◌∙◌, List, ℕ, Bool, ◌≡◌, length}
+use Rattle.std.proofs.Common.{refl}
 use Rattle.segment.specs.Marks.{presence_no_numbers, presence_no_set}
 use Rattle.segment.proofs.presence.presence_at.Goals as goal
 

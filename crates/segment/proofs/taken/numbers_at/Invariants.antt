@@ -1,4 +1,4 @@
-use Rattle.std.proofs.Common.{ℕ, ◌<◌, ◌^◌}
+use Rattle.std.proofs.Common.{◌<◌, ◌^◌}
 use Rattle.part_text.specs.Text.{u32_text}
 use Rattle.segment.specs.Once.{IsReading}
 use Rattle.segment.proofs.taken.numbers_at.Given as goal

@@ -1,4 +1,4 @@
-use Rattle.std.proofs.Common.{◌≡◌, ◌≤◌, ◌∙◌, length, drop, sym, subst, ap}
+use Rattle.std.proofs.Common.{◌≤◌, ◌∙◌, length, drop, sym, subst, ap}
 use Rattle.part_text.specs.Front.{first_u32}
 use Rattle.segment.specs.Kept.{field_first, column_taken}
 use Rattle.segment.proofs.values.column_at.Goals as goal

@@ -1,4 +1,4 @@
-use Rattle.std.proofs.Common.{◌≡◌, ◌-◌, length, drop}
+use Rattle.std.proofs.Common.{◌≡◌, length, drop}
 use Rattle.segment.specs.Kept.{AreTaking}
 use Rattle.segment.proofs.values.columns_at.Given as goal
 

@@ -1,4 +1,4 @@
-use Rattle.std.proofs.Common.{◌≡◌, ◌++◌, length, drop, ℕ}
+use Rattle.std.proofs.Common.{◌≡◌, ◌++◌, length, drop}
 use Rattle.std.specs.List.{flat_map}
 use Rattle.part_text.specs.Text.{u32_text}
 use Rattle.segment.specs.Text.{marked_places}

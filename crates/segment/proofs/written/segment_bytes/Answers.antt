@@ -1,5 +1,3 @@
-use Rattle.std.proofs.Common.{◌∙◌, ap}
-use Rattle.segment.specs.Text.{present_text}
 use Rattle.segment.specs.Whole.{all_written}
 use Rattle.segment.proofs.written.segment_bytes.Goals as goal
 

@@ -1,4 +1,4 @@
-use Rattle.std.proofs.Common.{◌≡◌, ◌-◌, ◌+◌, ◌<◌, ◌≤◌, length, get_or, ap, refl, arith}
+use Rattle.std.proofs.Common.{◌≡◌, ◌-◌, ◌+◌, ◌<◌, length, get_or, ap, arith}
 use Rattle.std.proofs.lemmas.Bool.{false≢true}
 use Rattle.segment.specs.Fields.{fields}
 use Rattle.segment.proofs.Loops.{fields_at, length-fields, rising_more}

@@ -1,4 +1,4 @@
-use Rattle.std.proofs.Common.{◌∙◌, int_cmp, ap, sym, subst, ℕ, List, w64, FitsSigned, ℤ}
+use Rattle.std.proofs.Common.{◌∙◌, int_cmp, ap, w64, FitsSigned}
 use Rattle.part_text.specs.Text.{i64_text}
 use Rattle.part_text.specs.Reading.{i64_at}
 use Rattle.segment.specs.Fields.{column_of}

@@ -1,4 +1,4 @@
-use Rattle.std.proofs.Common.{◌∙◌, nat_cmp, ap, sym, subst, ℕ, List}
+use Rattle.std.proofs.Common.{◌∙◌, nat_cmp, ap}
 use Rattle.part_text.specs.Text.{u64_text}
 use Rattle.part_text.specs.Reading.{u64_at}
 use Rattle.doc_values.specs.Values.{IsOrdinal}

@@ -1,6 +1,5 @@
 use Rattle.std.proofs.Common.{◌∙◌, ap}
 use Rattle.segment.specs.Lists.{postings_of}
-use Rattle.segment.specs.declared.columns.Columns.{Columns}
 use Rattle.segment.proofs.parts.Parts.postings.Goals as goal
 
 pub returns : goal.returns

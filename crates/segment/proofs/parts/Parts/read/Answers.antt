@@ -1,4 +1,4 @@
-use Rattle.std.proofs.Common.{refl, sym, ap, ◌∙◌, ◌≡◌, ◌-◌, length, List, Bool}
+use Rattle.std.proofs.Common.{refl, ap, ◌∙◌, List, Bool}
 use Rattle.std.specs.List.{count_by}
 use Rattle.block_bits.specs.Flags.{is_marked}
 use Rattle.segment.specs.Parts.{root_flags}
