@@ -1,0 +1,10 @@
+pub mod Firsts
+pub mod Shown
+pub mod Standing
+pub mod Summing
+pub mod Built
+pub mod Filling
+pub mod Joining
+pub mod Shared
+pub mod Starts
+pub mod Spreading

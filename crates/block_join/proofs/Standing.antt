@@ -1,0 +1,136 @@
+-- A cursor over scores, by the walk that it keeps.
+use Rattle.std.proofs.Common.{◌≡◌, ℕ, zero, suc, subst, ◌+◌, ◌-◌, ◌<◌, ◌≤◌, Bool, true, false, cond, List, [], ◌∷◌, ◌++◌, length, take, drop, Option, Some, None, IfSome, IfNone, is_some, refl, sym, ap, ◌∙◌, inl, inr, arith, take-append-drop, drop-drop, length-drop, zero-add}
+use Rattle.std.specs.List.{position_from, flat_map}
+use Rattle.std.specs.Option.{option_to_list}
+use Rattle.block_bits.specs.Flags.{is_marked}
+use Rattle.block_bits.specs.Places.{next_place}
+use Rattle.block_bits.specs.Walks.{Walking}
+use Rattle.score_math.specs.declared.score.TheConstants.{SCORE_CAP}
+use Rattle.block_join.specs.declared.scores.Scores.{Scores}
+use Rattle.block_join.specs.declared.scores.Scores.TheVariants.{Same, Each}
+use Rattle.block_join.specs.Kept.{shown, score_of, marks, IsLong, IsPlaced, AreScores, IsStanding}
+use Rattle.block_join.specs.Scores.{Standing, between}
+use Rattle.block_join.proofs.Firsts.{NoneIn, FirstAt, FoundAt, first_at, none_at, none_before, passed_over, first_within}
+use Rattle.block_join.proofs.Shown.{length_shown, shown_next, shown_drop, marks_add, marks_parts, marks_le, marks_none, marks_first, none_between, first_between}
+
+-- the documents from `from` on
+pub shown_from : (f : ℕ → ℕ) (flags : List Bool) (from : ℕ) → drop from (shown f 0 flags) ≡ shown f (marks (take from flags)) (drop from flags)
+shown_from f flags from =
+    shown_drop f 0 from flags ∙ ap (λ at. shown f at (drop from flags)) (zero-add (marks (take from flags)))
+
+-- the next document that hits is the set's next one
+pub next_shown : (f : ℕ → ℕ) (flags : List Bool) (from : ℕ) → next_place is_some from (shown f 0 flags) ≡ next_place is_marked from flags
+next_shown f flags from =
+    ap (position_from is_some from) (shown_from f flags from) ∙ shown_next f (marks (take from flags)) from (drop from flags)
+
+-- ---- a document before the end
+
+pub record Read (flags : List Bool) (scores : Scores) (from doc : ℕ) : Type 0 where
+  pub later : from ≤ doc
+  pub within : doc < length flags
+  pub marked : marks (take (doc + 1) flags) ≡ marks (take from flags) + 1
+  pub own : marks (take from flags) < marks flags
+  pub scores_are : (end : ℕ) → doc < end → between (shown (score_of scores) 0 flags) from end ≡ score_of scores (marks (take from flags)) ∷ between (shown (score_of scores) 0 flags) (doc + 1) end
+
+pub reads : (flags : List Bool) (scores : Scores) (from doc : ℕ) → next_place is_marked from flags ≡ Some doc → Read flags scores from doc
+reads flags scores from doc e =
+    let found = first_at is_marked from (drop from flags) doc e in
+    let k = found.ahead in
+    let f = score_of scores in
+    let rest = drop from flags in
+    let next : doc + 1 ≡ from + suc k = omega (arith, found.place) in
+    let one : marks (take (suc k) rest) ≡ 1 = marks_first k rest found.first in
+    let one_more : marks (take from flags) + 1 ≡ suc (marks (take from flags)) = omega arith in
+    let marked : marks (take (doc + 1) flags) ≡ marks (take from flags) + 1 = ap (λ n. marks (take n flags)) next ∙ marks_add from (suc k) flags ∙ ap (λ n. marks (take from flags) + n) one in
+    record {
+      later = omega (arith, found.place);
+      within = omega (arith, found.place, first_within is_marked k rest found.first, length-drop from flags);
+      marked = marked;
+      own = omega (arith, marks_parts (doc + 1) flags, marked);
+      scores_are = λ end h.
+          let long : end - from ≡ (end - (doc + 1)) + suc k = omega (arith, found.place, h) in
+          let behind : drop (doc + 1) (shown f 0 flags) ≡ shown f (suc (marks (take from flags))) (drop (suc k) rest) =
+              shown_from f flags (doc + 1) ∙ ap (λ n. shown f n (drop (doc + 1) flags)) (marked ∙ one_more)
+              ∙ ap (shown f (suc (marks (take from flags)))) (ap (λ n. drop n flags) next ∙ sym (drop-drop (suc k) from flags)) in
+          ap (λ (ss : List (Option ℕ)). flat_map option_to_list (take (end - from) ss)) (shown_from f flags from)
+          ∙ first_between f (marks (take from flags)) k (end - from) (end - (doc + 1)) rest found.first long
+          ∙ ap (λ (ss : List (Option ℕ)). f (marks (take from flags)) ∷ flat_map option_to_list (take (end - (doc + 1)) ss)) (sym behind);
+    }
+
+pub place_known : (scores : Scores) (at k : ℕ) (flags : List Bool) → IsPlaced scores at k → AreScores flags scores → k < marks flags
+    → (n : ℕ) × (count : ℕ) × IsPlaced scores at n × IsLong scores count × (n < count)
+place_known scores at k flags placed are h = (k, marks flags, placed, are.long, h)
+
+pub stands_behind : (old new : Walking) (ahead : Option ℕ) (scores : Scores) (from doc at : ℕ) → Read old.documents scores from doc → AreScores old.documents scores
+    → new.documents ≡ old.documents → ahead ≡ next_place is_marked (doc + 1) old.documents → IfSome ahead (λ next. new.from ≡ next + 1)
+    → IsPlaced scores at (marks (take from old.documents) + 1) → IsStanding new ahead scores (doc + 1) at
+stands_behind old new ahead scores from doc at read are same next behind placed = record {
+  scores_are = rw same are;
+  within = rw same (omega (arith, read.within));
+  next = rw same next;
+  behind = behind;
+  placed = rw (same, read.marked) placed;
+}
+
+-- ---- none before the end
+
+pub record Passed (flags : List Bool) (scores : Scores) (from end : ℕ) : Type 0 where
+  pub next : next_place is_marked end flags ≡ next_place is_marked from flags
+  pub marked : marks (take end flags) ≡ marks (take from flags)
+  pub scores_are : between (shown (score_of scores) 0 flags) from end ≡ []
+
+pub passes : (flags : List Bool) (scores : Scores) (from end : ℕ) → from ≤ end → NoneIn is_marked (end - from) (drop from flags) → Passed flags scores from end
+passes flags scores from end h none =
+    let sum : from + (end - from) ≡ end = omega arith in
+    let f = score_of scores in
+    record {
+      next = ap (λ n. position_from is_marked n (drop n flags)) (sym sum) ∙ ap (position_from is_marked (from + (end - from))) (sym (drop-drop (end - from) from flags))
+          ∙ passed_over is_marked from (end - from) (drop from flags) none;
+      marked =
+          let parts : marks (take (from + (end - from)) flags) ≡ marks (take from flags) = omega (arith, marks_add from (end - from) flags, marks_none (end - from) (drop from flags) none) in
+          ap (λ n. marks (take n flags)) (sym sum) ∙ parts;
+      scores_are = ap (λ (ss : List (Option ℕ)). flat_map option_to_list (take (end - from) ss)) (shown_from f flags from) ∙ none_between f (marks (take from flags)) (end - from) (drop from flags) none;
+    }
+
+pub passes_all : (flags : List Bool) (scores : Scores) (from end : ℕ) → from ≤ end → next_place is_marked from flags ≡ None → Passed flags scores from end
+passes_all flags scores from end h e = passes flags scores from end h (none_at is_marked from (drop from flags) (end - from) e)
+
+pub passes_some : (flags : List Bool) (scores : Scores) (from end doc : ℕ) → from ≤ end → next_place is_marked from flags ≡ Some doc → end ≤ doc → Passed flags scores from end
+passes_some flags scores from end doc h e late =
+    let found = first_at is_marked from (drop from flags) doc e in
+    passes flags scores from end h (none_before is_marked (end - from) found.ahead (drop from flags) found.first (omega (arith, found.place)))
+
+pub stands_at : (walk : Walking) (ahead : Option ℕ) (scores : Scores) (from end at : ℕ) → IsStanding walk ahead scores from at → end ≤ length walk.documents
+    → Passed walk.documents scores from end → IsStanding walk ahead scores end at
+stands_at walk ahead scores from end at it within passed = record {
+  scores_are = it.scores_are;
+  within = within;
+  next = it.next ∙ sym passed.next;
+  behind = it.behind;
+  placed = rw passed.marked it.placed;
+}
+
+-- ---- the walk
+
+pub walk_documents : (old new : Walking) (found : Option ℕ) → IfSome found (λ at. new ≡ record { documents = old.documents; from = at + 1 })
+    → IfNone found (new ≡ record { documents = old.documents; from = length old.documents }) → new.documents ≡ old.documents
+walk_documents old new None some none = ap (λ (it : Walking). it.documents) none
+walk_documents old new (Some at) some none = ap (λ (it : Walking). it.documents) some
+
+pub walk_behind : (old new : Walking) (found : Option ℕ) → IfSome found (λ at. new ≡ record { documents = old.documents; from = at + 1 }) → IfSome found (λ next. new.from ≡ next + 1)
+walk_behind old new None some = tt
+walk_behind old new (Some at) some = ap (λ (it : Walking). it.from) some
+
+pub ahead_within : (flags : List Bool) (scores : Scores) (from : ℕ) (ahead : Option ℕ) → ahead ≡ next_place is_marked from flags
+    → IfSome ahead (λ doc. (from ≤ doc) × (doc < length (shown (score_of scores) 0 flags)))
+ahead_within flags scores from None e = tt
+ahead_within flags scores from (Some doc) e =
+    let read = reads flags scores from doc (sym e) in (read.later, omega (arith, read.within, length_shown (score_of scores) 0 flags))
+
+-- ---- the view
+
+pub view_long : (flags : List Bool) (scores : Scores) (from : ℕ) (view : Standing) → record { scores = shown (score_of scores) 0 flags; from = from } ≡ view → length view.scores ≡ length flags
+view_long flags scores from view e = subst (λ (it : Standing). length it.scores ≡ length flags) e (length_shown (score_of scores) 0 flags)
+
+pub view_from : (flags : List Bool) (scores : Scores) (from : ℕ) (view : Standing) → record { scores = shown (score_of scores) 0 flags; from = from } ≡ view → from ≡ view.from
+view_from flags scores from view e = ap (λ (it : Standing). it.from) e

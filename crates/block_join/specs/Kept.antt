@@ -1,0 +1,71 @@
+-- How scores are kept: a set of documents, and either one score for all of them or one each in their order.
+use Rattle.std.specs.Prelude.{◌≡◌, ℕ, suc, ◌+◌, ◌^◌, ◌-◌, ◌<◌, ◌≤◌, Bool, true, false, cond, List, [], ◌∷◌, length, take, drop, replicate, get_or, Option, Some, None, IfSome, ⊤}
+use Rattle.std.specs.Option.{is_some, option_and_then}
+use Rattle.block_bits.specs.Flags.{is_marked}
+use Rattle.block_bits.specs.Places.{next_place}
+use Rattle.block_bits.specs.Walks.{Walking}
+use Rattle.score_math.specs.declared.score.TheConstants.{SCORE_CAP}
+use Rattle.block_join.specs.Scores.{between}
+use Rattle.block_join.specs.declared.scores.Scores.{Scores}
+use Rattle.block_join.specs.declared.scores.Scores.TheVariants.{Same, Each}
+
+-- the score of document `k` of the set, counted from its first
+abbrev pub score_of : Scores → ℕ → ℕ
+score_of (Same score) k = score
+score_of (Each scores) k = get_or scores.items k 0
+
+-- the documents with their scores, where the set's first one has score `at`
+abbrev pub shown : (ℕ → ℕ) → ℕ → List Bool → List (Option ℕ)
+shown score at [] = []
+shown score at (flag ∷ flags) = cond flag (Some (score at)) None ∷ shown score (cond flag (suc at) at) flags
+
+-- how many documents are in the set
+abbrev pub marks : List Bool → ℕ
+marks [] = 0
+marks (flag ∷ flags) = cond flag (suc (marks flags)) (marks flags)
+
+-- as many scores as documents, where each has its own
+abbrev pub IsLong : Scores → ℕ → Type 0
+IsLong (Same score) count = ⊤
+IsLong (Each scores) count = length scores.items ≡ count
+
+-- the next score to be read is that of document `k` of the set; where they share one nothing is counted
+abbrev pub IsPlaced : Scores → ℕ → ℕ → Type 0
+IsPlaced (Same score) at k = ⊤
+IsPlaced (Each scores) at k = at ≡ k
+
+pub record AreScores (flags : List Bool) (scores : Scores) : Type 0 where
+  pub long : IsLong scores (marks flags)
+  pub capped : (k : ℕ) → k < marks flags → score_of scores k ≤ SCORE_CAP
+
+-- a walk over the set, that stands behind the next document from `from` on, and the place of that document's score
+pub record IsStanding (walk : Walking) (ahead : Option ℕ) (scores : Scores) (from at : ℕ) : Type 0 where
+  pub scores_are : AreScores walk.documents scores
+  pub within : from ≤ length walk.documents
+  pub next : ahead ≡ next_place is_marked from walk.documents
+  pub behind : IfSome ahead (λ doc. walk.from ≡ doc + 1)
+  pub placed : IsPlaced scores at (marks (take from walk.documents))
+
+-- a set with its scores, so many, in which no document from `end` on is
+pub record IsBegun (flags : List Bool) (scores : Scores) (end count : ℕ) : Type 0 where
+  pub scores_are : AreScores flags scores
+  pub within : end ≤ length flags
+  pub counted : count ≡ marks flags
+  pub rest : drop end flags ≡ replicate (length flags - end) false
+  pub small : length flags < 2 ^ 32
+
+-- the first parent that is or follows the next document with a score
+abbrev pub next_parent : List Bool → ℕ → List (Option ℕ) → Option ℕ
+next_parent parents from scores = option_and_then (λ doc. next_place is_marked doc parents) (next_place is_some from scores)
+
+-- where the documents inside a parent begin: behind the parent before it, or at 0
+pub record IsStart (parents : List Bool) (parent start : ℕ) : Type 0 where
+  pub within : start ≤ parent
+  pub behind : (at : ℕ) → start ≡ at + 1 → get_or parents at false ≡ true
+  pub free : (at : ℕ) → start ≤ at → at < parent → get_or parents at false ≡ false
+
+-- all documents that hit have one score
+pub record AreAlike (scores : List (Option ℕ)) : Type 0 where
+  pub score : ℕ
+  pub count : ℕ → ℕ → ℕ
+  pub are : (from end : ℕ) → between scores from end ≡ replicate (count from end) score

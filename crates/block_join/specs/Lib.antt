@@ -1,0 +1,5 @@
+-- To believe a contract of this crate, read these.
+pub mod Scores
+pub mod Joins
+-- These serve proofs alone: how scores are kept, and what the loops keep true.
+pub mod Kept

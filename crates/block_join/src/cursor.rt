@@ -1,0 +1,172 @@
+//! Scores read in the order of their documents.
+
+ghost use Rattle.std.specs.Prelude.{◌≡◌, ◌≢◌, ℕ, ◌+◌, ◌-◌, ◌<◌, ◌≤◌, List, [], ◌∷◌, length, IsTrue, IfSome, IfNone};
+ghost use Rattle.std.specs.Option.{is_some};
+ghost use Rattle.block_bits.specs.Places.{next_place};
+ghost use Rattle.block_join.specs.Kept.{shown, score_of, AreScores, AreAlike};
+ghost use Rattle.block_join.specs.Scores.{between};
+ghost use Rattle.score_math.specs.Scores.{mode_of};
+ghost use Rattle.score_math.specs.declared.score.TheConstants.{SCORE_CAP};
+
+use crate::scores::Scores;
+use block_bits::{BitSet, Walk};
+use score_math::{ScoreMode, combine};
+use std::marker::Model;
+
+/// Scores read in the order of their documents, from some document on.
+///
+/// It keeps the next document that hits in hand, so that a look ahead costs nothing.
+#[derive(Drop)]
+pub struct Cursor<'a> {
+    walk: Walk<'a>,
+    ahead: Option<u32>,
+    scores: &'a Scores,
+    from: u32,
+    at: usize,
+}
+
+impl<'a> Model for Cursor<'a> {
+    ghost use Rattle.block_join.specs.Scores.{Standing};
+    ghost use Rattle.block_join.specs.Kept.{shown, score_of, IsStanding};
+
+    ghost Value = { Standing };
+
+    ghost view = { λ it. record { scores = shown (score_of it.scores.now) 0 it.walk.documents; from = it.from } };
+
+    ghost invariant = { λ it. IsStanding it.walk it.ahead it.scores.now it.from it.at };
+}
+
+impl<'a> Cursor<'a> {
+    /// The scores of a set's documents, from the first document on.
+    pub(crate) fn over(set: &'a BitSet, scores: &'a Scores) -> Cursor<'a>
+        requires { AreScores set.now scores.now }
+        ensures { result ≡ record { scores = shown (score_of scores.now) 0 set.now; from = 0 } }
+    {
+        let mut walk = set.walk();
+        let ahead = walk.next();
+        Cursor {
+            walk,
+            ahead,
+            scores,
+            from: 0,
+            at: 0,
+        }
+    }
+
+    /// The document from which on it reads.
+    pub fn from(&self) -> u32
+        ensures from { result ≡ self.now.from }
+        ensures within { result ≤ length self.now.scores }
+    {
+        self.from
+    }
+
+    /// The next document that hits, without going on.
+    pub fn peek(&self) -> Option<u32>
+        ensures value { result ≡ next_place is_some self.now.from self.now.scores }
+        ensures within { IfSome result (λ doc. (self.now.from ≤ doc) × (doc < length self.now.scores)) }
+    {
+        self.ahead
+    }
+
+    /// The next score of a document before `end`. It goes on behind that document, and at `end` where there is none.
+    pub fn next_before(&mut self, end: u32) -> Option<u64>
+        requires ordered { self.old.from ≤ end }
+        requires within { end ≤ length self.old.scores }
+        ensures scores { self.new.scores ≡ self.old.scores }
+        ensures score { IfSome result (λ score. between self.old.scores self.old.from end ≡ score ∷ between self.new.scores self.new.from end) }
+        ensures capped { IfSome result (λ score. score ≤ SCORE_CAP) }
+        ensures later { IfSome result (λ score. (self.old.from < self.new.from) × (self.new.from ≤ end)) }
+        ensures none { IfNone result ((between self.old.scores self.old.from end ≡ []) × (self.new.from ≡ end)) }
+    {
+        match self.ahead {
+            Some(doc) if doc < end => {
+                let (score, next) = self.scores.read(self.at);
+                self.at = next;
+                self.from = self.walk.from();
+                self.ahead = self.walk.next();
+                Some(score)
+            }
+            _ => {
+                self.from = end;
+                None
+            }
+        }
+    }
+
+    /// Goes on at `end`.
+    pub fn skip(&mut self, end: u32)
+        requires ordered { self.old.from ≤ end }
+        requires within { end ≤ length self.old.scores }
+        ensures { self.new ≡ record { scores = self.old.scores; from = end } }
+    {
+        'scores: while self.next_before(end).is_some() {}
+    }
+
+    /// The mode of the scores of the documents before `end`. It goes on at `end`.
+    ///
+    /// Where all documents share one score, the first decides the mean, the greatest and the least.
+    pub fn mode_before(&mut self, end: u32, mode: ScoreMode) -> Option<u64>
+        requires ordered { self.old.from ≤ end }
+        requires within { end ≤ length self.old.scores }
+        ensures value { result ≡ mode_of mode (between self.old.scores self.old.from end) }
+        ensures capped { IfSome result (λ score. score ≤ SCORE_CAP) }
+        ensures place { self.new ≡ record { scores = self.old.scores; from = end } }
+    {
+        match mode {
+            ScoreMode::Sum | ScoreMode::Zero => self.summed_before(end, mode),
+            ScoreMode::Avg | ScoreMode::Max | ScoreMode::Min => {
+                if self.is_alike() {
+                    self.first_before(end, mode)
+                } else {
+                    self.summed_before(end, mode)
+                }
+            }
+        }
+    }
+
+    /// Whether all documents share one score, as far as that is known without reading them.
+    fn is_alike(&self) -> bool
+        ensures { IsTrue result → AreAlike self.now.scores }
+    {
+        matches!(self.scores, Scores::Same(_))
+    }
+
+    /// The mode of the scores of the documents before `end`, which are equal. It goes on at `end`.
+    fn first_before(&mut self, end: u32, mode: ScoreMode) -> Option<u64>
+        requires ordered { self.old.from ≤ end }
+        requires within { end ≤ length self.old.scores }
+        requires alike { AreAlike self.old.scores }
+        requires no_sum { mode ≢ ScoreMode.Sum }
+        requires some { mode ≢ ScoreMode.Zero }
+        ensures value { result ≡ mode_of mode (between self.old.scores self.old.from end) }
+        ensures capped { IfSome result (λ score. score ≤ SCORE_CAP) }
+        ensures place { self.new ≡ record { scores = self.old.scores; from = end } }
+    {
+        let first = self.next_before(end)?;
+        self.skip(end);
+        Some(first)
+    }
+
+    /// The mode of the scores of the documents before `end`, by their sum, count, least and greatest. It goes on at `end`.
+    fn summed_before(&mut self, end: u32, mode: ScoreMode) -> Option<u64>
+        requires ordered { self.old.from ≤ end }
+        requires within { end ≤ length self.old.scores }
+        ensures value { result ≡ mode_of mode (between self.old.scores self.old.from end) }
+        ensures capped { IfSome result (λ score. score ≤ SCORE_CAP) }
+        ensures place { self.new ≡ record { scores = self.old.scores; from = end } }
+    {
+        let first = self.next_before(end)?;
+        let mut total = u128::from(first);
+        let mut count = 1u32;
+        let mut least = first;
+        let mut greatest = first;
+        'scores: while let Some(score) = self.next_before(end) {
+            total += u128::from(score);
+            count += 1;
+            least = least.min(score);
+            greatest = greatest.max(score);
+        }
+        Some(combine(mode, total, count, least, greatest))
+    }
+}

@@ -1,0 +1,82 @@
+//! The join down: scores of documents go to the documents inside them.
+
+ghost use Rattle.std.specs.Prelude.{◌≡◌, ◌≢◌, ℕ, ◌+◌, ◌<◌, ◌≤◌, ◌++◌, List, length, take, drop, Some, IfOk, OnOk};
+ghost use Rattle.std.specs.List.{zip};
+ghost use Rattle.score_math.specs.declared.score.TheConstants.{SCORE_CAP};
+ghost use Rattle.block_join.specs.Joins.{spread};
+ghost use Rattle.block_join.specs.Kept.{IsStart};
+ghost use Rattle.block_join.specs.Scores.{filled, padded};
+
+use crate::up::hitting_parent;
+use crate::{Builder, NoMemory, Scored};
+use block_bits::{BitSet, ScopeBits, places_are_nearest};
+use std::alloc::Global;
+
+/// Each document of scope `to` inside a hit of `parent` at scope `from`, with the hit's score.
+///
+/// It costs the hits and the documents inside them.
+pub fn to_child(
+    alloc: Global,
+    bits: &ScopeBits,
+    parent: &Scored,
+    from: u32,
+    to: u32,
+) -> Result<Scored, NoMemory>
+    requires outer { from < length bits.now.parents }
+    requires inner { to < length bits.now.parents }
+    requires apart { from ≢ to }
+    requires documents { length parent.now ≡ length bits.now.scopes }
+    ensures scores { IfOk result (λ made. made ≡ spread from to (zip bits.now.scopes parent.now)) }
+    ensures long { IfOk result (λ made. length made ≡ length bits.now.scopes) }
+{
+    let parents = bits.documents(from);
+    let children = bits.documents(to);
+    let len = bits.len();
+    let mut hits = Builder::empty(alloc, len)?;
+    let mut left = parent.cursor();
+    'parents: while let Some(at) = hitting_parent(parents, &left) {
+        let start = start_of(parents, at);
+        left.skip(at);
+        if let Some(score) = left.next_before(at + 1) {
+            give(&mut hits, children, start, at, score)?;
+        }
+    }
+    Ok(hits.finish())
+}
+
+/// Where the documents inside a parent begin: behind the parent before it.
+fn start_of(parents: &BitSet, parent: u32) -> u32
+    requires { parent < length parents.now }
+    ensures { IsStart parents.now parent result }
+{
+    places_are_nearest::<bool>();
+    match parents.prev_set(parent) {
+        Some(previous) => previous + 1,
+        None => 0,
+    }
+}
+
+/// Gives a score to the children from `start` up to `end`.
+fn give(
+    hits: &mut Builder,
+    children: &BitSet,
+    start: u32,
+    end: u32,
+    score: u64,
+) -> Result<(), NoMemory>
+    requires later { length hits.old.done ≤ start }
+    requires ordered { start ≤ end }
+    requires within { end ≤ length children.now }
+    requires long { hits.old.len ≡ length children.now }
+    requires capped { score ≤ SCORE_CAP }
+    ensures done { OnOk result (padded end hits.new.done ≡ padded start hits.old.done ++ filled (Some score) (drop start (take end children.now))) }
+    ensures up_to { OnOk result (length hits.new.done ≤ end) }
+    ensures len { hits.new.len ≡ hits.old.len }
+{
+    let mut inside = children.walk();
+    inside.skip_to(start);
+    'children: while let Some(child) = inside.next_before(end) {
+        hits.push(child, score)?;
+    }
+    Ok(())
+}

@@ -1,0 +1,72 @@
+//! The join up: scores of nested documents go to the documents around them.
+
+ghost use Rattle.std.specs.Prelude.{◌≡◌, ℕ, ◌^◌, ◌<◌, ◌≤◌, List, [], length, map, Option, None, IfSome, IfOk};
+ghost use Rattle.std.specs.List.{zip};
+ghost use Rattle.std.specs.Option.{option_to_list};
+ghost use Rattle.score_math.specs.Scores.{mode_of};
+ghost use Rattle.block_join.specs.Joins.{joined};
+ghost use Rattle.block_join.specs.Kept.{next_parent};
+
+use crate::{Builder, Cursor, NoMemory, Scored};
+use block_bits::{BitSet, ScopeBits};
+use score_math::ScoreMode;
+use source_steps::Steps;
+use std::alloc::Global;
+use std::sync::ledger::Ledger;
+
+/// Each document of scope `to` that has hits of `child` inside it, with the mode of their scores.
+///
+/// The hits are documents of the scope `from`. It costs the hits, and not the documents.
+pub fn to_parent<L: Ledger>(
+    alloc: Global,
+    bits: &ScopeBits,
+    child: &Scored,
+    _from: u32,
+    to: u32,
+    mode: ScoreMode,
+    steps: &mut Steps<L>,
+) -> Result<Scored, NoMemory>
+    requires scope { to < length bits.now.parents }
+    requires documents { length child.now ≡ length bits.now.scopes }
+    ensures scores { IfOk result (λ made. made ≡ joined (mode_of mode) None to [] (zip bits.now.scopes (map option_to_list child.now))) }
+    ensures long { IfOk result (λ made. length made ≡ length bits.now.scopes) }
+    ensures steps { steps.new ≡ steps.old }
+{
+    up(alloc, bits, child, to, mode)
+}
+
+/// The join up.
+fn up(
+    alloc: Global,
+    bits: &ScopeBits,
+    child: &Scored,
+    to: u32,
+    mode: ScoreMode,
+) -> Result<Scored, NoMemory>
+    requires scope { to < length bits.now.parents }
+    requires documents { length child.now ≡ length bits.now.scopes }
+    ensures scores { IfOk result (λ made. made ≡ joined (mode_of mode) None to [] (zip bits.now.scopes (map option_to_list child.now))) }
+    ensures long { IfOk result (λ made. length made ≡ length bits.now.scopes) }
+{
+    let parents = bits.documents(to);
+    let len = bits.len();
+    let mut hits = Builder::empty(alloc, len)?;
+    let mut left = child.cursor();
+    'parents: while let Some(parent) = hitting_parent(parents, &left) {
+        let score = left.mode_before(parent, mode);
+        left.skip(parent + 1);
+        hits.put(parent, score)?;
+    }
+    Ok(hits.finish())
+}
+
+/// The first parent that is or follows the next document that hits.
+pub(crate) fn hitting_parent(parents: &BitSet, left: &Cursor) -> Option<u32>
+    ensures value { result ≡ next_parent parents.now left.now.from left.now.scores }
+    ensures within { IfSome result (λ parent. (left.now.from ≤ parent) × (parent < length parents.now)) }
+{
+    match left.peek() {
+        Some(doc) => parents.next_set(doc),
+        None => None,
+    }
+}
