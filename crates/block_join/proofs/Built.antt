@@ -55,7 +55,7 @@ module _ (flags : List Bool) (scores : Scores) (end count : ℕ) (it : IsBegun f
   shown_begun =
       sym (take-append-drop end (shown (score_of scores) 0 flags))
       ∙ ap (λ (ss : List (Option ℕ)). take end (shown (score_of scores) 0 flags) ++ ss)
-        (shown_drop (score_of scores) 0 end flags ∙ ap (shown (score_of scores) (0 + marks (take end flags))) it.rest ∙ shown_false (score_of scores) (0 + marks (take end flags)) (length flags - end))
+      (shown_drop (score_of scores) 0 end flags ∙ ap (shown (score_of scores) (0 + marks (take end flags))) it.rest ∙ shown_false (score_of scores) (0 + marks (take end flags)) (length flags - end))
 
   pub shown_up_to : (doc : ℕ) → end ≤ doc → doc ≤ length flags → take doc (shown (score_of scores) 0 flags) ≡ padded doc (take end (shown (score_of scores) 0 flags))
   shown_up_to doc h le =

@@ -54,6 +54,7 @@ filling_more score flags done now new start at end child it e h pushed =
     length_snoc : (xs : List (Option ℕ)) (x : Option ℕ) → length (xs ++ (x ∷ [])) ≡ length xs + 1
     length_snoc [] x = refl
     length_snoc (y ∷ xs) x = omega (arith, length_snoc xs x)
+
     four : (xs bs : List (Option ℕ)) (c : Option ℕ) (ds : List (Option ℕ)) → ((xs ++ bs) ++ (c ∷ [])) ++ ds ≡ xs ++ (bs ++ (c ∷ ds))
     four xs bs c ds = append_assoc (xs ++ bs) (c ∷ []) ds ∙ append_assoc xs bs (c ∷ ds)
 

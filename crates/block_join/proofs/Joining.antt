@@ -162,18 +162,18 @@ joining_more mode to scopes scores done new from parent score it long e is put b
     let scores_left = drop from scores in
     let same_long : length scopes_left ≡ length scores_left = omega (arith, long, length-drop from scopes, length-drop from scores) in
     let flags_are : drop (from + hit.quiet) (documents_of scopes to) ≡ drop hit.quiet (map (has_scope to) scopes_left) =
-        sym (drop-drop hit.quiet from (documents_of scopes to)) ∙ ap (drop hit.quiet) (drop-map (has_scope to) from scopes) in
+    sym (drop-drop hit.quiet from (documents_of scopes to)) ∙ ap (drop hit.quiet) (drop-map (has_scope to) from scopes) in
     let found : FirstAt is_marked hit.more (drop hit.quiet (map (has_scope to) scopes_left)) = rw (← flags_are) hit.first in
     let stepped = step mode to hit.quiet hit.more n scopes_left scores_left hit.none found same_long sum in
     let rest : joined (mode_of mode) None to [] (zip (drop (parent + 1) scopes) (map option_to_list (drop (parent + 1) scores)))
-        ≡ joined (mode_of mode) None to [] (zip (drop (suc n) scopes_left) (map option_to_list (drop (suc n) scores_left))) =
-        ap (λ m. joined (mode_of mode) None to [] (zip (drop m scopes) (map option_to_list (drop m scores)))) (sym next)
-        ∙ ap (λ (ss : List ℕ). joined (mode_of mode) None to [] (zip ss (map option_to_list (drop (from + suc n) scores)))) (sym (drop-drop (suc n) from scopes))
-        ∙ ap (λ (ss : List (Option ℕ)). joined (mode_of mode) None to [] (zip (drop (suc n) scopes_left) (map option_to_list ss))) (sym (drop-drop (suc n) from scores)) in
+    ≡ joined (mode_of mode) None to [] (zip (drop (suc n) scopes_left) (map option_to_list (drop (suc n) scores_left))) =
+    ap (λ m. joined (mode_of mode) None to [] (zip (drop m scopes) (map option_to_list (drop m scores)))) (sym next)
+    ∙ ap (λ (ss : List ℕ). joined (mode_of mode) None to [] (zip ss (map option_to_list (drop (from + suc n) scores)))) (sym (drop-drop (suc n) from scopes))
+    ∙ ap (λ (ss : List (Option ℕ)). joined (mode_of mode) None to [] (zip (drop (suc n) scopes_left) (map option_to_list ss))) (sym (drop-drop (suc n) from scores)) in
     record {
       goes =
           ap (λ (ss : List (Option ℕ)). ss ++ joined (mode_of mode) None to [] (zip (drop (parent + 1) scopes) (map option_to_list (drop (parent + 1) scores))))
-            (put ∙ ap (λ (ss : List (Option ℕ)). ss ++ (score ∷ [])) (sym (padded_more done from parent it.behind (omega (arith, hit.place)))))
+          (put ∙ ap (λ (ss : List (Option ℕ)). ss ++ (score ∷ [])) (sym (padded_more done from parent it.behind (omega (arith, hit.place)))))
           ∙ three (padded from done) (replicate n None) score (joined (mode_of mode) None to [] (zip (drop (parent + 1) scopes) (map option_to_list (drop (parent + 1) scores))))
           ∙ ap (λ (ss : List (Option ℕ)). padded from done ++ (replicate n None ++ (score ∷ ss))) rest
           ∙ ap (λ s. padded from done ++ (replicate n None ++ (s ∷ joined (mode_of mode) None to [] (zip (drop (suc n) scopes_left) (map option_to_list (drop (suc n) scores_left)))))) is
@@ -195,7 +195,7 @@ joining_ends mode to scopes scores done from it long e =
     let ends = no_hit (documents_of scopes to) from scores e in
     let same_long : length (drop from scopes) ≡ length (drop from scores) = omega (arith, long, length-drop from scopes, length-drop from scores) in
     let flags_are : drop (from + ends.quiet) (documents_of scopes to) ≡ drop ends.quiet (map (has_scope to) (drop from scopes)) =
-        sym (drop-drop ends.quiet from (documents_of scopes to)) ∙ ap (drop ends.quiet) (drop-map (has_scope to) from scopes) in
+    sym (drop-drop ends.quiet from (documents_of scopes to)) ∙ ap (drop ends.quiet) (drop-map (has_scope to) from scopes) in
     let free : NoneIn is_marked (length (drop ends.quiet (map (has_scope to) (drop from scopes)))) (drop ends.quiet (map (has_scope to) (drop from scopes))) = rw (← flags_are) ends.free in
     let left : length scores - from ≡ length (drop from scores) = omega (arith, length-drop from scores) in
     sym (padded_more done from (length scores) it.behind it.within)

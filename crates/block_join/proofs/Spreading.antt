@@ -187,7 +187,7 @@ reached outer inner scopes scores done from parent start it long e begins =
           let at : start ≡ start - 1 + 1 = omega (arith, past) in
           let ahead : doc + (start - 1 - doc) ≡ start - 1 = omega (arith, past) in
           let fails : get_or flags (start - 1) false ≡ false =
-              ap (λ n. get_or flags n false) (sym ahead) ∙ sym (get_or-drop doc flags (start - 1 - doc) false) ∙ first_fails hit.more (start - 1 - doc) (drop doc flags) hit.first (omega (arith, past, begins.within, hit.place)) in
+          ap (λ n. get_or flags n false) (sym ahead) ∙ sym (get_or-drop doc flags (start - 1 - doc) false) ∙ first_fails hit.more (start - 1 - doc) (drop doc flags) hit.first (omega (arith, past, begins.within, hit.place)) in
           absurd (true≢false (sym (begins.behind (start - 1) at) ∙ fails))
       | inr before ↦ before
     ] in
@@ -208,6 +208,7 @@ reached outer inner scopes scores done from parent start it long e begins =
     quiet_less (suc j) zero xs none le = absurd (omega (arith, le))
     quiet_less (suc j) (suc k) [] none le = tt
     quiet_less (suc j) (suc k) (x ∷ xs) none le = (none.0, quiet_less j k xs none.1 (omega (arith, le)))
+
     edge_at : (k : ℕ) (flags : List Bool) → IsStart flags parent (from + k) → parent < length flags → EndsIn k (drop from flags)
     edge_at zero flags begins within = tt
     edge_at (suc k) flags begins within =
@@ -229,16 +230,16 @@ spread_step outer inner apart scopes scores from parent start it long =
     let long_start : length (drop start scopes) ≡ length (drop start scores) = omega (arith, long, length-drop start scopes, length-drop start scores) in
     spread_quiet outer inner apart k (drop from scopes) (drop from scores) it.none ends long_from
     ∙ ap (λ (ds : List (ℕ × Option ℕ)). replicate k None ++ spread outer inner ds)
-        (ap (λ (ss : List ℕ). zip ss (drop k (drop from scores))) (drop-drop k from scopes ∙ ap (λ n. drop n scopes) to_start)
-        ∙ ap (zip (drop start scopes)) (drop-drop k from scores ∙ ap (λ n. drop n scores) to_start))
+    (ap (λ (ss : List ℕ). zip ss (drop k (drop from scores))) (drop-drop k from scopes ∙ ap (λ n. drop n scopes) to_start)
+    ∙ ap (zip (drop start scopes)) (drop-drop k from scores ∙ ap (λ n. drop n scores) to_start))
     ∙ ap (λ (ss : List (Option ℕ)). replicate k None ++ ss)
-        (spread_inside outer inner apart j (drop start scopes) (drop start scores) first long_start
-        ∙ ap (λ (x : Option ℕ). filled x (take j (map (has_scope inner) (drop start scopes))) ++ (None ∷ spread outer inner (zip (drop (suc j) (drop start scopes)) (drop (suc j) (drop start scores)))))
-            (get_or-drop start scores j None ∙ ap (λ n. get_or scores n None) to_parent)
-        ∙ ap (λ (bs : List Bool). filled (get_or scores parent None) (take j bs) ++ (None ∷ spread outer inner (zip (drop (suc j) (drop start scopes)) (drop (suc j) (drop start scores))))) (sym (drop-map (has_scope inner) start scopes))
-        ∙ ap (λ (ds : List (ℕ × Option ℕ)). filled (get_or scores parent None) (take j (drop start (documents_of scopes inner))) ++ (None ∷ spread outer inner ds))
-            (ap (λ (ss : List ℕ). zip ss (drop (suc j) (drop start scores))) (drop-drop (suc j) start scopes ∙ ap (λ n. drop n scopes) behind)
-            ∙ ap (zip (drop (parent + 1) scopes)) (drop-drop (suc j) start scores ∙ ap (λ n. drop n scores) behind)))
+    (spread_inside outer inner apart j (drop start scopes) (drop start scores) first long_start
+    ∙ ap (λ (x : Option ℕ). filled x (take j (map (has_scope inner) (drop start scopes))) ++ (None ∷ spread outer inner (zip (drop (suc j) (drop start scopes)) (drop (suc j) (drop start scores)))))
+    (get_or-drop start scores j None ∙ ap (λ n. get_or scores n None) to_parent)
+    ∙ ap (λ (bs : List Bool). filled (get_or scores parent None) (take j bs) ++ (None ∷ spread outer inner (zip (drop (suc j) (drop start scopes)) (drop (suc j) (drop start scores))))) (sym (drop-map (has_scope inner) start scopes))
+    ∙ ap (λ (ds : List (ℕ × Option ℕ)). filled (get_or scores parent None) (take j (drop start (documents_of scopes inner))) ++ (None ∷ spread outer inner ds))
+    (ap (λ (ss : List ℕ). zip ss (drop (suc j) (drop start scores))) (drop-drop (suc j) start scopes ∙ ap (λ n. drop n scopes) behind)
+    ∙ ap (zip (drop (parent + 1) scopes)) (drop-drop (suc j) start scores ∙ ap (λ n. drop n scores) behind)))
 
 four : (xs ys zs : List (Option ℕ)) (w : Option ℕ) (ws : List (Option ℕ)) → (((xs ++ ys) ++ zs) ++ (w ∷ [])) ++ ws ≡ xs ++ (ys ++ (zs ++ (w ∷ ws)))
 four xs ys zs w ws = append_assoc ((xs ++ ys) ++ zs) (w ∷ []) ws ∙ append_assoc (xs ++ ys) zs (w ∷ ws) ∙ append_assoc xs ys (zs ++ (w ∷ ws))
@@ -259,8 +260,8 @@ spreading_more outer inner apart scopes scores done new from parent start it lon
     record {
       goes =
           ap (λ (ss : List (Option ℕ)). ss ++ rest)
-            (one_more new parent behind
-            ∙ ap (λ (ss : List (Option ℕ)). ss ++ (None ∷ [])) (given ∙ ap (λ (ss : List (Option ℕ)). ss ++ given_here) (sym (padded_more done from start it.behind at.later))))
+          (one_more new parent behind
+          ∙ ap (λ (ss : List (Option ℕ)). ss ++ (None ∷ [])) (given ∙ ap (λ (ss : List (Option ℕ)). ss ++ given_here) (sym (padded_more done from start it.behind at.later))))
           ∙ four (padded from done) (replicate (start - from) None) given_here None rest
           ∙ ap (λ (ss : List (Option ℕ)). padded from done ++ ss) (sym (spread_step outer inner apart scopes scores from parent start at long))
           ∙ it.goes;
@@ -280,7 +281,7 @@ spreading_ends outer inner apart scopes scores done from it long e =
     let ends = no_hit (documents_of scopes outer) from scores e in
     let same_long : length (drop from scopes) ≡ length (drop from scores) = omega (arith, long, length-drop from scopes, length-drop from scores) in
     let flags_are : drop (from + ends.quiet) (documents_of scopes outer) ≡ drop ends.quiet (map (has_scope outer) (drop from scopes)) =
-        sym (drop-drop ends.quiet from (documents_of scopes outer)) ∙ ap (drop ends.quiet) (drop-map (has_scope outer) from scopes) in
+    sym (drop-drop ends.quiet from (documents_of scopes outer)) ∙ ap (drop ends.quiet) (drop-map (has_scope outer) from scopes) in
     let free : NoneIn is_marked (length (drop ends.quiet (map (has_scope outer) (drop from scopes)))) (drop ends.quiet (map (has_scope outer) (drop from scopes))) = rw (← flags_are) ends.free in
     let left : length scores - from ≡ length (drop from scores) = omega (arith, length-drop from scores) in
     sym (padded_more done from (length scores) it.behind it.within)
@@ -327,10 +328,10 @@ pub spreading_hit : (outer inner : ℕ) → outer ≢ inner → (scopes : List �
 spreading_hit outer inner apart scopes scores done new from parent start score rest it long at read given behind =
     let own : get_or scores parent None ≡ Some score = score_is (get_or scores parent None) score rest (sym (between_one scores parent at.within) ∙ read) in
     spreading_more outer inner apart scopes scores done new from parent start it long at
-      (given
-      ∙ ap (λ (bs : List Bool). padded start done ++ filled (Some score) bs) (drop_take start parent (documents_of scopes inner) at.start_within)
-      ∙ ap (λ (x : Option ℕ). padded start done ++ filled x (take (parent - start) (drop start (documents_of scopes inner)))) (sym own))
-      behind
+    (given
+    ∙ ap (λ (bs : List Bool). padded start done ++ filled (Some score) bs) (drop_take start parent (documents_of scopes inner) at.start_within)
+    ∙ ap (λ (x : Option ℕ). padded start done ++ filled x (take (parent - start) (drop start (documents_of scopes inner)))) (sym own))
+    behind
 
 pub spreading_none : (outer inner : ℕ) → outer ≢ inner → (scopes : List ℕ) (scores done : List (Option ℕ)) (from parent start : ℕ) → Spreading outer inner scopes scores done from
     → length scopes ≡ length scores → Reached outer scopes scores from parent start → between scores parent (parent + 1) ≡ [] → Spreading outer inner scopes scores done (parent + 1)
@@ -338,11 +339,11 @@ spreading_none outer inner apart scopes scores done from parent start it long at
     let own : get_or scores parent None ≡ None = none_is (get_or scores parent None) (sym (between_one scores parent at.within) ∙ read) in
     let flags = take (parent - start) (drop start (documents_of scopes inner)) in
     let size : length flags ≡ parent - start =
-        length-take-le (parent - start) (drop start (documents_of scopes inner)) (omega (arith, at.within, at.start_within, long, length-drop start (documents_of scopes inner), length_flags inner scopes)) in
+    length-take-le (parent - start) (drop start (documents_of scopes inner)) (omega (arith, at.within, at.start_within, long, length-drop start (documents_of scopes inner), length_flags inner scopes)) in
     let early : length done ≤ start = omega (arith, it.behind, at.later) in
     spreading_more outer inner apart scopes scores done done from parent start it long at
-      (sym (padded_more done start parent early at.start_within)
-      ∙ ap (λ n. padded start done ++ replicate n None) (sym size)
-      ∙ ap (λ (ss : List (Option ℕ)). padded start done ++ ss) (sym (filled_none flags))
-      ∙ ap (λ (x : Option ℕ). padded start done ++ filled x flags) (sym own))
-      (omega (arith, early, at.start_within))
+    (sym (padded_more done start parent early at.start_within)
+    ∙ ap (λ n. padded start done ++ replicate n None) (sym size)
+    ∙ ap (λ (ss : List (Option ℕ)). padded start done ++ ss) (sym (filled_none flags))
+    ∙ ap (λ (x : Option ℕ). padded start done ++ filled x flags) (sym own))
+    (omega (arith, early, at.start_within))

@@ -50,8 +50,8 @@ reads flags scores from doc e =
       scores_are = λ end h.
           let long : end - from ≡ (end - (doc + 1)) + suc k = omega (arith, found.place, h) in
           let behind : drop (doc + 1) (shown f 0 flags) ≡ shown f (suc (marks (take from flags))) (drop (suc k) rest) =
-              shown_from f flags (doc + 1) ∙ ap (λ n. shown f n (drop (doc + 1) flags)) (marked ∙ one_more)
-              ∙ ap (shown f (suc (marks (take from flags)))) (ap (λ n. drop n flags) next ∙ sym (drop-drop (suc k) from flags)) in
+          shown_from f flags (doc + 1) ∙ ap (λ n. shown f n (drop (doc + 1) flags)) (marked ∙ one_more)
+          ∙ ap (shown f (suc (marks (take from flags)))) (ap (λ n. drop n flags) next ∙ sym (drop-drop (suc k) from flags)) in
           ap (λ (ss : List (Option ℕ)). flat_map option_to_list (take (end - from) ss)) (shown_from f flags from)
           ∙ first_between f (marks (take from flags)) k (end - from) (end - (doc + 1)) rest found.first long
           ∙ ap (λ (ss : List (Option ℕ)). f (marks (take from flags)) ∷ flat_map option_to_list (take (end - (doc + 1)) ss)) (sym behind);

@@ -11,7 +11,7 @@ start_behind flags parent previous h it =
     let parts : length (take parent flags) ≡ length it.before + length (it.own ∷ it.after) = ap length it.split ∙ length-append it.before (it.own ∷ it.after) in
     let first : previous ≡ length it.before = omega (arith, it.place) in
     let at_place : (m : ℕ) → length it.before + m < parent → get_or flags (length it.before + m) false ≡ get_or (it.own ∷ it.after) m false =
-        λ m below. sym (get_or-take parent flags (length it.before + m) false below) ∙ ap (λ (bs : List Bool). get_or bs (length it.before + m) false) it.split ∙ get_or-append-add it.before (it.own ∷ it.after) m false in
+    λ m below. sym (get_or-take parent flags (length it.before + m) false below) ∙ ap (λ (bs : List Bool). get_or bs (length it.before + m) false) it.split ∙ get_or-append-add it.before (it.own ∷ it.after) m false in
     record {
       within = omega (arith, long, parts, first);
       behind = λ at e.

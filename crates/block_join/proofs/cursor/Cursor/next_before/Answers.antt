@@ -18,7 +18,7 @@ invariant_of-self c =
     let behind = rw c.in-Some.is at c.self.invariant.behind in
     let from : c.from-self-inside.result ≡ c.in-Some.doc + 1 = c.from-self-inside.ensures.from ∙ behind in
     let next : c.next-self-inside.result ≡ next_place is_marked (c.in-Some.doc + 1) c.self.inside.walk.documents =
-        subst (λ n. c.next-self-inside.result ≡ next_place is_marked n c.self.inside.walk.documents) behind c.next-self-inside.ensures.value in
+    subst (λ n. c.next-self-inside.result ≡ next_place is_marked n c.self.inside.walk.documents) behind c.next-self-inside.ensures.value in
     rw from
     (stands_behind c.self.inside.walk c.next-self-inside.new.self c.next-self-inside.result c.self.inside.scores.now c.self.inside.from c.in-Some.doc c.read-score.result.1
     read c.self.invariant.scores_are
