@@ -19,12 +19,13 @@ pub record Parts : Type 0 where
   pub around : ℕ
   pub in_parent : Bool
   pub in_root : Bool
+  pub since : ℕ
 
 abbrev pub scope_parts : Scope → Parts
-scope_parts s = record { around = s.around; in_parent = s.in_parent; in_root = s.in_root }
+scope_parts s = record { around = s.around; in_parent = s.in_parent; in_root = s.in_root; since = s.since }
 
 abbrev pub scope_seen : Part → Parts
-scope_seen s = record { around = s.around; in_parent = s.in_parent; in_root = s.in_root }
+scope_seen s = record { around = s.around; in_parent = s.in_parent; in_root = s.in_root; since = s.since }
 
 -- the path of a nested field, and its scope
 abbrev pub nested_path : Draft → List (List ℕ)
@@ -33,7 +34,7 @@ nested_path d = if is_nested d.kind then d.path ∷ [] else []
 abbrev pub nested_scope : List (List ℕ) → Draft → List Parts
 nested_scope paths d =
     if is_nested d.kind
-    then record { around = nearest paths d.path; in_parent = d.in_parent; in_root = d.in_root } ∷ []
+    then record { around = nearest paths d.path; in_parent = d.in_parent; in_root = d.in_root; since = d.since } ∷ []
     else []
 
 -- what is kept beside the body is what the mapping of the body says, and that is a mapping
@@ -54,7 +55,7 @@ pub record IsKept (m : Mapping) (fs : List Kept) (ps : List ScopePath) (ss : Lis
 -- ---- how far values are included, said of the kept parts
 
 abbrev pub root_part : Parts
-root_part = record { around = 0; in_parent = false; in_root = false }
+root_part = record { around = 0; in_parent = false; in_root = false; since = 1 }
 
 abbrev pub part_at : List Parts → ℕ → Parts
 part_at ps n = get_or ps n root_part

@@ -1,9 +1,9 @@
 //! A mapping, read from a body, and its look-ups.
-ghost use Rattle.std.specs.Prelude.{◌≡◌, ℕ, List, [], ◌∷◌, ◌-◌, ◌<◌, ◌≤◌, ◌^◌, map, length, drop, ◌==◌, ◌&&◌, ◌||◌, IfOk, IfErr, IfSome, IsOk, IsErrOf, IsTrue, ◌↔◌, Some, None, Option, option_map};
+ghost use Rattle.std.specs.Prelude.{◌≡◌, ℕ, List, [], ◌∷◌, ◌-◌, ◌<◌, ◌≤◌, ◌^◌, map, length, drop, nat_le, ◌==◌, ◌&&◌, ◌||◌, IfOk, IfErr, IfSome, IsOk, IsErrOf, IsTrue, ◌↔◌, Some, None, Option, option_map};
 ghost use Rattle.std.specs.List.{range_with_len};
 ghost use Rattle.tree_json.specs.View.{view};
 ghost use Rattle.mapping.specs.IsMapping.{IsMapping};
-ghost use Rattle.mapping.specs.Mapping.{Mapping, mapping_of, field_at, relation_at, kind_at, home_of, around_of, field_named, field_below, scope_named, relation_named, relation_known, scope_field_of, reaches, included, knows, knows_relation};
+ghost use Rattle.mapping.specs.Mapping.{Mapping, mapping_of, field_at, scope_at, relation_at, kind_at, home_of, around_of, field_named, field_below, scope_named, relation_named, relation_known, scope_field_of, reaches, included, knows, knows_relation};
 ghost use Rattle.mapping.specs.Names.{AreAscending, joined, place_of};
 ghost use Rattle.mapping.specs.Refusal.{first_refusal, IsFirst};
 ghost use Rattle.mapping.specs.Relations.{relations_of as relations_in};
@@ -141,6 +141,22 @@ impl Mapping {
         ensures bound { IfSome result (λ scope. scope < length self.now.scopes) }
     {
         scope_number(self.paths.as_slice(), path)
+    }
+
+    /// The path of a scope; the root's is empty.
+    pub fn scope_path(&self, scope: u32) -> &[u8]
+        requires { scope < length self.now.scopes }
+        ensures { result.now ≡ (scope_at self.now scope).path }
+    {
+        self.paths[scope as usize].bytes.as_slice()
+    }
+
+    /// Whether a scope stands in the mapping of a generation.
+    pub fn knows_scope(&self, generation: u32, scope: u32) -> bool
+        requires { scope < length self.now.scopes }
+        ensures { result ≡ nat_le (scope_at self.now scope).since generation }
+    {
+        self.scopes[scope as usize].since <= generation
     }
 
     /// The scope around a nested path, and none for the root.
@@ -282,6 +298,7 @@ fn part_at(scopes: &[Scope], number: u32) -> Scope
             around: 0,
             in_parent: false,
             in_root: false,
+            since: 1,
         }
     }
 }

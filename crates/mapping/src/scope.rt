@@ -30,6 +30,7 @@ pub(crate) struct Scope {
     pub around: u32,
     pub in_parent: bool,
     pub in_root: bool,
+    pub since: u32,
 }
 
 /// A field with its number as its place in a list.
@@ -108,6 +109,7 @@ pub(crate) fn scopes(
         around: 0,
         in_parent: false,
         in_root: false,
+        since: 1,
     })?;
     'drafts: for draft in drafts {
         push_scope(draft, paths, &mut scopes)?;
@@ -125,6 +127,7 @@ fn push_scope(draft: &Draft, paths: &[ScopePath], scopes: &mut Vec<Scope>) -> Re
                 around: nearest(paths, draft.path.as_slice()),
                 in_parent: draft.in_parent,
                 in_root: draft.in_root,
+                since: 1,
             })?;
             Ok(())
         }
