@@ -1,7 +1,7 @@
 -- How a mapping becomes another by a further body.
 use Rattle.std.specs.Prelude.{ℕ, ◌≡◌, ◌<◌, true, false, [], ◌∷◌, ◌++◌, length, None}
 use Rattle.tree_json.specs.Value.{JsonValue}
-use Rattle.mapping_body.specs.Bodies.{adds, conflict_of, exceeded}
+use Rattle.mapping_growth.specs.Bodies.{adds, conflict_of, exceeded}
 use Rattle.mapping_body.specs.Body.{is_body}
 use Rattle.mapping.specs.declared.mapping.Growth.{Growth}
 use Rattle.mapping.specs.declared.mapping.Growth.TheVariants.{Same, Added}

@@ -1,7 +1,7 @@
 //! Laws: what holds of every mapping, as the contracts of functions that do nothing.
 ghost use Rattle.std.specs.Prelude.{◌≡◌, ℕ, List, [], ◌∷◌, ◌++◌, Bool, ◌<◌, ◌⊎◌, ◌==◌, ◌||◌, true, length};
 ghost use Rattle.tree_json.specs.Value.{JsonValue};
-ghost use Rattle.mapping_body.specs.Bodies.{AreBodies};
+ghost use Rattle.mapping_growth.specs.Bodies.{AreBodies};
 ghost use Rattle.mapping_body.specs.Body.{is_body};
 ghost use Rattle.mapping.specs.Growth.{KeepsNumbers};
 ghost use Rattle.mapping.specs.IsMapping.{IsMapping};
