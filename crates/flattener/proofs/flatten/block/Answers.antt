@@ -1,0 +1,8 @@
+use Rattle.tree_json.specs.View.{view}
+use Rattle.flattener.proofs.Wholes.{block_made}
+use Rattle.flattener.proofs.flatten.block.Goals as goal
+
+pub returns-clause-block : goal.returns-clause-block
+returns-clause-block c =
+    block_made c.args.mapping.now c.args.id.now c.args.number (view c.args.source.now) c.args.generation _ _
+    c.in_ok-documents.ensures.documents c.in_ok-root.ensures
