@@ -9,3 +9,7 @@ pub mod Ways
 pub mod Blocks
 pub mod Joins
 pub mod Wholes
+pub mod Nested
+pub mod Fitted
+pub mod Relations
+pub mod Fitting

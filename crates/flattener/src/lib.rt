@@ -10,6 +10,7 @@ mod fields;
 mod flatten;
 mod gather;
 mod join;
+mod law;
 mod names;
 mod refusal;
 mod shown;
@@ -19,4 +20,5 @@ mod walk;
 
 pub use document::{Block, Document, KeywordField, NumberField, Word};
 pub use flatten::block;
+pub use law::blocks_are_of_their_mapping;
 pub use refusal::{FlattenRefusal, NoMemory};

@@ -39,8 +39,3 @@ killed columns root live = record {
   docs = cleared (block_start columns.scopes root) (block_end columns.scopes root) live.docs;
   roots = slice_set live.roots root false;
 }
-
--- a segment by its columns, with its live bits
-pub record EntryState : Type 0 where
-  pub columns : Columns
-  pub live : LiveState
