@@ -11,14 +11,14 @@ use Rattle.tree_objects.specs.Tree.{Tree}
 use Rattle.flattener.specs.Block.{root_of_tree}
 use Rattle.flattener.specs.Flat.{flat_of}
 
--- a tree, and whether it is live
-pub record Marked : Type 0 where
-  pub tree : Tree
+-- something with whether it is live, as a tree or a block
+pub record Marked (A : Type 0) : Type 0 where
+  pub item : A
   pub live : Bool
 
 -- something of each document of each tree's block, in order; it may look at the tree's mark and at the document's object
-abbrev pub by_document : {A : Type 0} → Mapping → (Bool → Object → A) → List Marked → List A
-by_document {A} m f trees = flat_map (λ (t : Marked). map (f t.live) (block_objects m t.tree)) trees
+abbrev pub by_document : {A : Type 0} → Mapping → (Bool → Object → A) → List (Marked Tree) → List A
+by_document {A} m f trees = flat_map (λ (t : Marked Tree). map (f t.live) (block_objects m t.item)) trees
 
 abbrev pub flat_at : Mapping → Bool → Object → FlatDocument
 flat_at m live o = flat_of m o
@@ -28,15 +28,15 @@ live_mark live o = live
 
 -- The documents are the blocks of these trees, the roots carry what is kept of each, and a document, as its root, is
 -- live exactly where its tree is. A segment may have fewer scopes than the mapping.
-pub record EntryStandsFor (m : Mapping) (columns : Columns) (bits : LiveState) (trees : List Marked) : Type 0 where
+pub record EntryStandsFor (m : Mapping) (columns : Columns) (bits : LiveState) (trees : List (Marked Tree)) : Type 0 where
   pub mapping : IsMapping m
   pub flats : flats_of columns ≡ by_document m (flat_at m) trees
-  pub roots : roots_of columns ≡ map (λ (t : Marked). root_of_tree m t.tree) trees
+  pub roots : roots_of columns ≡ map (λ (t : Marked Tree). root_of_tree m t.item) trees
   pub live : bits.docs ≡ by_document m live_mark trees
-  pub live_roots : bits.roots ≡ map (λ (t : Marked). t.live) trees
+  pub live_roots : bits.roots ≡ map (λ (t : Marked Tree). t.live) trees
 
 -- each entry of a view stands for its own trees
-abbrev pub ViewStandsFor : Mapping → List EntryState → List (List Marked) → Type 0
+abbrev pub ViewStandsFor : Mapping → List EntryState → List (List (Marked Tree)) → Type 0
 ViewStandsFor m [] [] = ⊤
 ViewStandsFor m [] (trees ∷ more) = ⊥
 ViewStandsFor m (entry ∷ entries) [] = ⊥
