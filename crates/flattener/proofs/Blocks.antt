@@ -1,15 +1,14 @@
 -- A walk grows a block object by object.
-use Rattle.std.proofs.Common.{◌≡◌, ℕ, zero, suc, ◌+◌, ◌-◌, ◌<◌, ◌≤◌, ◌==◌, List, [], ◌∷◌, ◌++◌, length, map, filter, get_or, refl, sym, ap, ◌∙◌, arith, append_assoc}
+use Rattle.std.proofs.Common.{◌≡◌, ℕ, zero, suc, ◌+◌, ◌-◌, ◌<◌, ◌==◌, List, [], ◌∷◌, ◌++◌, length, map, get_or, refl, ap, ◌∙◌, arith}
 use Rattle.std.proofs.lemmas.List.{map-append, length-append}
 use Rattle.std.specs.List.{All, flat_map, range_with_len}
 use Rattle.std.proofs.lemmas.List.FromFn.{get_or-range_with_len, length-range_with_len}
 use Rattle.std.proofs.lemmas.List.Sorted.{All-permutation}
 use Rattle.mapping.specs.IsMapping.{IsMapping}
 use Rattle.mapping.specs.Mapping.{Mapping, outer}
-use Rattle.segment.specs.Flat.{FlatDocument}
 use Rattle.tree_json.specs.Value.{JsonValue}
 use Rattle.mapping_body.proofs.Walks.{split}
-use Rattle.flattener.specs.Walked.{children_at, inner, inside_at, kid_part, walked, flat_pair, flat_at}
+use Rattle.flattener.specs.Walked.{inner, inside_at, kid_part, walked, flat_pair, flat_at}
 
 pub walked_parts : (m : Mapping) (g left s : ℕ) (v : JsonValue) → walked m g left s v ≡ inner m g left s v ++ (s, v) ∷ []
 walked_parts m g zero s v = refl

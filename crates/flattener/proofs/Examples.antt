@@ -1,6 +1,8 @@
 -- The definitions at work on mappings and sources: what they compute is what the rules say.
 use Rattle.std.proofs.Common.{◌≡◌, ◌==◌, ℕ, pos, List as Seq, [], ◌∷◌, ◌++◌, map, cond, codes, refl, true, false}
 use Rattle.tree_json.specs.Value.{JsonValue, bool, whole, text, list, object, elements_of, members_of}
+use Rattle.mapping_body.specs.Fields.{drafts_of}
+use Rattle.mapping_body.specs.Relations.{relations_of}
 use Rattle.mapping.specs.Mapping.{Mapping, mapping_of, included}
 use Rattle.tree_objects.specs.Object.{block_objects, below, given, way}
 use Rattle.tree_objects.specs.Tree.{Tree}
@@ -48,20 +50,20 @@ offers_tree = record {
 }
 
 scopes_of_block : map (λ d. d.scope) (flats_of_tree stores offers_tree) ≡ 2 ∷ 2 ∷ 1 ∷ 2 ∷ 1 ∷ 0 ∷ []
-unfolding flats_of_tree block_objects given
+unfolding drafts_of relations_of flats_of_tree block_objects given
 scopes_of_block = refl
 
 -- fields 1 and 4 are the color and the site
 keywords_of_block : map (λ d. d.keywords) (flats_of_tree stores offers_tree)
     ≡ ((4, codes "a" ∷ []) ∷ []) ∷ ((4, codes "b" ∷ []) ∷ []) ∷ ((1, codes "red" ∷ []) ∷ [])
     ∷ ((4, codes "b" ∷ []) ∷ []) ∷ ((1, codes "blue" ∷ []) ∷ []) ∷ [] ∷ []
-unfolding flats_of_tree block_objects given convert included
+unfolding drafts_of relations_of flats_of_tree block_objects given convert included
 keywords_of_block = refl
 
 -- field 3 is the number
 numbers_of_block : map (λ d. d.numbers) (flats_of_tree stores offers_tree)
     ≡ ((3, pos 1 ∷ []) ∷ []) ∷ ((3, pos 2 ∷ []) ∷ []) ∷ [] ∷ ((3, pos 1 ∷ []) ∷ []) ∷ [] ∷ [] ∷ []
-unfolding flats_of_tree block_objects given convert included
+unfolding drafts_of relations_of flats_of_tree block_objects given convert included
 numbers_of_block = refl
 
 -- ---- a nested path that the root includes: the root's values ascend
@@ -88,7 +90,7 @@ included_tree = record {
 
 included_values : map (λ d. d.keywords) (flats_of_tree included_mapping included_tree)
     ≡ ((1, codes "y" ∷ []) ∷ []) ∷ ((1, codes "x" ∷ []) ∷ []) ∷ ((1, codes "x" ∷ codes "y" ∷ []) ∷ []) ∷ []
-unfolding flats_of_tree block_objects given convert included below way
+unfolding drafts_of relations_of flats_of_tree block_objects given convert included below way
 included_values = refl
 
 -- ---- positions, where the words of a text are what stands between its blanks

@@ -1,6 +1,6 @@
 -- The documents of a tree have scopes and fields of the tree's generation.
-use Rattle.std.proofs.Common.{◌≡◌, ℕ, zero, suc, ◌+◌, ◌<◌, ◌≤◌, ◌⊎◌, ◌==◌, ◌&&◌, ◌||◌, inl, inr, nat_le, nat_lt, Bool, true, false, List, [], ◌∷◌, ◌++◌, length, map, filter, Option, Some, None, refl, sym, ap, subst, ◌∙◌, arith, ℤ}
-use Rattle.std.specs.List.{All, AllByRecursion, flat_map, range_with_len}
+use Rattle.std.proofs.Common.{◌≡◌, ℕ, zero, suc, ◌+◌, ◌<◌, ◌≤◌, ◌⊎◌, ◌==◌, inl, inr, nat_le, nat_lt, Bool, true, List, [], ◌∷◌, ◌++◌, length, map, filter, refl, sym, ap, subst, arith, ℤ}
+use Rattle.std.specs.List.{AllByRecursion, flat_map, range_with_len}
 use Rattle.std.specs.Ordering.{int_cmp}
 use Rattle.std.proofs.lemmas.Bool.{eq-eqb, eqb-true}
 use Rattle.std.proofs.lemmas.Bool.Decides.{nat_tests}
@@ -14,10 +14,10 @@ use Rattle.segment.specs.Flat.{has_some}
 use Rattle.tree_json.specs.Value.{JsonValue, is_object}
 use Rattle.tree_objects.specs.Object.{Object, root, inside, scope, content, items, numbered, tree_of, given, block_objects, children, objects}
 use Rattle.tree_objects.specs.Tree.{Tree}
-use Rattle.tree_objects.specs.Values.{values, own_values}
+use Rattle.tree_objects.specs.Values.{values}
 use Rattle.tree_objects.proofs.Inside.{each_append, each_flat, each_from}
 use Rattle.flattener.specs.Fits.{IsDocument, IsFieldAt}
-use Rattle.flattener.specs.Flat.{flat_of, fields_of, ascending, bytes_cmp, numbers_in, texts_in, number_field, keyword_field, text_field, field_words, tokens, words_of_field, token_cmp, grouped, together, has_numbers, is_keyword, is_text}
+use Rattle.flattener.specs.Flat.{flat_of, ascending, bytes_cmp, numbers_in, texts_in, field_words, tokens, words_of_field, token_cmp, grouped, together, has_numbers, is_keyword, is_text}
 use Rattle.std.specs.Str.{bytes_eq}
 
 -- ---- every object stands at a scope of its tree's generation
@@ -150,11 +150,11 @@ document_fits m tree o own =
       scope = own.in_range;
       known = own.known;
       numbers = All-from_recursion (λ (field : ℕ × List ℤ). At has_numbers field.0) _
-        (fields_shown (At has_numbers) (λ n. has_numbers (kind_at m n)) numbers_at 0 count (shown_at m tree has_numbers o own numbers_at (λ n e. ap (λ vs. ascending int_cmp (numbers_in vs)) e)));
+          (fields_shown (At has_numbers) (λ n. has_numbers (kind_at m n)) numbers_at 0 count (shown_at m tree has_numbers o own numbers_at (λ n e. ap (λ vs. ascending int_cmp (numbers_in vs)) e)));
       keywords = All-from_recursion (λ (field : ℕ × List (List ℕ)). At is_keyword field.0) _
-        (fields_shown (At is_keyword) (λ n. is_keyword (kind_at m n)) keywords_at 0 count (shown_at m tree is_keyword o own keywords_at (λ n e. ap (λ vs. ascending bytes_cmp (texts_in vs)) e)));
+          (fields_shown (At is_keyword) (λ n. is_keyword (kind_at m n)) keywords_at 0 count (shown_at m tree is_keyword o own keywords_at (λ n e. ap (λ vs. ascending bytes_cmp (texts_in vs)) e)));
       words = All-from_recursion (λ (word : (ℕ × List ℕ) × List ℕ). At is_text word.0.0) _
-        (words_shown (At is_text) (λ n. is_text (kind_at m n)) texts_at 0 count (shown_at m tree is_text o own texts_at (λ n e. ap texts_in e)));
+          (words_shown (At is_text) (λ n. is_text (kind_at m n)) texts_at 0 count (shown_at m tree is_text o own texts_at (λ n e. ap texts_in e)));
       texts = All-from_recursion (At is_text) _
-        (texts_shown (At is_text) _ (fields_shown (At is_text) (λ n. is_text (kind_at m n)) texts_at 0 count (shown_at m tree is_text o own texts_at (λ n e. ap texts_in e))));
+          (texts_shown (At is_text) _ (fields_shown (At is_text) (λ n. is_text (kind_at m n)) texts_at 0 count (shown_at m tree is_text o own texts_at (λ n e. ap texts_in e))));
     }

@@ -1,16 +1,15 @@
 -- A block that fits is a root with its documents.
-use Rattle.std.proofs.Common.{◌≡◌, ℕ, ◌==◌, Bool, List, [], ◌∷◌, length, map, filter, refl, sym, ap, subst, ◌∙◌}
-use Rattle.std.specs.List.{All, AllByRecursion}
+use Rattle.std.proofs.Common.{◌≡◌, ℕ, ◌==◌, List, [], ◌∷◌, length, map, filter, refl, sym, ap, subst, ◌∙◌}
+use Rattle.std.specs.List.{AllByRecursion}
 use Rattle.std.proofs.lemmas.List.Elements.{All-from_recursion}
 use Rattle.mapping.specs.IsMapping.{IsMapping}
 use Rattle.mapping.specs.Mapping.{Mapping}
 use Rattle.mapping_body.proofs.Walks.{split}
 use Rattle.segment.specs.Flat.{FlatDocument}
 use Rattle.tree_objects.specs.Enclosing.{stands_at}
-use Rattle.tree_objects.specs.Object.{Object, root, scope, block_objects}
-use Rattle.tree_objects.specs.Tree.{Tree}
+use Rattle.tree_objects.specs.Object.{Object, scope, block_objects}
 use Rattle.tree_objects.proofs.Inside.{root_found}
-use Rattle.flattener.specs.Block.{BlockState, block_of, flats_of_tree, root_of_tree}
+use Rattle.flattener.specs.Block.{BlockState, flats_of_tree, root_of_tree}
 use Rattle.flattener.specs.Fits.{BlockFits, IsDocument, IsRootOf, is_root}
 use Rattle.flattener.specs.Flat.{flat_of}
 use Rattle.flattener.proofs.Fitted.{IsOf, objects_of_tree, document_fits}
@@ -47,7 +46,7 @@ tree_fits m block is fits =
       join = join.relation;
       source = (tree.source, given.source, refl);
       documents = All-from_recursion (IsDocument m tree.generation) _
-        (each_mapped (IsOf m tree) (IsDocument m tree.generation) (flat_of m) (document_fits m tree) (block_objects m tree) (objects_of_tree m tree is given.first));
+          (each_mapped (IsOf m tree) (IsDocument m tree.generation) (flat_of m) (document_fits m tree) (block_objects m tree) (objects_of_tree m tree is given.first));
       nested = rw (scopes_same m (block_objects m tree)) (tree_nested m tree is);
       one_root = ap length (roots_same m (block_objects m tree) ∙ ap (map (flat_of m)) (root_found m tree is));
     }

@@ -1,5 +1,5 @@
 -- The documents of a tree are a block: each stands before the one of the object around it.
-use Rattle.std.proofs.Common.{◌≡◌, ℕ, zero, suc, ◌+◌, ◌-◌, ◌<◌, ◌≤◌, ◌⊎◌, ◌==◌, inl, inr, Bool, true, false, List, [], ◌∷◌, ◌++◌, length, map, filter, get_or, Option, Some, None, refl, sym, ap, subst, ◌∙◌, arith}
+use Rattle.std.proofs.Common.{◌≡◌, ℕ, zero, suc, ◌+◌, ◌<◌, ◌≤◌, ◌⊎◌, ◌==◌, inl, inr, false, List, [], ◌∷◌, ◌++◌, length, map, Option, Some, None, refl, sym, ap, subst, ◌∙◌, arith}
 use Rattle.std.specs.List.{AllByRecursion, flat_map}
 use Rattle.std.proofs.lemmas.List.{get_or_append_left, get_or_at, length-append, map-append}
 use Rattle.std.proofs.lemmas.List.FromFn.{get_or-map-range_with_len, length-map-range_with_len}
@@ -19,7 +19,7 @@ use Rattle.flattener.specs.Fits.{parents_of}
 -- ---- the scopes of a mapping are a tree
 
 enclosing_is : (m : Mapping) (n : ℕ) → n < length m.scopes → enclosing (parents_of m) n ≡ around_of m n
-enclosing_is m n h = get_or-map-range_with_len (around_of m) 0 (length m.scopes) n n None h refl
+enclosing_is m n h = get_or-map-range_with_len (around_of m) 0 (length m.scopes) n n None h (omega arith)
 
 pub enclosing_nested : (m : Mapping) (n : ℕ) → 0 < n → n < length m.scopes → enclosing (parents_of m) n ≡ Some (outer m n)
 enclosing_nested m n some h =
@@ -33,26 +33,26 @@ pub scopes_tree : (m : Mapping) → IsMapping m → IsScopeTree (parents_of m)
 scopes_tree m is = record {
   root = enclosing_root m is;
   nested = λ n some h.
-    let within : n < length m.scopes = omega (arith, h, length-map-range_with_len (around_of m) 0 (length m.scopes)) in
-    rw (enclosing_nested m n some within) (is.behind n some within);
+      let within : n < length m.scopes = omega (arith, h, length-map-range_with_len (around_of m) 0 (length m.scopes)) in
+      rw (enclosing_nested m n some within) (is.behind n some);
 }
 
 -- ---- lists of scopes in which each has the one around it behind it
 
 -- the first of some scopes that is the one sought, with none above it before
-record Finds (parents : List (Option ℕ)) (sought : ℕ) (xs : List ℕ) : Type 0 where
-  at : ℕ
-  within : at < length xs
-  is : scope_of xs at ≡ sought
-  first : (k : ℕ) → k < at → is_above parents (scope_of xs k) sought ≡ false
+pub record Finds (parents : List (Option ℕ)) (sought : ℕ) (xs : List ℕ) : Type 0 where
+  pub at : ℕ
+  pub within : at < length xs
+  pub is : scope_of xs at ≡ sought
+  pub first : (k : ℕ) → k < at → is_above parents (scope_of xs k) sought ≡ false
 
 -- each has behind it the scope around it, or that is the one around all
-abbrev AreInside : List (Option ℕ) → Option ℕ → List ℕ → Type 0
+abbrev pub AreInside : List (Option ℕ) → Option ℕ → List ℕ → Type 0
 AreInside parents around [] = Unit {0}
 AreInside parents around (x ∷ xs) =
     ((sought : ℕ) → enclosing parents x ≡ Some sought → Finds parents sought xs ⊎ (Some sought ≡ around)) × AreInside parents around xs
 
-abbrev AreBelow : ℕ → List ℕ → Type 0
+abbrev pub AreBelow : ℕ → List ℕ → Type 0
 AreBelow s xs = AllByRecursion (λ x. s < x) xs
 
 finds_more : (parents : List (Option ℕ)) (sought : ℕ) (xs ys : List ℕ) → Finds parents sought xs → Finds parents sought (xs ++ ys)
@@ -63,6 +63,11 @@ finds_more parents sought xs ys it = record {
   first = λ k before. ap (λ s. is_above parents s sought) (get_or_append_left xs ys 0 k (omega (arith, it.within, before))) ∙ it.first k before;
 }
 
+first_later : (parents : List (Option ℕ)) (sought x : ℕ) (xs : List ℕ) (at : ℕ) → is_above parents x sought ≡ false → ((k : ℕ) → k < at → is_above parents (scope_of xs k) sought ≡ false)
+    → (k : ℕ) → k < suc at → is_above parents (scope_of (x ∷ xs) k) sought ≡ false
+first_later parents sought x xs at lower first zero before = lower
+first_later parents sought x xs at lower first (suc k) before = first k (omega (arith, before))
+
 finds_later : (parents : List (Option ℕ)) (sought x : ℕ) (xs : List ℕ) → is_above parents x sought ≡ false → Finds parents sought xs → Finds parents sought (x ∷ xs)
 finds_later parents sought x xs not_above it = record {
   at = suc it.at;
@@ -70,16 +75,11 @@ finds_later parents sought x xs not_above it = record {
   is = it.is;
   first = λ k before. first_later parents sought x xs it.at not_above it.first k before;
 }
-where
-  first_later : (parents : List (Option ℕ)) (sought x : ℕ) (xs : List ℕ) (at : ℕ) → is_above parents x sought ≡ false → ((k : ℕ) → k < at → is_above parents (scope_of xs k) sought ≡ false)
-      → (k : ℕ) → k < suc at → is_above parents (scope_of (x ∷ xs) k) sought ≡ false
-  first_later parents sought x xs at not_above first zero before = not_above
-  first_later parents sought x xs at not_above first (suc k) before = first k (omega (arith, before))
 
 not_above : (parents : List (Option ℕ)) (x s : ℕ) → IsScopeTree parents → s < x → is_above parents x s ≡ false
 not_above parents x s tree h = elim (cases_Bool (is_above parents x s)) [
-  | inl yes ↦ absurd (omega (arith, h, (above_lt parents x s tree yes).0))
-  | inr no ↦ no
+  | inl held ↦ absurd (omega (arith, h, (above_lt parents x s tree held).0))
+  | inr failed ↦ failed
 ]
 
 -- behind scopes below it stands the one around them
@@ -111,24 +111,32 @@ inside_append parents around (x ∷ xs) ys are more = (
   inside_append parents around xs ys are.1 more,
 )
 
+first_behind : (parents : List (Option ℕ)) (xs : List ℕ) (sought x at : ℕ) → ((k : ℕ) → k < at → is_above parents (scope_of xs k) sought ≡ false)
+    → (between : ℕ) → 0 < between → between < suc at → is_above parents (scope_of (x ∷ xs) between) sought ≡ false
+first_behind parents xs sought x at first zero past before = absurd (omega (arith, past))
+first_behind parents xs sought x at first (suc k) past before = first k (omega (arith, before))
+
+first_on : (parents : List (Option ℕ)) (xs : List ℕ) (sought x doc at : ℕ) → ((between : ℕ) → doc < between → between < at → is_above parents (scope_of xs between) sought ≡ false)
+    → (between : ℕ) → suc doc < between → between < suc at → is_above parents (scope_of (x ∷ xs) between) sought ≡ false
+first_on parents xs sought x doc at first zero past before = absurd (omega (arith, past))
+first_on parents xs sought x doc at first (suc k) past before = first k (omega (arith, past)) (omega (arith, before))
+
 -- a list with nothing around it is of whole blocks
 pub blocks_whole : (parents : List (Option ℕ)) (xs : List ℕ) (doc sought : ℕ) → AreInside parents None xs → doc < length xs → enclosing parents (scope_of xs doc) ≡ Some sought
     → (at : ℕ) × EnclosesAt parents xs doc sought at
 blocks_whole parents [] doc sought are h e = absurd (omega (arith, h))
 blocks_whole parents (x ∷ xs) zero sought are h e = elim (are.0 sought e) [
-  | inl found ↦ (suc found.at, record {
+  | inl found ↦ (
+    suc found.at,
+    record {
       later = omega arith;
       within = omega (arith, found.within);
       of_outer = found.is;
       first = λ between past before. first_behind parents xs sought x found.at found.first between past before;
-    })
+    },
+  )
   | inr never ↦ absurd (cc (never))
 ]
-where
-  first_behind : (parents : List (Option ℕ)) (xs : List ℕ) (sought x at : ℕ) → ((k : ℕ) → k < at → is_above parents (scope_of xs k) sought ≡ false)
-      → (between : ℕ) → 0 < between → between < suc at → is_above parents (scope_of (x ∷ xs) between) sought ≡ false
-  first_behind parents xs sought x at first zero past before = absurd (omega (arith, past))
-  first_behind parents xs sought x at first (suc k) past before = first k (omega (arith, before))
 blocks_whole parents (x ∷ xs) (suc doc) sought are h e =
     let rest = blocks_whole parents xs doc sought are.1 (omega (arith, h)) e in (
       suc rest.0,
@@ -139,11 +147,6 @@ blocks_whole parents (x ∷ xs) (suc doc) sought are h e =
         first = λ between past before. first_on parents xs sought x doc rest.0 rest.1.first between past before;
       },
     )
-where
-  first_on : (parents : List (Option ℕ)) (xs : List ℕ) (sought x doc at : ℕ) → ((between : ℕ) → doc < between → between < at → is_above parents (scope_of xs between) sought ≡ false)
-      → (between : ℕ) → suc doc < between → between < suc at → is_above parents (scope_of (x ∷ xs) between) sought ≡ false
-  first_on parents xs sought x doc at first zero past before = absurd (omega (arith, past))
-  first_on parents xs sought x doc at first (suc k) past before = first k (omega (arith, past)) (omega (arith, before))
 
 -- ---- the scopes of objects
 
@@ -151,7 +154,7 @@ abbrev pub scopes_of : List Object → List ℕ
 scopes_of os = map scope os
 
 -- scopes inside an object at s
-abbrev AreWithin : Mapping → ℕ → List ℕ → Type 0
+abbrev pub AreWithin : Mapping → ℕ → List ℕ → Type 0
 AreWithin m s xs = AreInside (parents_of m) (Some s) xs × AreBelow s xs
 
 -- of a flat_map it is enough that each part is
@@ -164,35 +167,43 @@ within_flat m s f (x ∷ xs) each =
       each_append (λ (y : ℕ). s < y) (scopes_of (f x)) (scopes_of (flat_map f xs)) each.0.1 rest.1,
     )
 
-abbrev AreClosed : Mapping → ℕ → Object → Type 0
+abbrev pub AreClosed : Mapping → ℕ → Object → Type 0
 AreClosed m left o =
     AreInside (parents_of m) (enclosing (parents_of m) (scope o)) (scopes_of (objects m left o)) × AllByRecursion (λ (x : ℕ). scope o ≤ x) (scopes_of (objects m left o))
+
+kid_within : (m : Mapping) (left s n : ℕ) (c : Object) → IsMapping m → IsKid m s n → scope c ≡ n → AreClosed m left c → AreWithin m s (scopes_of (objects m left c))
+kid_within m left s n c is kid e are =
+    let around : enclosing (parents_of m) (scope c) ≡ Some s = ap (enclosing (parents_of m)) e ∙ enclosing_nested m n kid.positive kid.in_range ∙ ap Some kid.home in
+    let behind : outer m n < n = is.behind n kid.positive in
+    let home : outer m n ≡ s = kid.home in (
+      subst (λ (a : Option ℕ). AreInside (parents_of m) a (scopes_of (objects m left c))) around are.0,
+      each_from (λ (x : ℕ). scope c ≤ x) (λ (x : ℕ). s < x) (λ x least. omega (arith, least, behind, home, e)) (scopes_of (objects m left c)) are.1,
+    )
 
 pub objects_closed : (m : Mapping) (left : ℕ) (o : Object) → IsMapping m → scope o < length m.scopes → AreClosed m left o
 objects_closed m zero o is h = (inside_closed (parents_of m) (scope o) [] (scopes_tree m is) tt tt, (omega arith, tt))
 objects_closed m (suc left) o is h =
     let inner : List Object = flat_map (λ n. flat_map (λ c. objects m left c) (children m o n)) (kids m (scope o)) in
     let are : AreWithin m (scope o) (scopes_of inner) =
-        within_flat m (scope o) (λ n. flat_map (λ c. objects m left c) (children m o n)) (kids m (scope o))
-        (each_from (IsKid m (scope o)) (λ (n : ℕ). AreWithin m (scope o) (scopes_of (flat_map (λ c. objects m left c) (children m o n)))) (λ n kid.
-        within_flat m (scope o) (λ c. objects m left c) (children m o n)
-        (children_each (λ (c : Object). AreWithin m (scope o) (scopes_of (objects m left c))) m o n (λ j v.
-        kid_within m left (scope o) n (inside o n j v) is kid refl (objects_closed m left (inside o n j v) is kid.in_range))))
-        (kids m (scope o)) (each_kid m (scope o) is)) in
+    within_flat m (scope o) (λ n. flat_map (λ c. objects m left c) (children m o n)) (kids m (scope o))
+    (each_from (IsKid m (scope o)) (λ (n : ℕ). AreWithin m (scope o) (scopes_of (flat_map (λ c. objects m left c) (children m o n)))) (λ n kid.
+    within_flat m (scope o) (λ c. objects m left c) (children m o n)
+    (children_each (λ (c : Object). AreWithin m (scope o) (scopes_of (objects m left c))) m o n (λ j v.
+    kid_within m left (scope o) n (inside o n j v) is kid refl (objects_closed m left (inside o n j v) is kid.in_range))))
+    (kids m (scope o)) (each_kid m (scope o) is)) in
     rw (map-append scope inner (o ∷ [])) (
       inside_closed (parents_of m) (scope o) (scopes_of inner) (scopes_tree m is) are.0 are.1,
       each_append (λ (x : ℕ). scope o ≤ x) (scopes_of inner) (scope o ∷ [])
-      (each_from (λ (x : ℕ). scope o < x) (λ (x : ℕ). scope o ≤ x) (λ x less. omega (arith, less)) (scopes_of inner) are.1) (omega arith, tt),
+          (each_from (λ (x : ℕ). scope o < x) (λ (x : ℕ). scope o ≤ x) (λ x less. omega (arith, less)) (scopes_of inner) are.1) (omega arith, tt),
     )
-where
-  kid_within : (m : Mapping) (left s n : ℕ) (c : Object) → IsMapping m → IsKid m s n → scope c ≡ n → AreClosed m left c → AreWithin m s (scopes_of (objects m left c))
-  kid_within m left s n c is kid e are =
-      let around : enclosing (parents_of m) (scope c) ≡ Some s = ap (enclosing (parents_of m)) e ∙ enclosing_nested m n kid.positive kid.in_range ∙ ap Some kid.home in
-      let behind : outer m n < n = is.behind n kid.positive kid.in_range in
-      let home : outer m n ≡ s = kid.home in (
-        subst (λ (a : Option ℕ). AreInside (parents_of m) a (scopes_of (objects m left c))) around are.0,
-        each_from (λ (x : ℕ). scope c ≤ x) (λ (x : ℕ). s < x) (λ x least. omega (arith, least, behind, home, e)) (scopes_of (objects m left c)) are.1,
-      )
+
+last_root : (m : Mapping) (left : ℕ) (o : Object) (doc : ℕ) → doc + 1 ≡ length (scopes_of (objects m left o)) → scope_of (scopes_of (objects m left o)) doc ≡ scope o
+last_root m zero o doc end = let first : doc ≡ 0 = omega (arith, end) in rw first refl
+last_root m (suc left) o doc end =
+    let inner : List Object = flat_map (λ n. flat_map (λ c. objects m left c) (children m o n)) (kids m (scope o)) in
+    let parts : scopes_of (objects m (suc left) o) ≡ scopes_of inner ++ scope o ∷ [] = map-append scope inner (o ∷ []) in
+    let long : length (scopes_of (objects m (suc left) o)) ≡ length (scopes_of inner) + 1 = ap length parts ∙ length-append (scopes_of inner) (scope o ∷ []) in
+    ap (λ (xs : List ℕ). scope_of xs doc) parts ∙ get_or_at (scopes_of inner) (scope o) [] 0 doc (omega (arith, end, long))
 
 -- the documents of a tree are one block
 pub tree_nested : (m : Mapping) (tree : Tree) → IsMapping m → IsBlocks (parents_of m) (scopes_of (block_objects m tree))
@@ -204,11 +215,3 @@ tree_nested m tree is =
       enclosed = λ doc sought h e. blocks_whole (parents_of m) (scopes_of (block_objects m tree)) doc sought whole h e;
       last = λ doc end. last_root m (length m.scopes) (root tree) doc end;
     }
-where
-  last_root : (m : Mapping) (left : ℕ) (o : Object) (doc : ℕ) → doc + 1 ≡ length (scopes_of (objects m left o)) → scope_of (scopes_of (objects m left o)) doc ≡ scope o
-  last_root m zero o doc end = let first : doc ≡ 0 = omega (arith, end) in rw first refl
-  last_root m (suc left) o doc end =
-      let inner : List Object = flat_map (λ n. flat_map (λ c. objects m left c) (children m o n)) (kids m (scope o)) in
-      let parts : scopes_of (objects m (suc left) o) ≡ scopes_of inner ++ scope o ∷ [] = map-append scope inner (o ∷ []) in
-      let long : length (scopes_of (objects m (suc left) o)) ≡ length (scopes_of inner) + 1 = ap length parts ∙ length-append (scopes_of inner) (scope o ∷ []) in
-      ap (λ (xs : List ℕ). scope_of xs doc) parts ∙ get_or_at (scopes_of inner) (scope o) [] 0 doc (omega (arith, end, long))

@@ -1,5 +1,5 @@
 -- The relation of a tree is one of its generation, and a parent's id has the length of an id.
-use Rattle.std.proofs.Common.{◌≡◌, ℕ, ◌<◌, ◌≤◌, ◌&&◌, nat_le, nat_lt, true, false, List, [], ◌∷◌, length, map, codes, Bool, Option, Some, None, is_none, option_and_then, ◌+◌, bytes_eq, refl, sym, ap, ◌∙◌, arith}
+use Rattle.std.proofs.Common.{◌≡◌, ℕ, ◌<◌, ◌&&◌, nat_le, nat_lt, List, [], ◌∷◌, length, codes, Bool, Option, Some, None, is_none, option_and_then, ◌+◌, bytes_eq, refl, arith}
 use Rattle.std.specs.Fmt.{signed_decimal}
 use Rattle.std.specs.List.{position_from}
 use Rattle.std.proofs.lemmas.List.{length-map}
@@ -9,9 +9,9 @@ use Rattle.mapping_body.proofs.Walks.{split}
 use Rattle.mapping.specs.Mapping.{Mapping, Field, knows_relation, relation_at, relation_known, relation_named, if_known}
 use Rattle.segment.specs.Agree.{IsId, HasParentId}
 use Rattle.stored_sources.specs.declared.root.Join.{Join}
-use Rattle.tree_json.specs.Value.{JsonValue, null, bool, whole, text, list, object, Members, member_of}
+use Rattle.tree_json.specs.Value.{JsonValue, null, bool, whole, text, list, object, member_of}
 use Rattle.tree_objects.specs.Tree.{Tree}
-use Rattle.tree_objects.specs.Values.{Joined, JoinReading, no_join, joined_as, bad_join, checked_id, id_written, has_join_names, join_at, join_by_name, join_by_parent, join_field, join_of, join_reading, joined_as_child, joined_as_root, member_of_source, relation_read}
+use Rattle.tree_objects.specs.Values.{JoinReading, no_join, bad_join, checked_id, id_written, has_join_names, join_at, join_by_name, join_by_parent, join_field, join_of, join_reading, joined_as_child, joined_as_root, member_of_source, relation_read}
 use Rattle.flattener.specs.Block.{kept_join}
 use Rattle.flattener.specs.Fits.{IsJoinOf, IsRelation}
 

@@ -1,5 +1,5 @@
 -- A block as a whole.
-use Rattle.std.proofs.Common.{◌≡◌, ℕ, ◌-◌, ◌<◌, ◌≤◌, true, false, List, length, map, refl, sym, ap, ◌∙◌, arith, Some, None, nat_lt}
+use Rattle.std.proofs.Common.{◌≡◌, ℕ, ◌-◌, ◌<◌, ◌≤◌, true, false, List, length, map, ◌^◌, refl, sym, ap, ◌∙◌, arith, Some, None, nat_lt}
 use Rattle.std.proofs.lemmas.Bool.Decides.{nat_tests}
 use Rattle.mapping.specs.Mapping.{Mapping}
 use Rattle.segment.specs.Flat.{FlatDocument, FlatRoot}
@@ -12,6 +12,7 @@ use Rattle.tree_objects.specs.Values.{join_at, join_field, join_of}
 use Rattle.flattener.specs.Block.{block_of, block_refusal, root_of_tree, nested_count, most_nested, most_documents, kept_join, tree_given, BlockState}
 use Rattle.flattener.specs.declared.refusal.FlattenRefusal.TheVariants.{WrongType, TermTooLong, BadJoin, TooManyObjects}
 use Rattle.tree_objects.specs.declared.fault.Fault.TheVariants as fault
+use Rattle.flattener.specs.Fits.{BlockFits, IsGiven}
 use Rattle.flattener.specs.Walked.{flat_pair, walked}
 use Rattle.flattener.proofs.Objects.{tree_walked, tree_count}
 
@@ -72,5 +73,15 @@ pub block_made : (m : Mapping) (id : List ℕ) (number : ℕ) (v : JsonValue) (g
     state_of flats root ≡ block_of m (tree_given id number v g)
 block_made m id number v g flats root a b =
     state_same flats _ root _ (a ∙ sym (tree_walked m (tree_given id number v g))) b
+
+pub block_fits : (m : Mapping) (id : List ℕ) (number : ℕ) (v : JsonValue) (g : ℕ) (block : BlockState) → IsGiven m (tree_given id number v g) → first_fault m g v ≡ None
+    → length (walked m g (length m.scopes) 0 v) ≤ most_documents → number ≤ 2 ^ 62 → block ≡ block_of m (tree_given id number v g) → BlockFits m block
+block_fits m id number v g block given sound few small is = record {
+  tree = tree_given id number v g;
+  given = given;
+  accepted = accepted_few m (tree_given id number v g) sound few;
+  number = small;
+  is = is;
+}
 
 pub ruleset wholes = (accepted_few, refused_many)

@@ -1,6 +1,6 @@
 -- Serves proofs alone: what a walk meets that knows of an object its generation, its scope and its content. A law ties it
 -- to the objects of a tree.
-use Rattle.std.specs.Prelude.{ℕ, zero, suc, ◌+◌, ◌-◌, ◌==◌, ℤ, nat_le, nat_lt, if◌then◌else◌, List, [], ◌∷◌, ◌++◌, length, filter, Option, Some, None}
+use Rattle.std.specs.Prelude.{ℕ, zero, suc, ◌+◌, ◌==◌, ℤ, nat_le, nat_lt, if◌then◌else◌, List, [], ◌∷◌, ◌++◌, length, filter, Option, Some, None}
 use Rattle.std.specs.Ordering.{int_cmp}
 use Rattle.std.specs.List.{filter_map, flat_map, range_with_len}
 use Rattle.mapping.specs.Mapping.{Mapping, kind_at, home_of, scope_at, names_to, knows, shows, outer, kids}

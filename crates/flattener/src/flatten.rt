@@ -4,7 +4,7 @@ ghost use Rattle.tree_json.specs.Text.{compact};
 ghost use Rattle.tree_json.specs.View.{view};
 ghost use Rattle.tree_objects.specs.Fault.{first_fault};
 ghost use Rattle.flattener.specs.Block.{block_of, block_refusal, most_documents, root_of_tree, tree_given};
-ghost use Rattle.flattener.specs.Fits.{IsGiven};
+ghost use Rattle.flattener.specs.Fits.{BlockFits, IsGiven};
 ghost use Rattle.flattener.specs.Seen.{block_seen, document_seen, root_seen};
 ghost use Rattle.flattener.specs.Walked.{flat_pair, walked};
 
@@ -32,6 +32,7 @@ pub fn block(
 ) -> Result<Block, FlattenRefusal>
     requires { IsGiven mapping.now (tree_given id.now number (view source.now) generation) }
     ensures block { IfOk result (λ b. block_seen b ≡ block_of mapping.now (tree_given id.now number (view source.now) generation)) }
+    ensures fits { number ≤ 2 ^ 62 → IfOk result (λ b. BlockFits mapping.now (block_seen b)) }
     ensures accepted { IsOk result → block_refusal mapping.now (tree_given id.now number (view source.now) generation) ≡ None }
     ensures refused { IfErr result (λ e. (e ≡ FlattenRefusal.NoMemory) ⊎ (block_refusal mapping.now (tree_given id.now number (view source.now) generation) ≡ Some e)) }
 {

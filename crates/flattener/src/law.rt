@@ -5,7 +5,6 @@ ghost use Rattle.flattener.specs.Block.{BlockState};
 ghost use Rattle.flattener.specs.Fits.{BlockFits, IsRootOf};
 
 /// A block that fits a mapping is a root with its documents, as a segment that fits the mapping has them.
-#[tactic(auto, using(crate::proofs::Fitting::block_fits_as_root))]
 pub fn blocks_are_of_their_mapping()
     ensures { (m : Mapping) (block : BlockState) → IsMapping m → BlockFits m block → IsRootOf m block.root block.flats }
 {}

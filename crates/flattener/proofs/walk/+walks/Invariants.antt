@@ -1,4 +1,4 @@
-use Rattle.std.proofs.Common.{◌≡◌, ◌+◌, ◌-◌, ◌*◌, ◌≤◌, ◌++◌, length, map, drop}
+use Rattle.std.proofs.Common.{◌≡◌, ◌+◌, ◌-◌, ◌*◌, ◌++◌, length, map, drop}
 use Rattle.std.specs.List.{flat_map}
 use Rattle.tree_json.specs.View.{view}
 use Rattle.flattener.specs.Seen.{document_seen}
