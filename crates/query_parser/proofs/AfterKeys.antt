@@ -1,10 +1,10 @@
 -- The keys of `search_after` that are taken are keys of the clauses of the sort.
 use Rattle.std.specs.Prelude.{⊤}
-use Rattle.std.proofs.Common.{◌≡◌, ℕ, ◌+◌, List as Seq, [], ◌∷◌, Bool, true, false, ◌&&◌, ◌⊎◌, inl, inr, not, Option, Some, None, is_none, max, refl, sym, ap, ◌∙◌, subst, arith, bytes_eq, codes}
+use Rattle.std.proofs.Common.{◌≡◌, ℕ, ◌+◌, [], ◌∷◌, true, false, ◌⊎◌, inl, inr, not, Option, Some, None, is_none, refl, arith, bytes_eq, codes}
 use Rattle.std.proofs.lemmas.Bool.{and_parts, false≢true}
 use Rattle.tree_json.specs.Value.{JsonValue, null, bool, whole, text, list, object, Elements, no_elements, element}
 use Rattle.mapping_body.specs.declared.kind.Kind.{Kind}
-use Rattle.mapping_body.specs.declared.kind.Kind.TheVariants.{Text, Keyword, Long, Boolean, Date, Object, Nested, Join}
+use Rattle.mapping_body.specs.declared.kind.Kind.TheVariants.{Text, Keyword}
 use Rattle.mapping.specs.Mapping.{Mapping, field_named, kind_at}
 use Rattle.query_ast.specs.Resolved.{IsKeyOf, AreKeys}
 use Rattle.query_ast.specs.Uses.{is_written}
@@ -13,15 +13,15 @@ use Rattle.query_ast.specs.declared.sort.Missing.TheVariants.{Last, First, Given
 use Rattle.query_ast.specs.declared.sort.Sort.{Sort}
 use Rattle.query_ast.specs.declared.sort.SortKey.TheVariants.{Field}
 use Rattle.search_form.specs.Form.{elements_length, clause_count}
-use Rattle.search_walk.specs.After.{key_is_taken, is_keyword_if, has_texts, has_nulls, clause_takes, clauses_take, score_takes, sort_takes}
+use Rattle.search_walk.specs.After.{key_is_taken, is_keyword_if, clause_takes, clauses_take, score_takes, sort_takes}
 use Rattle.search_walk.specs.Fault.{sort_fault}
 use Rattle.search_walk.specs.Kinds.{is_keyword, is_sortable}
 use Rattle.search_walk.specs.Names.{text_of, kind_named}
 use Rattle.search_walk.specs.Sorts.{sort_name, sort_part, is_score, given_missing}
 use Rattle.query_parser.specs.Search.{key_of, keys_before}
 use Rattle.query_parser.specs.Sorts.{chain_if, descends, mode_of, missing_by, missing_word, missing_of, by_score_in, field_sort, sort_at, sorts_in, sorts_of}
-use Rattle.query_parser.proofs.Found.{by_test, by_option}
-use Rattle.query_parser.proofs.SortClauses.{IsFieldSort, field_sorts, by_choice}
+use Rattle.query_parser.proofs.Found.{by_option}
+use Rattle.query_parser.proofs.SortClauses.{field_sorts, by_choice}
 
 -- ---- kinds
 

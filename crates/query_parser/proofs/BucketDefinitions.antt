@@ -1,32 +1,31 @@
 -- The buckets of a body that is read and not refused are resolved in the scope in which they stand.
-use Rattle.std.proofs.Common.{◌≡◌, ℕ, ◌+◌, ◌<◌, ◌≤◌, ◌==◌, List as Seq, [], ◌∷◌, ◌++◌, Bool, true, false, ◌&&◌, ◌||◌, not, if◌then◌else◌, Option, Some, None, is_some, option_map, refl, sym, ap, ◌∙◌, subst, arith, bytes_eq, codes}
+use Rattle.std.proofs.Common.{◌≡◌, ℕ, ◌==◌, List as Seq, [], ◌∷◌, Bool, true, false, ◌&&◌, not, if◌then◌else◌, Option, Some, None, is_some, option_map, refl, sym, ap, ◌∙◌, subst, arith, bytes_eq, codes}
 use Rattle.std.proofs.lemmas.Bool.{and_parts, false≢true, eqb-true}
 use Rattle.std.proofs.lemmas.Slice.Eq.{bytes_eq-Decides}
 use Rattle.std.specs.List.{AllByRecursion}
 use Rattle.std.specs.Option.{option_or}
-use Rattle.tree_json.specs.Value.{JsonValue, null, bool, whole, text, list, object, Elements, Members, no_members, member, member_of}
+use Rattle.tree_json.specs.Value.{JsonValue, null, bool, whole, text, list, object, Members, no_members, member, member_of}
 use Rattle.mapping_body.specs.declared.kind.Kind.{Kind}
 use Rattle.mapping_body.specs.declared.kind.Kind.TheVariants.{Text, Keyword, Long, Boolean, Date, Object, Nested as NestedKind, Join}
 use Rattle.mapping.specs.Mapping.{Mapping, field_named, kind_at, is_above}
 use Rattle.query_ast.specs.Agg.{Agg}
-use Rattle.query_ast.specs.Clause.{leaf, match_all}
-use Rattle.query_ast.specs.Definition.{Definition, definition, Definitions, no_definitions, definitions_of}
+use Rattle.query_ast.specs.Definition.{Definition, Definitions, no_definitions, definitions_of}
 use Rattle.query_ast.specs.Resolved.{IsUse, IsForm, scope_of_form, IsAggDefinition, AreAggDefinitions}
 use Rattle.query_ast.specs.Uses.{Uses, uses_of}
 use Rattle.query_ast.specs.declared.agg.AggForm.{AggForm}
-use Rattle.query_ast.specs.declared.agg.AggForm.TheVariants.{Filter, Nested, ReverseNested, Children, Parent, Min, Max, Sum}
+use Rattle.query_ast.specs.declared.agg.AggForm.TheVariants.{Nested, ReverseNested, Children, Parent, Min, Max, Sum}
 use Rattle.search_form.specs.declared.form.Form.{Form}
-use Rattle.search_form.specs.declared.form.Form.TheVariants.{Body, Query, Buckets, Bucket, NestedBucket, ReverseNestedBucket, TermsBucket, BucketCount, Metric, ValueCount, JoinBucket, Unknown}
+use Rattle.search_form.specs.declared.form.Form.TheVariants.{Query, Buckets, Bucket, NestedBucket, ReverseNestedBucket, TermsBucket, Metric, ValueCount, JoinBucket, Unknown}
 use Rattle.search_form.specs.declared.form.Presence.{Presence}
-use Rattle.search_form.specs.declared.form.Presence.TheVariants.{Choice, Required, Optional}
-use Rattle.search_form.specs.Table.{lines_of, is_name, apart_in}
-use Rattle.search_form.specs.Form.{line_at, form_at, line_among, is_choice, chosen, has, are_apart, suits, allows_inner, has_form, each_has_form}
-use Rattle.search_walk.specs.Fault.{below_fault, above_fault, relation_fault, at_root, join_fault, may_ask_if, field_fault, bucket_fault, bucket_fault_in, first_fault}
+use Rattle.search_form.specs.declared.form.Presence.TheVariants.{Choice, Optional}
+use Rattle.search_form.specs.Table.{is_name, apart_in}
+use Rattle.search_form.specs.Form.{form_at, line_among, is_choice, chosen, has, are_apart, suits, has_form, each_has_form}
+use Rattle.search_walk.specs.Fault.{below_fault, above_fault, relation_fault, at_root, may_ask_if, bucket_fault, bucket_fault_in, first_fault}
 use Rattle.search_walk.specs.Kinds.{may_ask}
 use Rattle.search_walk.specs.Names.{text_under, kind_named, nested_under, child_under, path_or_root, bucket_scope, bucket_scope_in, buckets_in}
 use Rattle.search_walk.specs.Node.{nodes_at, nodes_among, level_under}
 use Rattle.search_walk.specs.declared.refusal.SearchRefusal.TheVariants.{UnknownPath, PathOutOfScope, UnknownRelation}
-use Rattle.query_parser.specs.Buckets.{or_root, field_under, metric_form, join_form, form_in, form_of, agg_of, buckets_name, buckets_at, buckets_among, bucket_at, buckets_under, buckets_inside}
+use Rattle.query_parser.specs.Buckets.{or_root, field_under, join_form, form_in, form_of, buckets_name, buckets_at, buckets_among, bucket_at, buckets_under, buckets_inside}
 use Rattle.query_parser.proofs.Clauses.{at_is}
 use Rattle.query_parser.proofs.Faults.{none_of, clean_parts}
 use Rattle.query_parser.proofs.Formed.{IsChosen, suits_parts, chosen_formed, member_formed, member_clean, number_within, count_taken, one_is_boost}

@@ -1,9 +1,9 @@
 -- A query that is read and not refused is resolved in the scope in which it stands.
-use Rattle.std.proofs.Common.{◌≡◌, ℕ, ◌<◌, ◌≤◌, List as Seq, [], ◌∷◌, ◌++◌, Bool, true, false, ◌&&◌, Option, Some, None, refl, sym, ap, ◌∙◌, subst, bytes_eq, codes}
+use Rattle.std.proofs.Common.{◌≡◌, ℕ, ◌≤◌, List as Seq, [], ◌∷◌, Bool, true, false, ◌&&◌, Option, Some, None, refl, ap, ◌∙◌, subst, bytes_eq, codes}
 use Rattle.std.proofs.lemmas.Bool.{and_parts, false≢true}
 use Rattle.std.proofs.lemmas.Slice.Eq.{bytes_eq-Decides}
 use Rattle.std.specs.List.{AllByRecursion}
-use Rattle.tree_json.specs.Value.{JsonValue, null, bool, whole, text, list, object, Elements, no_elements, element, Members, no_members, member, member_of}
+use Rattle.tree_json.specs.Value.{JsonValue, null, bool, whole, text, list, object, Elements, no_elements, element, Members, no_members, member}
 use Rattle.mapping.specs.Mapping.{Mapping, scope_named, is_above}
 use Rattle.score_math.specs.declared.score.ScoreMode.TheVariants.{Avg, Zero}
 use Rattle.std.specs.Option.{option_or}
@@ -17,7 +17,7 @@ use Rattle.search_form.specs.declared.form.Presence.TheVariants.{Required, Optio
 use Rattle.search_form.specs.Form.{form_at, chosen, line_among, suits, suits_list, allows_inner, has_form, all_have_form, each_has_form}
 use Rattle.search_walk.specs.Fault.{below_fault, above_fault, relation_fault, ignores, leaf_fault, first_fault}
 use Rattle.search_walk.specs.Names.{text_under, flag_under, nested_under, child_under, parent_under, root_if}
-use Rattle.search_walk.specs.Node.{Node, nodes_at, nodes_in, nodes_among, level_under, deeper}
+use Rattle.search_walk.specs.Node.{Node, nodes_at, nodes_in, nodes_among, level_under}
 use Rattle.query_parser.specs.Queries.{least_of, clause_by, form_named, clause_at, clause_among, clause_named, clause_under, clauses_under, clauses_at, clauses_in}
 use Rattle.query_parser.specs.Readings.{natural_under, boost_in, mode_in}
 use Rattle.query_parser.proofs.Faults.{none_of, clean_parts}

@@ -1,5 +1,5 @@
 -- Of a list of parts none of which is refused, none of its pieces is, and no part.
-use Rattle.std.proofs.Common.{◌≡◌, List as Seq, [], ◌∷◌, ◌++◌, Option, Some, None, refl, ◌∙◌, ap}
+use Rattle.std.proofs.Common.{◌≡◌, List as Seq, [], ◌∷◌, ◌++◌, Option, Some, None, refl}
 use Rattle.std.specs.Option.{option_or}
 use Rattle.mapping.specs.Mapping.{Mapping}
 use Rattle.search_walk.specs.Fault.{fault_of, first_fault}

@@ -1,8 +1,8 @@
 -- What has its form has its parts in theirs: members, numbers, and the values that are asked for.
-use Rattle.std.proofs.Common.{◌≡◌, ℕ, zero, suc, ◌<◌, ◌≤◌, List as Seq, [], ◌∷◌, ℤ, pos, negsuc, Bool, true, false, ◌&&◌, not, Option, Some, None, is_some, refl, sym, ap, ◌∙◌, subst, arith, bytes_eq, codes, int_le, nat_le, if◌then◌else◌}
+use Rattle.std.proofs.Common.{◌≡◌, ℕ, ◌≤◌, List as Seq, ◌∷◌, pos, Bool, true, ◌&&◌, Option, Some, None, refl, sym, ap, ◌∙◌, subst, arith, bytes_eq, codes, int_le, nat_le, if◌then◌else◌}
 use Rattle.std.proofs.lemmas.Bool.{and_parts, leb-true, false≢true}
 use Rattle.std.proofs.lemmas.Slice.Eq.{bytes_eq-Decides}
-use Rattle.tree_json.specs.Value.{JsonValue, null, bool, whole, text, list, object, Elements, Members, no_members, member, member_of}
+use Rattle.tree_json.specs.Value.{JsonValue, null, bool, whole, text, list, object, Members, no_members, member, member_of}
 use Rattle.query_ast.specs.Resolved.{IsBoost, IsUpTo}
 use Rattle.search_form.specs.declared.form.Form.{Form}
 use Rattle.search_form.specs.declared.form.Form.TheVariants.{Boost, Positive, BucketCount, HasChild}
@@ -16,7 +16,7 @@ use Rattle.search_walk.specs.Node.{nodes_at, nodes_among, level_under}
 use Rattle.query_parser.specs.Queries.{least_of}
 use Rattle.query_parser.specs.Readings.{natural_of, natural_under, up_to, boost_in, boost_of}
 use Rattle.query_parser.proofs.Faults.{clean_parts}
-use Rattle.query_parser.proofs.Found.{by_test, by_option}
+use Rattle.query_parser.proofs.Found.{by_test}
 
 pub member_formed : (inner : Bool) (form : Form) (name : Seq ℕ) (ms : Members) (d : JsonValue) → each_has_form inner form ms ≡ true → member_of ms name ≡ Some d → has_form inner (form_at form name) d ≡ true
 member_formed inner form name no_members d h e = cc

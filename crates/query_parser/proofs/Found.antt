@@ -1,5 +1,5 @@
 -- What is found by its name is one of the mapping's, and a value that is taken is one of its kind.
-use Rattle.std.proofs.Common.{◌≡◌, ℕ, ◌+◌, ◌<◌, zero, suc, List as Seq, [], ◌∷◌, length, map, get_or, Bool, true, false, ℤ, ◌||◌, Option, Some, None, is_some, IsSome, IsTrue, option_map, option_and_then, refl, sym, ap, ◌∙◌, subst, arith, bytes_eq, cond}
+use Rattle.std.proofs.Common.{◌≡◌, ℕ, ◌+◌, ◌<◌, suc, List as Seq, [], ◌∷◌, length, map, get_or, Bool, true, false, ℤ, Option, Some, None, is_some, option_map, option_and_then, refl, ap, subst, arith, bytes_eq}
 use Rattle.std.proofs.lemmas.List.{length-map}
 use Rattle.std.specs.List.{list_any, position_from}
 use Rattle.tree_json.specs.Value.{JsonValue, null, bool, whole, text, list, object}

@@ -1,27 +1,27 @@
 -- The definitions of inner hits of a body that is read and not refused are resolved at the objects that own them.
 use Rattle.std.specs.Prelude.{⊤}
-use Rattle.std.proofs.Common.{◌≡◌, ℕ, zero, suc, ◌+◌, ◌<◌, ◌≤◌, ◌==◌, ◌⊎◌, inl, inr, List as Seq, [], ◌∷◌, ◌++◌, length, Bool, true, false, ◌&&◌, ◌||◌, not, pos, if◌then◌else◌, nat_lt, nat_le, Option, Some, None, is_some, refl, sym, ap, ◌∙◌, subst, arith, bytes_eq, codes}
-use Rattle.std.proofs.lemmas.Bool.{and_parts, and_from, false≢true, eqb-true, ltb-false, leb-true, leb-false}
+use Rattle.std.proofs.Common.{◌≡◌, ℕ, zero, suc, ◌+◌, ◌<◌, ◌≤◌, ◌==◌, ◌⊎◌, inl, inr, List as Seq, [], ◌∷◌, ◌++◌, length, Bool, true, false, ◌&&◌, ◌||◌, not, pos, nat_lt, nat_le, Option, Some, None, is_some, refl, sym, ap, ◌∙◌, subst, arith, bytes_eq, codes}
+use Rattle.std.proofs.lemmas.Bool.{and_parts, and_from, false≢true, eqb-true, ltb-false, leb-false}
 use Rattle.std.proofs.lemmas.Slice.Eq.{bytes_eq-Decides}
-use Rattle.std.specs.List.{AllByRecursion, list_any, list_all}
+use Rattle.std.specs.List.{list_any, list_all}
 use Rattle.tree_json.specs.Value.{JsonValue, null, bool, whole, text, list, object, Elements, no_elements, element, Members, no_members, member, member_of}
 use Rattle.mapping_body.specs.Names.{dot, lies_above, goes_on}
 use Rattle.mapping.specs.Mapping.{Mapping, scope_at, is_above, IsAbove}
-use Rattle.query_ast.specs.Definition.{Definition, definition, Definitions, definitions_of}
+use Rattle.query_ast.specs.Definition.{Definition, definitions_of}
 use Rattle.query_ast.specs.Inner.{Inner}
-use Rattle.query_ast.specs.Resolved.{IsResolved, AreSorts, IsBelow, IsChildRelation, IsParentRelation, IsInner, scope_over, IsInnerDefinition, AreInnerDefinitions}
+use Rattle.query_ast.specs.Resolved.{IsResolved, AreSorts, IsBelow, IsChildRelation, IsParentRelation, IsInner, scope_over, AreInnerDefinitions}
 use Rattle.query_ast.specs.declared.inner.InnerOver.{InnerOver}
 use Rattle.query_ast.specs.declared.inner.InnerOver.TheVariants.{Below, Children, Parents, Ignored}
 use Rattle.search_form.specs.declared.form.Form.{Form}
-use Rattle.search_form.specs.declared.form.Form.TheVariants.{Body, Query, Nested, ToChild, HasChild, HasParent, Sort, SortNested, InnerHits, Buckets, Bucket, NestedBucket, ReverseNestedBucket, JoinBucket, Queries, QueryList, ValueList, TextList, SearchAfter, Any, Unknown, Name, Whole, Flag}
+use Rattle.search_form.specs.declared.form.Form.TheVariants.{Body, Query, Nested, ToChild, HasChild, HasParent, Sort, SortNested, InnerHits, Buckets, Bucket, NestedBucket, ReverseNestedBucket, JoinBucket, Queries, Name, Whole, Flag}
 use Rattle.search_form.specs.declared.form.Presence.{Presence}
 use Rattle.search_form.specs.declared.form.Presence.TheVariants.{Optional}
-use Rattle.search_form.specs.Table.{lines_of, other_of, is_name, element_of, single_of}
-use Rattle.search_form.specs.Form.{form_at, line_in, line_among, chosen, has, suits, suits_by, suits_list, allows_inner, has_form, all_have_form, each_has_form}
+use Rattle.search_form.specs.Table.{lines_of, other_of, element_of, single_of}
+use Rattle.search_form.specs.Form.{form_at, line_in, line_among, chosen, has, suits, suits_list, allows_inner, has_form, all_have_form, each_has_form}
 use Rattle.search_walk.specs.Fault.{below_fault, ignores, first_fault}
 use Rattle.search_walk.specs.Names.{text_of, text_under, nested_scope, nested_under, child_under, parent_under, root_if, path_or_root, bucket_scope, bucket_scope_in, scope_inside}
 use Rattle.search_walk.specs.Node.{Node, node_here, nodes_at, nodes_in, nodes_among, level_under}
-use Rattle.search_walk.specs.Refusal.{natural_or, window, has_large_window, has_large_window_at}
+use Rattle.search_walk.specs.Refusal.{natural_or, window, has_large_window}
 use Rattle.search_walk.specs.declared.refusal.SearchRefusal.TheVariants.{PathOutOfScope}
 use Rattle.query_parser.specs.InnerHits.{below_if, children_if, parents_if, inner_of, held_by, owned_by, inner_at, inner_in, inner_among}
 use Rattle.query_parser.specs.Queries.{clause_under}

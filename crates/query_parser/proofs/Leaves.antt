@@ -1,26 +1,23 @@
 -- A leaf that is read and not refused asks its field what may be asked of its kind, by values of that kind.
-use Rattle.std.proofs.Common.{◌≡◌, ℕ, ◌<◌, List as Seq, [], ◌∷◌, ◌++◌, Bool, true, false, ◌&&◌, ◌||◌, Option, Some, None, is_some, IsTrue, option_map, refl, sym, ap, ◌∙◌, subst, codes}
+use Rattle.std.proofs.Common.{◌≡◌, ℕ, List as Seq, [], ◌∷◌, Bool, true, false, ◌&&◌, Option, Some, None, is_some, IsTrue, option_map, refl, codes}
 use Rattle.std.proofs.lemmas.Bool.{and_parts, false≢true}
 use Rattle.std.specs.List.{AllByRecursion}
 use Rattle.tree_json.specs.Value.{JsonValue, null, bool, whole, text, list, object, Elements, no_elements, element, Members, no_members, member, member_of}
 use Rattle.mapping_body.specs.declared.kind.Kind.{Kind}
 use Rattle.mapping_body.specs.declared.kind.Kind.TheVariants.{Text, Keyword, Long, Boolean, Date, Object, Nested as NestedKind, Join}
 use Rattle.mapping.specs.Mapping.{Mapping, field_named, kind_at}
-use Rattle.query_ast.specs.Clause.{Test, Leaf, on_field, parent_id, exists as exists_test}
-use Rattle.query_ast.specs.Resolved.{IsBoost, IsTestOf, IsLeaf, IsResolved}
-use Rattle.query_ast.specs.Uses.{Uses, uses_of, IsValueOf, IsEndOf}
+use Rattle.query_ast.specs.Clause.{on_field, parent_id, exists as exists_test}
+use Rattle.query_ast.specs.Resolved.{IsTestOf, IsLeaf, IsResolved}
+use Rattle.query_ast.specs.Uses.{uses_of, IsValueOf, IsEndOf}
 use Rattle.search_form.specs.declared.form.Form.{Form}
-use Rattle.search_form.specs.declared.form.Form.TheVariants.{MatchAll, MatchNone, Term, TermField, Terms, Range, RangeField, Exists, Prefix, PrefixField, Match, MatchField, MatchPhrase, PhraseField, Ids, ParentId, Boost, Operator, Value}
+use Rattle.search_form.specs.declared.form.Form.TheVariants.{MatchAll, Term, TermField, Terms, Range, RangeField, Exists, Prefix, PrefixField, Match, MatchField, MatchPhrase, PhraseField, Ids, ParentId, Boost, Operator, Value}
 use Rattle.search_form.specs.declared.form.Presence.TheVariants.{Optional, Required}
-use Rattle.search_form.specs.Form.{chosen, has, suits, allows_inner, has_form, each_has_form}
-use Rattle.search_walk.specs.Fault.{asked_value, asked_taken, all_taken, elements_taken, bound_taken, bounds_taken, fits_field, leaf_fault, bad_value_unless, relation_fault, ignores, first_fault}
-use Rattle.search_walk.specs.Kinds.{is_keyword, is_measured, is_valued, may_ask, is_taken}
-use Rattle.search_walk.specs.Names.{kind_named, child_named, child_under, text_under}
-use Rattle.search_walk.specs.Node.{nodes_at, nodes_among}
-use Rattle.search_walk.specs.declared.refusal.SearchRefusal.{SearchRefusal}
+use Rattle.search_form.specs.Form.{chosen, suits, allows_inner, has_form, each_has_form}
+use Rattle.search_walk.specs.Fault.{asked_value, asked_taken, all_taken, elements_taken, bound_taken, bounds_taken, fits_field, leaf_fault, bad_value_unless}
+use Rattle.search_walk.specs.Kinds.{is_valued, may_ask, is_taken}
+use Rattle.search_walk.specs.Names.{kind_named, child_under, text_under}
 use Rattle.query_parser.specs.Queries.{closed_of, end_of, range_of, test_of, field_leaf, leaf_named}
-use Rattle.query_parser.specs.Readings.{value_by, value_by_if, values_by, values_of, boost_of, boost_in}
-use Rattle.query_parser.proofs.Faults.{none_of}
+use Rattle.query_parser.specs.Readings.{value_by_if, values_by, values_of}
 use Rattle.query_parser.proofs.Formed.{suits_parts, first_required, boost_is, boost_under, one_is_boost}
 use Rattle.query_parser.proofs.Found.{by_option, field_found, child_found, value_taken}
 

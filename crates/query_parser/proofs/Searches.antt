@@ -1,37 +1,35 @@
 -- A body that is read and not refused is a search that is resolved under its mapping.
-use Rattle.std.proofs.Common.{◌≡◌, ℕ, ◌+◌, ◌<◌, ◌≤◌, ◌==◌, List as Seq, [], ◌∷◌, ◌++◌, length, Bool, true, false, ◌&&◌, ◌||◌, if◌then◌else◌, nat_lt, Option, Some, None, inl, refl, sym, ap, ◌∙◌, subst, arith, codes}
+use Rattle.std.proofs.Common.{◌≡◌, ℕ, ◌+◌, ◌<◌, ◌≤◌, ◌==◌, List as Seq, [], ◌∷◌, ◌++◌, length, Bool, true, false, if◌then◌else◌, nat_lt, Option, Some, None, inl, refl, sym, subst, arith, codes}
 use Rattle.std.proofs.lemmas.Bool.{and_parts, false≢true, eqb-true, ltb-false}
 use Rattle.std.specs.List.{list_any}
 use Rattle.std.specs.Option.{option_or}
-use Rattle.tree_json.specs.Value.{JsonValue, null, bool, whole, text, list, object, Elements, no_elements, element, Members, no_members, member, member_of}
+use Rattle.tree_json.specs.Value.{JsonValue, null, bool, whole, text, list, object, Elements, no_elements, element, Members, member_of}
 use Rattle.mapping.specs.Mapping.{Mapping, IsAbove}
-use Rattle.query_ast.specs.Definition.{Definition, definitions_of}
-use Rattle.query_ast.specs.Inner.{Inner}
-use Rattle.query_ast.specs.Resolved.{IsResolved, AreSorts, IsAfter, AreInnerDefinitions, AreAggDefinitions, IsSearch}
+use Rattle.query_ast.specs.Definition.{definitions_of}
+use Rattle.query_ast.specs.Resolved.{IsResolved, AreSorts, IsAfter, AreInnerDefinitions, IsSearch}
 use Rattle.search_form.specs.declared.form.Form.{Form}
 use Rattle.search_form.specs.declared.form.Form.TheVariants.{Body, Query, Sort, SortClause, SearchAfter, Buckets, Whole, Pit, Flag, True}
 use Rattle.search_form.specs.declared.form.Presence.{Presence}
 use Rattle.search_form.specs.declared.form.Presence.TheVariants.{Optional}
-use Rattle.search_form.specs.Table.{lines_of}
-use Rattle.search_form.specs.Form.{form_at, suits, suits_list, clause_count, elements_length, starts_at_0, after_fits, has_form, all_have_form, each_has_form, is_search_body}
-use Rattle.search_walk.specs.After.{sort_takes, keys_are_taken}
-use Rattle.search_walk.specs.Fault.{bad_value_unless, first_fault, sort_fault}
+use Rattle.search_form.specs.Form.{suits, suits_list, clause_count, elements_length, starts_at_0, after_fits, has_form, all_have_form, each_has_form, is_search_body}
+use Rattle.search_walk.specs.After.{keys_are_taken}
+use Rattle.search_walk.specs.Fault.{bad_value_unless, first_fault}
 use Rattle.search_walk.specs.Names.{buckets_in}
 use Rattle.search_walk.specs.Node.{Node, nodes_at, nodes_in, nodes_if, nodes_under, after_nodes, after_nodes_if, hit_nodes, bucket_nodes, nodes_of}
-use Rattle.search_walk.specs.Refusal.{window, natural_or, has_large_window, inner_names, has_twice, clause_count as counted_clauses, is_deep, has_many_terms, most_clauses, limit_refusal, first_refusal}
+use Rattle.search_walk.specs.Refusal.{window, has_large_window, inner_names, has_twice, clause_count as counted_clauses, is_deep, has_many_terms, most_clauses, limit_refusal, first_refusal}
 use Rattle.search_walk.specs.declared.refusal.SearchRefusal.{SearchRefusal}
 use Rattle.search_walk.specs.declared.refusal.SearchRefusal.TheVariants.{DuplicateInnerName, WindowTooLarge, InnerWindowTooLarge, TooManyClauses, QueryTooDeep, TooManyTerms}
-use Rattle.query_parser.specs.InnerHits.{inner_at, inner_if, inner_of_body}
+use Rattle.query_parser.specs.InnerHits.{inner_if}
 use Rattle.query_parser.specs.Queries.{clause_under}
 use Rattle.query_parser.specs.Readings.{number_under}
-use Rattle.query_parser.specs.Search.{keys_before, after_of, search_by, search_of}
+use Rattle.query_parser.specs.Search.{after_of, search_by, search_of}
 use Rattle.query_parser.specs.Sorts.{sorts_under}
 use Rattle.query_parser.proofs.AfterKeys.{AreFine, AreFineIf, keys_are}
 use Rattle.query_parser.proofs.BucketDefinitions.{body_buckets}
 use Rattle.query_parser.proofs.Clauses.{at_is}
 use Rattle.query_parser.proofs.Faults.{none_of, clean_parts}
 use Rattle.query_parser.proofs.Formed.{suits_parts, member_formed, one_is_boost}
-use Rattle.query_parser.proofs.Found.{by_test, by_option}
+use Rattle.query_parser.proofs.Found.{by_option}
 use Rattle.query_parser.proofs.InnerDefinitions.{Passes, passes_parts, no_more, at_inner, append_are}
 use Rattle.query_parser.proofs.Leaves.{fine_if}
 use Rattle.query_parser.proofs.Members.{clause_there, clause_absent}

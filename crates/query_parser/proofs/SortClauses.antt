@@ -1,39 +1,31 @@
 -- A sort that is read and not refused is resolved in the scope in which it stands, and so are the keys of `search_after`.
-use Rattle.std.proofs.Common.{◌≡◌, ℕ, ◌+◌, ◌<◌, ◌==◌, List as Seq, [], ◌∷◌, ◌++◌, length, Bool, true, false, ◌&&◌, ◌||◌, not, if◌then◌else◌, Option, Some, None, is_some, is_none, option_map, max, refl, sym, ap, ◌∙◌, subst, arith, bytes_eq, codes}
-use Rattle.std.proofs.lemmas.Bool.{and_parts, false≢true, eqb-true}
+use Rattle.std.proofs.Common.{◌≡◌, ℕ, List as Seq, Bool, true, false, ◌&&◌, ◌||◌, not, if◌then◌else◌, Option, Some, None, option_map, refl, sym, ap, ◌∙◌, subst, bytes_eq, codes}
+use Rattle.std.proofs.lemmas.Bool.{and_parts, false≢true}
 use Rattle.std.proofs.lemmas.Slice.Eq.{bytes_eq-Decides}
-use Rattle.std.specs.List.{AllByRecursion}
 use Rattle.tree_json.specs.Value.{JsonValue, null, bool, whole, text, list, object, Elements, no_elements, element, Members, no_members, member, member_of}
 use Rattle.mapping_body.specs.declared.kind.Kind.{Kind}
 use Rattle.mapping_body.specs.declared.kind.Kind.TheVariants.{Text, Keyword, Long, Boolean, Date, Object, Nested, Join}
 use Rattle.mapping.specs.Mapping.{Mapping, field_named, kind_at, is_above}
-use Rattle.query_ast.specs.Resolved.{IsFilter, IsChain, IsModeOf, IsMissingOf, IsSortKey, AreSorts, IsKeyOf, AreKeys, IsAfter}
-use Rattle.query_ast.specs.Uses.{uses_of, is_written, IsValueOf}
-use Rattle.query_ast.specs.declared.sort.Missing.{Missing}
-use Rattle.query_ast.specs.declared.sort.Missing.TheVariants.{Last, First, Given}
+use Rattle.query_ast.specs.Resolved.{IsFilter, IsChain, IsModeOf, IsMissingOf, IsSortKey, AreSorts}
+use Rattle.query_ast.specs.Uses.{uses_of, is_written}
+use Rattle.query_ast.specs.declared.sort.Missing.TheVariants.{Last, First}
 use Rattle.query_ast.specs.declared.sort.Sort.{Sort}
-use Rattle.query_ast.specs.declared.sort.SortKey.TheVariants.{Field}
-use Rattle.query_ast.specs.declared.sort.SortMode.{SortMode}
 use Rattle.query_ast.specs.declared.sort.SortMode.TheVariants.{Min, Max, Sum, Avg, Median}
 use Rattle.search_form.specs.declared.form.Form.{Form}
-use Rattle.search_form.specs.declared.form.Form.TheVariants.{Query, SortClause, ScoreSort, FieldSort, SortNested, Sort as SortForm}
+use Rattle.search_form.specs.declared.form.Form.TheVariants.{SortClause, ScoreSort, FieldSort, SortNested, Sort as SortForm}
 use Rattle.search_form.specs.declared.form.Presence.{Presence}
 use Rattle.search_form.specs.declared.form.Presence.TheVariants.{Choice}
-use Rattle.search_form.specs.Form.{line_at, form_at, chosen, suits, suits_list, allows_inner, has_form, all_have_form, each_has_form, elements_length, clause_count}
-use Rattle.search_walk.specs.After.{key_is_taken, is_keyword_if, has_texts, has_nulls, clause_takes, clauses_take, score_takes, sort_takes, keys_are_taken}
+use Rattle.search_form.specs.Form.{form_at, chosen, suits, suits_list, has_form, all_have_form, each_has_form}
 use Rattle.search_walk.specs.Fault.{below_fault, sort_fault, field_sort_fault, mode_fault, first_fault}
 use Rattle.search_walk.specs.Kinds.{is_keyword, is_sortable, is_taken}
 use Rattle.search_walk.specs.Names.{text_of, text_under, nested_under, kind_named}
-use Rattle.search_walk.specs.Node.{Node, nodes_at, nodes_in, nodes_among, level_under}
+use Rattle.search_walk.specs.Node.{nodes_at, nodes_in, nodes_among, level_under}
 use Rattle.search_walk.specs.Sorts.{sort_name, sort_part, part_if, part_of, name_if, is_score, given_missing, is_summing}
-use Rattle.search_walk.specs.declared.refusal.SearchRefusal.{SearchRefusal}
 use Rattle.search_walk.specs.declared.refusal.SearchRefusal.TheVariants.{PathOutOfScope, SortFieldUnmapped, BadSort}
-use Rattle.query_parser.specs.Readings.{kind_of_field}
-use Rattle.query_parser.specs.Search.{key_of, keys_before, after_of}
-use Rattle.query_parser.specs.Sorts.{filter_if, with_step, chain_at, chain_under, chain_if, descends, mode_named, mode_of, missing_by, missing_word, missing_of, by_score_in, field_sort, sort_at, sorts_in, sorts_of, sorts_under}
+use Rattle.query_parser.specs.Sorts.{filter_if, with_step, chain_at, chain_under, chain_if, descends, mode_named, missing_by, missing_word, missing_of, by_score_in, field_sort, sort_at, sorts_in, sorts_of, sorts_under}
 use Rattle.query_parser.proofs.Clauses.{at_is}
 use Rattle.query_parser.proofs.Faults.{none_of, clean_parts}
-use Rattle.query_parser.proofs.Formed.{IsChosen, member_formed, member_clean, chosen_formed}
+use Rattle.query_parser.proofs.Formed.{member_formed, member_clean, chosen_formed}
 use Rattle.query_parser.proofs.Found.{by_test, by_option, nested_found, field_found, value_taken}
 
 pub by_choice : {A : Type 0} (P : A → Type 0) (t : Bool) (x y : A) → (t ≡ true → P x) → (t ≡ false → P y) → P (if t then x else y)
