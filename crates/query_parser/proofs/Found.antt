@@ -3,8 +3,8 @@ use Rattle.std.proofs.Common.{◌≡◌, ℕ, ◌+◌, ◌<◌, suc, List as Seq
 use Rattle.std.proofs.lemmas.List.{length-map}
 use Rattle.std.specs.List.{list_any, position_from}
 use Rattle.tree_json.specs.Value.{JsonValue, null, bool, whole, text, list, object}
-use Rattle.mapping_body.specs.Bodies.{is_number}
-use Rattle.mapping_body.specs.Relations.{Relation}
+use Rattle.mapping_growth.specs.Bodies.{is_number}
+use Rattle.mapping_growth.specs.Relations.{Relation}
 use Rattle.mapping_body.specs.declared.kind.Kind.{Kind}
 use Rattle.mapping_body.specs.declared.kind.Kind.TheVariants.{Text, Keyword, Long, Boolean, Date, Object, Nested, Join}
 use Rattle.mapping.specs.Mapping.{Mapping, field_named, scope_named, relation_named, relation_at, no_relation, is_parent}
