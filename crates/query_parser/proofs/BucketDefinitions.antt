@@ -239,20 +239,43 @@ module _ (m : Mapping) where
       → IsGood s (bucket_scope_in m s c.1 c.2) (form_in m (Some s) (bucket_scope_in m s c.1 c.2) c.0 c.1 c.2) (definitions_of (buckets_under m inside (buckets_name ms) ms))
   chosen_is inner s level ms c inside apart is f e =
       subst (BucketIs inner s level c.0 inside_it c.2) is.line
-      (each_choice (BucketIs inner s level c.0 inside_it c.2) c.0 bucket_lines (Optional, Unknown)
-      ((λ same. filter_is inner s level c.0 inside_it c.2),
-      ((λ same. nested_is inner s level c.0 inside_it c.2),
-      ((λ same. reverse_is inner s level c.0 inside_it c.2),
-      ((λ same. terms_is inner s level c.0 inside_it c.2),
-      ((λ same. metric_is inner s level c.0 inside_it c.2 (alone (pairs.1.0 (there_is ms c (codes "min") is.there same)) (pairs.1.1.1.1.1.0 (there_is ms c (codes "min") is.there same)))),
-      ((λ same. metric_is inner s level c.0 inside_it c.2 (alone (pairs.1.1.0 (there_is ms c (codes "max") is.there same)) (pairs.1.1.1.1.1.1.0 (there_is ms c (codes "max") is.there same)))),
-      ((λ same. metric_is inner s level c.0 inside_it c.2 (alone (pairs.1.1.1.0 (there_is ms c (codes "sum") is.there same)) (pairs.1.1.1.1.1.1.1.0 (there_is ms c (codes "sum") is.there same)))),
-      ((λ same. count_is inner s level c.0 inside_it c.2 (alone (pairs.1.1.1.1.0 (there_is ms c (codes "value_count") is.there same)) (pairs.1.1.1.1.1.1.1.1.0 (there_is ms c (codes "value_count") is.there same)))),
-      ((λ same. join_is inner s level c.0 inside_it c.2),
-      ((λ same. join_is inner s level c.0 inside_it c.2),
-      ((λ same. not_chosen inner s level c.0 inside_it c.2 Buckets),
-      ((λ same. not_chosen inner s level c.0 inside_it c.2 Buckets),
-      tt))))))))))))
+      (each_choice (BucketIs inner s level c.0 inside_it c.2) c.0 bucket_lines (Optional, Unknown) (
+        (λ same. filter_is inner s level c.0 inside_it c.2),
+        (
+          (λ same. nested_is inner s level c.0 inside_it c.2),
+          (
+            (λ same. reverse_is inner s level c.0 inside_it c.2),
+            (
+              (λ same. terms_is inner s level c.0 inside_it c.2),
+              (
+                (λ same. metric_is inner s level c.0 inside_it c.2 (alone (pairs.1.0 (there_is ms c (codes "min") is.there same)) (pairs.1.1.1.1.1.0 (there_is ms c (codes "min") is.there same)))),
+                (
+                  (λ same. metric_is inner s level c.0 inside_it c.2 (alone (pairs.1.1.0 (there_is ms c (codes "max") is.there same)) (pairs.1.1.1.1.1.1.0 (there_is ms c (codes "max") is.there same)))),
+                  (
+                    (λ same. metric_is inner s level c.0 inside_it c.2 (alone (pairs.1.1.1.0 (there_is ms c (codes "sum") is.there same)) (pairs.1.1.1.1.1.1.1.0 (there_is ms c (codes "sum") is.there same)))),
+                    (
+                      (λ same. count_is inner s level c.0 inside_it c.2 (alone (pairs.1.1.1.1.0 (there_is ms c (codes "value_count") is.there same)) (pairs.1.1.1.1.1.1.1.1.0 (there_is ms c (codes "value_count") is.there same)))),
+                      (
+                        (λ same. join_is inner s level c.0 inside_it c.2),
+                        (
+                          (λ same. join_is inner s level c.0 inside_it c.2),
+                          (
+                            (λ same. not_chosen inner s level c.0 inside_it c.2 Buckets),
+                            (
+                              (λ same. not_chosen inner s level c.0 inside_it c.2 Buckets),
+                              tt,
+                            ),
+                          ),
+                        ),
+                      ),
+                    ),
+                  ),
+                ),
+              ),
+            ),
+          ),
+        ),
+      )
       (not_chosen inner s level c.0 inside_it c.2 Unknown))
       refl is.formed f e
     where
@@ -292,10 +315,11 @@ module _ (m : Mapping) where
   object_is inner s level name ms under whole_object h e =
       let parts = none_of (bucket_fault m s (chosen Bucket ms)) (first_fault m (nodes_among m (bucket_scope m s (chosen Bucket ms)) level Bucket ms)) e in
       let good = bucket_good inner s level ms whole_object h parts.0 parts.1 in
-      let form : AggForm = form_of m (Some s) (bucket_scope m s (chosen Bucket ms)) (chosen Bucket ms) in
-      (good.form_is,
-      subst (λ o. AreAggDefinitions m (scope_of_form s form) (definitions_of (buckets_under m o (buckets_name ms) ms))) (sym good.scope_is)
-      (under (scope_of_form s form) (subst (λ o. first_fault m (nodes_among m o level Bucket ms) ≡ None) good.scope_is parts.1)))
+      let form : AggForm = form_of m (Some s) (bucket_scope m s (chosen Bucket ms)) (chosen Bucket ms) in (
+        good.form_is,
+        subst (λ o. AreAggDefinitions m (scope_of_form s form) (definitions_of (buckets_under m o (buckets_name ms) ms))) (sym good.scope_is)
+            (under (scope_of_form s form) (subst (λ o. first_fault m (nodes_among m o level Bucket ms) ≡ None) good.scope_is parts.1)),
+      )
 
   mutual
     pub buckets_are : (inner : Bool) (s level : ℕ) (v : JsonValue) → has_form inner Buckets v ≡ true → first_fault m (nodes_at m (Some s) level Buckets v) ≡ None → AreAggDefinitions m s (definitions_of (buckets_at m (Some s) v))
@@ -311,10 +335,11 @@ module _ (m : Mapping) where
     among_are inner s level (member k v ms) h e =
         let formed = and_parts (has_form inner (form_at Buckets k) v) (each_has_form inner Buckets ms) h in
         let clean = clean_parts m (nodes_at m (Some s) (level_under Buckets (form_at Buckets k) level) (form_at Buckets k) v) (nodes_among m (Some s) level Buckets ms) e in
-        let named : form_at Buckets k ≡ Bucket = bucket_named inner k v formed.0 in
-        (bucket_is inner s (level_under Buckets (form_at Buckets k) level) k v (subst (λ f. has_form inner f v ≡ true) named formed.0)
-        (subst (λ f. first_fault m (nodes_at m (Some s) (level_under Buckets (form_at Buckets k) level) f v) ≡ None) named clean.0),
-        among_are inner s level ms formed.1 clean.1)
+        let named : form_at Buckets k ≡ Bucket = bucket_named inner k v formed.0 in (
+          bucket_is inner s (level_under Buckets (form_at Buckets k) level) k v (subst (λ f. has_form inner f v ≡ true) named formed.0)
+              (subst (λ f. first_fault m (nodes_at m (Some s) (level_under Buckets (form_at Buckets k) level) f v) ≡ None) named clean.0),
+          among_are inner s level ms formed.1 clean.1,
+        )
 
     bucket_is : (inner : Bool) (s level : ℕ) (name : Seq ℕ) (v : JsonValue) → has_form inner Bucket v ≡ true → first_fault m (nodes_at m (Some s) level Bucket v) ≡ None → IsAggDefinition m s (bucket_at m (Some s) name v)
     bucket_is inner s level name (object ms) h e =

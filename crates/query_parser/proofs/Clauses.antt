@@ -68,10 +68,13 @@ module _ (m : Mapping) where
     where
       go : (o : Option ℕ) → nested_under m ms ≡ o → below_fault m s (ignores ms) o ≡ None → Clean (nodes_among m o level Nested ms) → IsResolved m s (nested o (clause_under m o (codes "query") ms) (mode_in Avg ms))
       go None is f clean = tt
-      go (Some p) is f clean =
-          ((by_test (is_above m s p) (λ held. held) (λ failed. let none : Some PathOutOfScope ≡ None = rw failed at f in cc),
-          nested_found m (text_under ms (codes "path")) p is),
-          under p clean)
+      go (Some p) is f clean = (
+        (
+          by_test (is_above m s p) (λ held. held) (λ failed. let none : Some PathOutOfScope ≡ None = rw failed at f in cc),
+          nested_found m (text_under ms (codes "path")) p is,
+        ),
+        under p clean,
+      )
 
   to_child_is : (s level : ℕ) (ms : Members) → ((p : ℕ) → Clean (nodes_among m (Some p) level ToChild ms) → IsResolved m p (clause_under m (Some p) (codes "query") ms))
       → Clean (nodes_at m (Some s) level ToChild (object ms)) → IsResolved m s (clause_named m (Some s) ToChild (object ms))
@@ -82,9 +85,10 @@ module _ (m : Mapping) where
     where
       go : (o : Option ℕ) → above_fault m s o ≡ None → Clean (nodes_among m o level ToChild ms) → IsResolved m s (to_child o (clause_under m o (codes "query") ms))
       go None f clean = tt
-      go (Some p) f clean =
-          (by_test (is_above m p s) (λ held. held) (λ failed. let none : Some PathOutOfScope ≡ None = rw failed at f in cc),
-          under p clean)
+      go (Some p) f clean = (
+        by_test (is_above m p s) (λ held. held) (λ failed. let none : Some PathOutOfScope ≡ None = rw failed at f in cc),
+        under p clean,
+      )
 
   has_child_is : (inner : Bool) (s level : ℕ) (ms : Members) → (Clean (nodes_among m (Some 0) level HasChild ms) → IsResolved m 0 (clause_under m (Some 0) (codes "query") ms))
       → has_form inner HasChild (object ms) ≡ true → Clean (nodes_at m (Some s) level HasChild (object ms)) → IsResolved m s (clause_named m (Some s) HasChild (object ms))
@@ -131,6 +135,7 @@ module _ (m : Mapping) where
 
   mutual
     unfolding clause_by form_named
+
     pub at_is : (inner : Bool) (s level : ℕ) (v : JsonValue) → has_form inner Query v ≡ true → Clean (nodes_at m (Some s) level Query v) → IsResolved m s (clause_at m (Some s) v)
     at_is inner s level (object ms) h e = among_is inner s level ms (inside inner Query ms h) e
     at_is inner s level null h e = (tt, one_is_boost)
@@ -153,29 +158,66 @@ module _ (m : Mapping) where
     named_is inner s level (text t) k h e = (tt, one_is_boost)
     named_is inner s level (list ds) k h e = (tt, one_is_boost)
     named_is inner s level (object ms) k h e =
-        each_line (NamedIs inner s level ms) k query_lines (Optional, Unknown)
-        ((λ f c. match_all_is m s level inner ms (inside inner MatchAll ms f)),
-        ((λ f c. (tt, one_is_boost)),
-        ((λ f c. term_is m s level inner ms (inside inner Term ms f) (leaf_clean Term level s ms c)),
-        ((λ f c. terms_is m s level inner ms (inside inner Terms ms f) (leaf_clean Terms level s ms c)),
-        ((λ f c. range_is m s level inner ms (inside inner Range ms f) (leaf_clean Range level s ms c)),
-        ((λ f c. exists_is m s level inner ms (inside inner Exists ms f)),
-        ((λ f c. prefix_is m s level inner ms (inside inner Prefix ms f) (leaf_clean Prefix level s ms c)),
-        ((λ f c. match_is m s level inner ms (inside inner Match ms f) (leaf_clean Match level s ms c)),
-        ((λ f c. phrase_is m s level inner ms (inside inner MatchPhrase ms f) (leaf_clean MatchPhrase level s ms c)),
-        ((λ f c. ids_is m s level inner ms (inside inner Ids ms f)),
-        ((λ f c. (list_under_is inner s level BoolQuery (codes "must") ms refl (inside inner BoolQuery ms f) c,
-            list_under_is inner s level BoolQuery (codes "filter") ms refl (inside inner BoolQuery ms f) c,
-            list_under_is inner s level BoolQuery (codes "should") ms refl (inside inner BoolQuery ms f) c,
-            list_under_is inner s level BoolQuery (codes "must_not") ms refl (inside inner BoolQuery ms f) c)),
-        ((λ f c. (under_is inner s level ConstantScore (codes "filter") ms refl (inside inner ConstantScore ms f) c, boost_is inner ConstantScore ms refl (inside inner ConstantScore ms f))),
-        ((λ f c. dis_under_is inner s level ms (inside inner DisMax ms f) c),
-        ((λ f c. nested_is s level ms (λ p d. under_is inner p level Nested (codes "query") ms refl (inside inner Nested ms f) d) c),
-        ((λ f c. to_child_is s level ms (λ p d. under_is false p level ToChild (codes "query") ms refl (inside inner ToChild ms f) d) c),
-        ((λ f c. has_child_is inner s level ms (λ d. under_is (allows_inner inner HasChild ms) 0 level HasChild (codes "query") ms refl (inside inner HasChild ms f) d) f c),
-        ((λ f c. has_parent_is (allows_inner inner HasParent ms) s level ms (λ d. under_is (allows_inner inner HasParent ms) 0 level HasParent (codes "query") ms refl (inside inner HasParent ms f) d) (inside inner HasParent ms f) c),
-        ((λ f c. parent_id_is m s level inner ms (inside inner ParentId ms f)),
-        tt))))))))))))))))))
+        each_line (NamedIs inner s level ms) k query_lines (Optional, Unknown) (
+          (λ f c. match_all_is m s level inner ms (inside inner MatchAll ms f)),
+          (
+            (λ f c. (tt, one_is_boost)),
+            (
+              (λ f c. term_is m s level inner ms (inside inner Term ms f) (leaf_clean Term level s ms c)),
+              (
+                (λ f c. terms_is m s level inner ms (inside inner Terms ms f) (leaf_clean Terms level s ms c)),
+                (
+                  (λ f c. range_is m s level inner ms (inside inner Range ms f) (leaf_clean Range level s ms c)),
+                  (
+                    (λ f c. exists_is m s level inner ms (inside inner Exists ms f)),
+                    (
+                      (λ f c. prefix_is m s level inner ms (inside inner Prefix ms f) (leaf_clean Prefix level s ms c)),
+                      (
+                        (λ f c. match_is m s level inner ms (inside inner Match ms f) (leaf_clean Match level s ms c)),
+                        (
+                          (λ f c. phrase_is m s level inner ms (inside inner MatchPhrase ms f) (leaf_clean MatchPhrase level s ms c)),
+                          (
+                            (λ f c. ids_is m s level inner ms (inside inner Ids ms f)),
+                            (
+                              (λ f c. (
+                                list_under_is inner s level BoolQuery (codes "must") ms refl (inside inner BoolQuery ms f) c,
+                                list_under_is inner s level BoolQuery (codes "filter") ms refl (inside inner BoolQuery ms f) c,
+                                list_under_is inner s level BoolQuery (codes "should") ms refl (inside inner BoolQuery ms f) c,
+                                list_under_is inner s level BoolQuery (codes "must_not") ms refl (inside inner BoolQuery ms f) c,
+                              )),
+                              (
+                                (λ f c. (under_is inner s level ConstantScore (codes "filter") ms refl (inside inner ConstantScore ms f) c, boost_is inner ConstantScore ms refl (inside inner ConstantScore ms f))),
+                                (
+                                  (λ f c. dis_under_is inner s level ms (inside inner DisMax ms f) c),
+                                  (
+                                    (λ f c. nested_is s level ms (λ p d. under_is inner p level Nested (codes "query") ms refl (inside inner Nested ms f) d) c),
+                                    (
+                                      (λ f c. to_child_is s level ms (λ p d. under_is false p level ToChild (codes "query") ms refl (inside inner ToChild ms f) d) c),
+                                      (
+                                        (λ f c. has_child_is inner s level ms (λ d. under_is (allows_inner inner HasChild ms) 0 level HasChild (codes "query") ms refl (inside inner HasChild ms f) d) f c),
+                                        (
+                                          (λ f c. has_parent_is (allows_inner inner HasParent ms) s level ms (λ d. under_is (allows_inner inner HasParent ms) 0 level HasParent (codes "query") ms refl (inside inner HasParent ms f) d) (inside inner HasParent ms f) c),
+                                          (
+                                            (λ f c. parent_id_is m s level inner ms (inside inner ParentId ms f)),
+                                            tt,
+                                          ),
+                                        ),
+                                      ),
+                                    ),
+                                  ),
+                                ),
+                              ),
+                            ),
+                          ),
+                        ),
+                      ),
+                    ),
+                  ),
+                ),
+              ),
+            ),
+          ),
+        )
         (λ f c. absurd (false≢true f))
         h e
 

@@ -159,9 +159,10 @@ most_at most least there h = tt
 
 pub children_are : (inner : Bool) (ms : Members) → each_has_form inner HasChild ms ≡ true → children_fit (member_of ms (codes "min_children")) (member_of ms (codes "max_children")) ≡ true
     → (1 ≤ least_of (natural_under ms (codes "min_children"))) × IsUpTo (least_of (natural_under ms (codes "min_children"))) (natural_under ms (codes "max_children"))
-children_are inner ms h fit =
-    (least_at (member_of ms (codes "min_children")) (λ d e. positive_taken inner d (member_formed inner HasChild (codes "min_children") ms d h e)),
-    most_at (member_of ms (codes "max_children")) (member_of ms (codes "min_children")) (λ d e. positive_taken inner d (member_formed inner HasChild (codes "max_children") ms d h e)) fit)
+children_are inner ms h fit = (
+  least_at (member_of ms (codes "min_children")) (λ d e. positive_taken inner d (member_formed inner HasChild (codes "min_children") ms d h e)),
+  most_at (member_of ms (codes "max_children")) (member_of ms (codes "min_children")) (λ d e. positive_taken inner d (member_formed inner HasChild (codes "max_children") ms d h e)) fit,
+)
 
 -- ---- parts that aren't refused
 

@@ -292,7 +292,7 @@ module _ (m : Mapping) (root : (n : ℕ) → 0 < n → n < length m.scopes → I
       sorted : (q : ℕ) → first_fault m (nodes_among m (Some q) level form ms) ≡ None → each_has_form inner InnerHits hits ≡ true → AreSorts m q (sorts_under m (Some q) hits)
       sorted q clean f =
           let hit_clean = subst (λ g. first_fault m (nodes_at m (Some q) (level_under form (form_at form (codes "inner_hits")) level) g (object hits)) ≡ None) line
-              (member_clean m (Some q) level form (codes "inner_hits") ms (object hits) clean e) in
+          (member_clean m (Some q) level form (codes "inner_hits") ms (object hits) clean e) in
           sorts_under_are m inner q (level_under form (form_at form (codes "inner_hits")) level) InnerHits hits refl f hit_clean
 
       asked : (q : ℕ) → first_fault m (nodes_among m (Some q) level form ms) ≡ None → IsResolved m q (clause_under m (Some q) (codes "query") ms)
@@ -308,7 +308,7 @@ module _ (m : Mapping) (root : (n : ℕ) → 0 < n → n < length m.scopes → I
       → number_under 100 0 hits (codes "from") + number_under 100 3 hits (codes "size") ≤ 100
   hits_fit inner s level form inside ms hits line p e =
       let small = subst (λ g. list_any has_large_window (nodes_at m inside (level_under form (form_at form (codes "inner_hits")) level) g (object hits)) ≡ false) line
-          (member_passes m inside level form (codes "inner_hits") ms (object hits) p e) in
+      (member_passes m inside level form (codes "inner_hits") ms (object hits) p e) in
       let node = (either_false (nat_lt 100 (window 3 hits)) (list_any has_large_window (nodes_among m (scope_inside m inside InnerHits hits) (level_under form (form_at form (codes "inner_hits")) level) InnerHits hits)) small) in
       let total : window 3 hits ≤ 100 = ltb-false 100 (window 3 hits) node in
       omega (arith, total, no_more 100 0 (member_of hits (codes "from")) (omega arith), no_more 100 3 (member_of hits (codes "size")) (omega arith))

@@ -141,10 +141,11 @@ module _ (m : Mapping) (f : ℕ) where
       go (object ms) ranged h =
           let a = and_parts (bound_taken kind (member_of ms (codes "gt"))) (bound_taken kind (member_of ms (codes "gte")) && (bound_taken kind (member_of ms (codes "lt")) && bound_taken kind (member_of ms (codes "lte")))) h in
           let b = and_parts (bound_taken kind (member_of ms (codes "gte"))) (bound_taken kind (member_of ms (codes "lt")) && bound_taken kind (member_of ms (codes "lte"))) a.1 in
-          let c = and_parts (bound_taken kind (member_of ms (codes "lt"))) (bound_taken kind (member_of ms (codes "lte"))) b.1 in
-          (ranged,
-          end_is kind (member_of ms (codes "gt")) (member_of ms (codes "gte")) a.0 b.0,
-          end_is kind (member_of ms (codes "lt")) (member_of ms (codes "lte")) c.0 c.1)
+          let c = and_parts (bound_taken kind (member_of ms (codes "lt"))) (bound_taken kind (member_of ms (codes "lte"))) b.1 in (
+            ranged,
+            end_is kind (member_of ms (codes "gt")) (member_of ms (codes "gte")) a.0 b.0,
+            end_is kind (member_of ms (codes "lt")) (member_of ms (codes "lte")) c.0 c.1,
+          )
       go null ranged h = (ranged, tt, tt)
       go (bool b) ranged h = (ranged, tt, tt)
       go (whole z) ranged h = (ranged, tt, tt)
@@ -185,14 +186,16 @@ module _ (m : Mapping) (s level : ℕ) (inner : Bool) where
   ids_is ms h = (tt, boost_is inner Ids ms refl h)
 
   pub exists_is : (ms : Members) → each_has_form inner Exists ms ≡ true → IsResolved m s (leaf_named m (Some s) Exists ms)
-  exists_is ms h =
-      (by_option (λ o. IsLeaf m (on_field o exists_test)) (field_named m (text_under ms (codes "field"))) (λ is. tt) (λ f is. (field_found m (text_under ms (codes "field")) f is, tt)),
-      boost_is inner Exists ms refl h)
+  exists_is ms h = (
+    by_option (λ o. IsLeaf m (on_field o exists_test)) (field_named m (text_under ms (codes "field"))) (λ is. tt) (λ f is. (field_found m (text_under ms (codes "field")) f is, tt)),
+    boost_is inner Exists ms refl h,
+  )
 
   pub parent_id_is : (ms : Members) → each_has_form inner ParentId ms ≡ true → IsResolved m s (leaf_named m (Some s) ParentId ms)
-  parent_id_is ms h =
-      (by_option (λ o. IsLeaf m (parent_id o (text_under ms (codes "id")))) (child_under m ms) (λ is. tt) (λ r is. child_found m (text_under ms (codes "type")) r is),
-      boost_is inner ParentId ms refl h)
+  parent_id_is ms h = (
+    by_option (λ o. IsLeaf m (parent_id o (text_under ms (codes "id")))) (child_under m ms) (λ is. tt) (λ r is. child_found m (text_under ms (codes "type")) r is),
+    boost_is inner ParentId ms refl h,
+  )
 
   pub term_is : (ms : Members) → each_has_form inner Term ms ≡ true → leaf_fault m Term (chosen Term ms) ≡ None → IsResolved m s (leaf_named m (Some s) Term ms)
   term_is no_members h e = (tt, one_is_boost)

@@ -124,8 +124,8 @@ module _ (m : Mapping) where
       go (list ds) is =
           let judged = subst (λ o. first_fault m (after_nodes_if body o) ≡ None) is e in
           let taken : keys_are_taken m (member_of body (codes "sort")) (member_of body (codes "search_after")) ≡ true =
-              fine_if (keys_are_taken m (member_of body (codes "sort")) (member_of body (codes "search_after")))
-              (none_of (bad_value_unless (keys_are_taken m (member_of body (codes "sort")) (member_of body (codes "search_after")))) None judged).0 in
+          fine_if (keys_are_taken m (member_of body (codes "sort")) (member_of body (codes "search_after")))
+          (none_of (bad_value_unless (keys_are_taken m (member_of body (codes "sort")) (member_of body (codes "search_after")))) None judged).0 in
           let fits = subst (λ o. after_fits o (member_of body (codes "sort")) (member_of body (codes "from")) ≡ true) is fit in
           let long = and_parts (elements_length ds == clause_count (member_of body (codes "sort")) + 1) (starts_at_0 (member_of body (codes "from"))) fits in
           keys_are m (member_of body (codes "sort")) ds fine (subst (λ o. keys_are_taken m (member_of body (codes "sort")) o ≡ true) is taken)

@@ -59,11 +59,14 @@ module _ (m : Mapping) where
     where
       go : (o : Option ℕ) → nested_under m ms ≡ o → below_fault m s false o ≡ None → first_fault m (nodes_among m o level SortNested ms) ≡ None → IsChain m s (with_step m o ms (chain_under m o ms))
       go None is f clean = tt
-      go (Some p) is f clean =
-          ((by_test (is_above m s p) (λ held. held) (λ failed. let none : Some PathOutOfScope ≡ None = rw failed at f in cc),
-          nested_found m (text_under ms (codes "path")) p is),
-          filter_is inner p level ms h clean,
-          under p clean)
+      go (Some p) is f clean = (
+        (
+          by_test (is_above m s p) (λ held. held) (λ failed. let none : Some PathOutOfScope ≡ None = rw failed at f in cc),
+          nested_found m (text_under ms (codes "path")) p is,
+        ),
+        filter_is inner p level ms h clean,
+        under p clean,
+      )
 
   mutual
     pub chain_is : (inner : Bool) (s level : ℕ) (v : JsonValue) → has_form inner SortNested v ≡ true → first_fault m (nodes_at m (Some s) level SortNested v) ≡ None → IsChain m s (chain_at m (Some s) v)
@@ -117,7 +120,7 @@ module _ (m : Mapping) where
       (λ held.
       let unsaid : mode_fault (kind_at m n) v ≡ None = rw held at f in
       let parts = parts_false (is_keyword (kind_at m n) && is_summing (text_of (sort_part v (codes "mode")))) (is_taken (kind_at m n) (given_missing v))
-          (none_if ((is_keyword (kind_at m n) && is_summing (text_of (sort_part v (codes "mode")))) || not (is_taken (kind_at m n) (given_missing v))) unsaid) in
+      (none_if ((is_keyword (kind_at m n) && is_summing (text_of (sort_part v (codes "mode")))) || not (is_taken (kind_at m n) (given_missing v))) unsaid) in
       record { field = n; named = is; sortable = held; mode = parts.0; missing = parts.1 })
       (λ failed. let none : Some SortFieldUnmapped ≡ None = rw failed at f in cc))
       refl fault
@@ -195,10 +198,13 @@ module _ (m : Mapping) where
   field_sort_is : (s : ℕ) (v : JsonValue) → is_score (sort_name v) ≡ false → sort_fault m v ≡ None → IsChain m s (chain_if m (Some s) (sort_part v (codes "nested"))) → IsSortOf s (field_sort m (Some s) v (field_named m (sort_name v)))
   field_sort_is s v apart e chain =
       let is = field_sorts v apart e in
-      rw is.named
-      (field_found m (sort_name v) is.field is.named, sorted_is (kind_at m is.field) is.sortable,
-      mode_is (kind_at m is.field) (descends v) (text_of (sort_part v (codes "mode"))) is.sortable is.mode,
-      missing_is (kind_at m is.field) v is.missing, chain)
+      rw is.named (
+        field_found m (sort_name v) is.field is.named,
+        sorted_is (kind_at m is.field) is.sortable,
+        mode_is (kind_at m is.field) (descends v) (text_of (sort_part v (codes "mode"))) is.sortable is.mode,
+        missing_is (kind_at m is.field) v is.missing,
+        chain,
+      )
 
   sort_is : (s : ℕ) (v : JsonValue) → sort_fault m v ≡ None → (is_score (sort_name v) ≡ false → IsChain m s (chain_if m (Some s) (sort_part v (codes "nested")))) → IsSortOf s (sort_at m (Some s) v)
   sort_is s v e chain =
