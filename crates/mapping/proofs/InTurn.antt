@@ -8,11 +8,11 @@ use Rattle.std.specs.List.{AllByRecursion, list_all, position_from}
 use Rattle.std.specs.List.Sorted.{IsStrictlySortedBy}
 use Rattle.tree_json.specs.Value.{JsonValue}
 use Rattle.mapping_body.specs.Body.{Property, is_body, properties_of}
-use Rattle.mapping_body.specs.Fields.{Draft, draft_of, draft_paths, drafts_added, drafts_from, drafts_of}
+use Rattle.mapping_growth.specs.Fields.{Draft, draft_of, draft_paths, drafts_added, drafts_from, drafts_of}
 use Rattle.mapping_body.specs.Names.{AreAscending, in_byte_order, is_among, lies_above, put, put_all}
 use Rattle.mapping_body.proofs.Ascending.{not_back, not_itself}
 use Rattle.mapping_body.proofs.Closed.{IsClosed, closed_body, has_name}
-use Rattle.mapping_body.proofs.Distinct.{AreOutside, added_ascend, added_outside}
+use Rattle.mapping_growth.proofs.Distinct.{AreOutside, added_ascend, added_outside}
 use Rattle.mapping_body.proofs.Merges.{same_name}
 use Rattle.mapping_body.proofs.Ranks.{AllAfter, by_ordering, compared}
 use Rattle.mapping_body.proofs.Walks.{split}

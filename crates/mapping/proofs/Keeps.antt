@@ -5,12 +5,13 @@ use Rattle.std.proofs.lemmas.List.Elements.{filter-append}
 use Rattle.std.proofs.lemmas.List.Folds.{list_all-append}
 use Rattle.std.specs.List.{AllByRecursion, list_all}
 use Rattle.tree_json.specs.Value.{JsonValue}
-use Rattle.mapping_body.specs.Bodies.{AreBodies}
+use Rattle.mapping_growth.specs.Bodies.{AreBodies}
 use Rattle.mapping_body.specs.Body.{is_body, is_nested}
-use Rattle.mapping_body.specs.Fields.{Draft, draft_paths, drafts_added, drafts_of}
+use Rattle.mapping_growth.specs.Fields.{Draft, draft_paths, drafts_added, drafts_of}
 use Rattle.mapping_body.specs.Names.{lies_above, names_between}
-use Rattle.mapping_body.specs.Relations.{pairs_of, relations_added, relations_of}
-use Rattle.mapping_body.proofs.Adding.{drafts_more, relations_more}
+use Rattle.mapping_body.specs.Pairs.{pairs_of}
+use Rattle.mapping_growth.specs.Relations.{relations_added, relations_of}
+use Rattle.mapping_growth.proofs.Adding.{drafts_more, relations_more}
 use Rattle.mapping_body.proofs.Walks.{split}
 use Rattle.mapping.specs.Growth.{KeepsNumbers}
 use Rattle.mapping.specs.Mapping.{Field, Scope, mapping_of, field_by, fields_by, nearest, nearest_from, nested_among, no_field, no_relation, root_scope, scope_by, scope_paths, scopes_by}

@@ -2,11 +2,11 @@
 use Rattle.std.specs.Prelude.{ℕ, ◌≡◌, ◌<◌, ◌≤◌, true, false, nat_lt, List, [], ◌∷◌, ◌++◌, length, filter, None}
 use Rattle.std.specs.List.{AllByRecursion}
 use Rattle.tree_json.specs.Value.{JsonValue}
-use Rattle.mapping_body.specs.Bodies.{adds, conflict_of, exceeded}
+use Rattle.mapping_growth.specs.Bodies.{adds, conflict_of, exceeded}
 use Rattle.mapping_body.specs.Body.{is_body}
 use Rattle.mapping.specs.declared.mapping.Growth.{Growth}
 use Rattle.mapping.specs.declared.mapping.Growth.TheVariants.{Same, Added}
-use Rattle.mapping_body.specs.Relations.{Relation}
+use Rattle.mapping_growth.specs.Relations.{Relation}
 use Rattle.mapping.specs.Mapping.{Field, Scope, Mapping, mapping_of, field_at, scope_at, relation_at}
 
 -- The body has its form and no conflict. Where it adds nothing the mapping stays as it is; else the bodies with it

@@ -2,7 +2,7 @@
 ghost use Rattle.std.specs.Prelude.{◌≡◌, ℕ, List, [], ◌∷◌, ◌++◌, Bool, ◌<◌, ◌⊎◌, ◌==◌, ◌||◌, true, length};
 ghost use Rattle.std.specs.List.{list_all};
 ghost use Rattle.tree_json.specs.Value.{JsonValue};
-ghost use Rattle.mapping_body.specs.Bodies.{AreBodies};
+ghost use Rattle.mapping_growth.specs.Bodies.{AreBodies};
 ghost use Rattle.mapping_body.specs.Body.{is_body};
 ghost use Rattle.mapping.specs.Growth.{HasFurtherBodies, KeepsNumbers};
 ghost use Rattle.mapping.specs.IsMapping.{IsMapping};

@@ -1,6 +1,6 @@
 //! Mappings: what their bodies say together, as numbered fields with their homes, scopes and relations.
 //!
-//! Stands on `mapping_body`, which says which bodies are a mapping. `specs/Mapping` says what a mapping is, `specs/IsMapping`
+//! Stands on `mapping_growth`, which says which bodies are a mapping. `specs/Mapping` says what a mapping is, `specs/IsMapping`
 //! what holds of each, and `specs/Growth` how a further body adds to it; the look-ups of `Mapping` answer as these say.
 //! Others cite the look-ups and the laws in `law`. Begin with `specs/Mapping`.
 #![tactic(auto)]

@@ -1,8 +1,8 @@
 -- Growths worked out by hand from the rules: what the definition computes is what they say.
 use Rattle.std.proofs.Common.{◌≡◌, ℕ, pos, neg_ℤ, replicate, List as Seq, [], ◌∷◌, codes, refl, true, Option, Some, None}
 use Rattle.tree_json.specs.Value.{JsonValue, null, bool, whole, text, list, object, elements_of, members_of}
-use Rattle.mapping_body.specs.Fields.{drafts_of}
-use Rattle.mapping_body.specs.Relations.{relations_of}
+use Rattle.mapping_growth.specs.Fields.{drafts_of}
+use Rattle.mapping_growth.specs.Relations.{relations_of}
 use Rattle.mapping.specs.Mapping.{Mapping, mapping_of}
 use Rattle.source_growth.specs.Growth.{growth}
 
