@@ -81,16 +81,22 @@ unfolding growth drafts_of relations_of
 first_decides = refl
 
 -- and below an object later objects add more, in byte order of their names; each path has the kind of its first value
-later_objects : adds (obj ((codes "r", of (
-    obj ((codes "z", number 1) ∷ []) ∷ word (codes "x") ∷ obj ((codes "y", word (codes "s")) ∷ []) ∷ of (obj ((codes "z", word (codes "t")) ∷ []) ∷ []) ∷ [])) ∷ []))
+later_objects : adds (obj ((
+  codes "r",
+  of (
+      obj ((codes "z", number 1) ∷ []) ∷ word (codes "x") ∷ obj ((codes "y", word (codes "s")) ∷ []) ∷ of (obj ((codes "z", word (codes "t")) ∷ []) ∷ []) ∷ []),
+) ∷ []))
     ≡ Some (holding ((codes "r", holding ((codes "y", typed (codes "text")) ∷ (codes "z", typed (codes "long")) ∷ [])) ∷ []))
 unfolding growth drafts_of relations_of
 later_objects = refl
 
 -- an object that is found again in another object, and a value there that isn't one
-deeper : adds (obj ((codes "r", of (
-    obj ((codes "i", obj ((codes "b", bool true) ∷ [])) ∷ []) ∷ obj ((codes "i", number 7) ∷ [])
-    ∷ obj ((codes "i", of (obj ((codes "a", null) ∷ (codes "c", number 1) ∷ []) ∷ [])) ∷ []) ∷ [])) ∷ []))
+deeper : adds (obj ((
+  codes "r",
+  of (
+      obj ((codes "i", obj ((codes "b", bool true) ∷ [])) ∷ []) ∷ obj ((codes "i", number 7) ∷ [])
+      ∷ obj ((codes "i", of (obj ((codes "a", null) ∷ (codes "c", number 1) ∷ []) ∷ [])) ∷ []) ∷ []),
+) ∷ []))
     ≡ Some (holding ((codes "r", holding ((codes "i", holding ((codes "b", typed (codes "boolean")) ∷ (codes "c", typed (codes "long")) ∷ [])) ∷ [])) ∷ []))
 unfolding growth drafts_of relations_of
 deeper = refl
@@ -108,9 +114,12 @@ names = refl
 
 below_mapped : adds (obj (
     (codes "box", obj ((codes "m", obj ((codes "k", number 1) ∷ [])) ∷ []))
-    ∷ (codes "offers", of (
-    obj ((codes "color", word (codes "red")) ∷ []) ∷ obj ((codes "color", number 1) ∷ (codes "price", number 2) ∷ [])
-    ∷ obj ((codes "stock", obj ((codes "n", number 1) ∷ [])) ∷ []) ∷ [])) ∷ []))
+    ∷ (
+      codes "offers",
+      of (
+          obj ((codes "color", word (codes "red")) ∷ []) ∷ obj ((codes "color", number 1) ∷ (codes "price", number 2) ∷ [])
+          ∷ obj ((codes "stock", obj ((codes "n", number 1) ∷ [])) ∷ []) ∷ []),
+    ) ∷ []))
     ≡ Some (holding (
     (codes "box", holding ((codes "m", holding ((codes "k", typed (codes "long")) ∷ [])) ∷ []))
     ∷ (codes "offers", nested ((codes "color", typed (codes "text")) ∷ (codes "stock", holding ((codes "n", typed (codes "long")) ∷ [])) ∷ [])) ∷ []))
