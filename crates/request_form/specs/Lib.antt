@@ -1,0 +1,6 @@
+-- To be believed, in this order: the names that objects have, when an object has them, what a first line says, and what a
+-- request asks for.
+pub mod Table
+pub mod Form
+pub mod Command
+pub mod Asked
