@@ -1,13 +1,13 @@
 -- What a request asks for: an action, or the refusal of what hasn't the form of one.
-use Rattle.std.specs.Prelude.{ℕ, Bool, true, false, ◌&&◌, ◌||◌, not, if◌then◌else◌, List, codes, Option, Some, None, is_some, unwrap_or}
-use Rattle.tree_json.specs.Value.{JsonValue, null, object, Members, member_of, is_object}
+use Rattle.std.specs.Prelude.{Bool, ◌&&◌, ◌||◌, not, if◌then◌else◌, codes, Option, Some, None, is_some, unwrap_or}
+use Rattle.tree_json.specs.Value.{JsonValue, null, Members, member_of, is_object}
 use Rattle.tree_json.specs.Reading.{Reading, reading, bad_json, fraction, value}
 use Rattle.line_reader.specs.Request.{ReadLine, in_full, too_long, SourceLine, not_taken, missing, given}
 use Rattle.request_form.specs.declared.refusal.FormRefusal.{FormRefusal}
 use Rattle.request_form.specs.declared.refusal.FormRefusal.TheVariants.{BadJson, FractionNumber, LineTooLong, BadRequest, MissingSource}
 use Rattle.request_form.specs.Form.{has_lines, members_in}
 use Rattle.request_form.specs.Table.{update_lines}
-use Rattle.request_form.specs.Command.{Target, Changes, Operation, index, create, update, Write, Action, write, Command, alone, indexes, creates, updates, flag_in, command_of}
+use Rattle.request_form.specs.Command.{Target, Changes, Operation, index, create, update, Action, write, Command, alone, indexes, creates, updates, flag_in, command_of}
 
 pub data Asked : Type 0 where
   refused : FormRefusal → Asked
@@ -40,23 +40,32 @@ operation_of (indexes target) v = if is_object v then Some (index v) else None
 operation_of (creates target) v = if is_object v then Some (create v) else None
 operation_of (updates target) v = update_in target (members_in v)
 
-abbrev pub sourced : Command → Target → Reading → Asked
-sourced command target bad_json = refused BadJson
-sourced command target fraction = refused FractionNumber
-sourced command target (value v) = asks_or_bad (operation_of command v) target
+-- the value of a source line, or why there is none
+pub data SourceValue : Type 0 where
+  no_value : FormRefusal → SourceValue
+  is_value : JsonValue → SourceValue
 
-abbrev pub with_source : Command → Target → SourceLine → Asked
-with_source command target not_taken = refused BadRequest
-with_source command target missing = refused MissingSource
-with_source command target (given too_long) = refused LineTooLong
-with_source command target (given (in_full bytes)) = sourced command target (reading bytes)
+abbrev pub value_in : Reading → SourceValue
+value_in bad_json = no_value BadJson
+value_in fraction = no_value FractionNumber
+value_in (value v) = is_value v
+
+abbrev pub value_of : SourceLine → SourceValue
+value_of not_taken = no_value BadRequest
+value_of missing = no_value MissingSource
+value_of (given too_long) = no_value LineTooLong
+value_of (given (in_full bytes)) = value_in (reading bytes)
+
+abbrev pub sourced : Command → Target → SourceValue → Asked
+sourced command target (no_value why) = refused why
+sourced command target (is_value v) = asks_or_bad (operation_of command v) target
 
 abbrev pub asked_by : Option Command → SourceLine → Asked
 asked_by None source = refused BadRequest
 asked_by (Some (alone action)) source = asks action
-asked_by (Some (indexes target)) source = with_source (indexes target) target source
-asked_by (Some (creates target)) source = with_source (creates target) target source
-asked_by (Some (updates target)) source = with_source (updates target) target source
+asked_by (Some (indexes target)) source = sourced (indexes target) target (value_of source)
+asked_by (Some (creates target)) source = sourced (creates target) target (value_of source)
+asked_by (Some (updates target)) source = sourced (updates target) target (value_of source)
 
 abbrev pub asked_in : Reading → SourceLine → Asked
 asked_in bad_json source = refused BadJson

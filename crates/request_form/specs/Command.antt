@@ -1,13 +1,13 @@
 -- What a first line says: a command, whole or still without its source. The form is judged without the state.
-use Rattle.std.specs.Prelude.{ℕ, ℤ, nat_abs, Bool, true, false, ◌&&◌, not, if◌then◌else◌, List, [], ◌∷◌, codes, Option, Some, None, is_some, option_map, option_and_then, unwrap_or}
+use Rattle.std.specs.Prelude.{ℕ, nat_abs, Bool, false, if◌then◌else◌, List, [], ◌∷◌, codes, Option, Some, None, option_map, option_and_then, unwrap_or}
 use Rattle.std.specs.Fmt.{signed_decimal}
 use Rattle.std.specs.Str.{bytes_eq}
-use Rattle.tree_json.specs.Value.{JsonValue, null, bool, whole, text, list, object, Members, no_members, member, member_of}
+use Rattle.tree_json.specs.Value.{JsonValue, null, bool, whole, text, list, object, Members, member_of}
 use Rattle.search_form.specs.Form.{is_search_body}
 use Rattle.request_form.specs.declared.form.Name.{Name}
 use Rattle.request_form.specs.declared.form.Name.TheVariants.{Index, Create, Update, Delete, Mapping, Search, Refresh, Segments, OpenPit, ClosePit, ForceMerge, Merge, Commit, Automerge}
 use Rattle.request_form.specs.Form.{has_lines, single_of, members_in}
-use Rattle.request_form.specs.Table.{names, create_lines, write_lines, close_pit_lines, force_merge_lines, merge_lines, start_lines, advance_lines, merge_id_lines, automerge_lines}
+use Rattle.request_form.specs.Table.{names, create_lines, write_lines, close_pit_lines, force_merge_lines, start_lines, advance_lines, merge_id_lines, automerge_lines}
 
 -- the tree that a write is about: its id, the index that is named, and the sequence number that it has to have
 pub record Target : Type 0 where

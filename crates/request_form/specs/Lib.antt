@@ -4,3 +4,5 @@ pub mod Table
 pub mod Form
 pub mod Command
 pub mod Asked
+-- These serve contracts of private calls and proofs alone: how the Rust types are seen.
+pub mod Seen

@@ -1,7 +1,6 @@
 -- The forms of requests as tables, after the bulk and search APIs of the Elasticsearch reference: which names the object of a
 -- command has, whether each has to be there, and which values stand under it.
-use Rattle.std.specs.Prelude.{ℕ, ℤ, pos, Bool, true, false, ◌&&◌, if◌then◌else◌, nat_lt, int_le, List, [], ◌∷◌, length, codes, Option, Some, None}
-use Rattle.std.specs.Str.{bytes_eq}
+use Rattle.std.specs.Prelude.{ℕ, ℤ, pos, Bool, true, false, ◌&&◌, nat_lt, int_le, List, [], ◌∷◌, length, codes}
 use Rattle.tree_json.specs.Value.{JsonValue, null, bool, whole, text, list, object, is_object}
 use Rattle.request_form.specs.declared.form.Form.{Form}
 use Rattle.request_form.specs.declared.form.Form.TheVariants.{Id, Text, Whole, Positive, One, Flag, Object, Factor}

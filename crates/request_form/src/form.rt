@@ -1,7 +1,7 @@
 //! The forms of values, and the names of commands.
 
 /// What stands under a name.
-#[derive(Clone, Copy, Debug, PartialEq, Eq)]
+#[derive(Clone, Copy)]
 pub enum Form {
     /// A text that isn't empty, or a whole number from 0 on.
     Id,
@@ -22,14 +22,14 @@ pub enum Form {
 }
 
 /// Whether a name has to be there.
-#[derive(Clone, Copy, Debug, PartialEq, Eq)]
+#[derive(Clone, Copy)]
 pub enum Presence {
     Required,
     Optional,
 }
 
 /// The commands, each with a name of its own.
-#[derive(Clone, Copy, Debug, PartialEq, Eq)]
+#[derive(Clone, Copy)]
 pub enum Name {
     Index,
     Create,

@@ -5,8 +5,16 @@
 //! asks for with its source line. The contract that others use: `asked` answers as `asked_of` says. Begin with `specs/Table`.
 #![tactic(auto)]
 
+mod action;
+mod command;
 mod form;
+mod object;
 mod refusal;
+mod request;
+mod table;
+mod value;
 
+pub use action::{Action, Changes, Operation, Target, Write};
 pub use form::{Form, Name, Presence};
 pub use refusal::FormRefusal;
+pub use request::{NoAction, asked};

@@ -1,0 +1,3 @@
+-- Objects with no member, with one and with more; first lines by way of their values.
+pub mod Members
+pub mod FirstLines
