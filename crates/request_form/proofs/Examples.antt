@@ -2,6 +2,7 @@
 -- reference; the refusals are each rule's own.
 use Rattle.std.specs.Prelude.{◌≡◌, ℕ, pos, negsuc, true, false, List, [], codes, Some, None}
 use Rattle.std.proofs.Common.{refl}
+use Rattle.std.specs.Fmt.{digits}
 use Rattle.tree_json.specs.Value.{JsonValue, bool, whole, text, list, object, no_elements, Members, no_members, member}
 use Rattle.request_form.specs.Command.{command_of, alone, indexes, creates, updates, refresh, close_pit, force_merge, start_merge, finish_merge, automerge, write, delete, update}
 use Rattle.request_form.specs.Asked.{operation_of}
@@ -17,7 +18,7 @@ unfolding command_of
 index_by_text = refl
 
 index_by_number : command_of (line (codes "index") (member (codes "_id") (whole (pos 7)) no_members)) ≡ Some (indexes (record { id = codes "7"; index = None; if_seq_no = None }))
-unfolding command_of
+unfolding command_of digits
 index_by_number = refl
 
 index_by_an_empty_text : command_of (line (codes "index") (by_id [])) ≡ None
