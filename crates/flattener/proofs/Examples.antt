@@ -1,8 +1,8 @@
 -- The definitions at work on mappings and sources: what they compute is what the rules say.
 use Rattle.std.proofs.Common.{◌≡◌, ◌==◌, ℕ, pos, List as Seq, [], ◌∷◌, ◌++◌, map, cond, codes, refl, true, false}
 use Rattle.tree_json.specs.Value.{JsonValue, bool, whole, text, list, object, elements_of, members_of}
-use Rattle.mapping_body.specs.Fields.{drafts_of}
-use Rattle.mapping_body.specs.Relations.{relations_of}
+use Rattle.mapping_growth.specs.Fields.{drafts_of}
+use Rattle.mapping_growth.specs.Relations.{relations_of}
 use Rattle.mapping.specs.Mapping.{Mapping, mapping_of, included}
 use Rattle.tree_objects.specs.Object.{block_objects, below, given, way}
 use Rattle.tree_objects.specs.Tree.{Tree}

@@ -3,7 +3,7 @@ use Rattle.std.proofs.Common.{◌≡◌, ℕ, ◌<◌, ◌&&◌, nat_le, nat_lt,
 use Rattle.std.specs.Fmt.{signed_decimal}
 use Rattle.std.specs.List.{position_from}
 use Rattle.std.proofs.lemmas.List.{length-map}
-use Rattle.mapping_body.specs.Relations.{relation_names}
+use Rattle.mapping_growth.specs.Relations.{relation_names}
 use Rattle.std.proofs.lemmas.Bool.Decides.{nat_tests}
 use Rattle.mapping_body.proofs.Walks.{split}
 use Rattle.mapping.specs.Mapping.{Mapping, Field, knows_relation, relation_at, relation_known, relation_named, if_known}

@@ -8,16 +8,16 @@ use Rattle.std.specs.List.Sorted.{IsPermutation}
 use Rattle.tree_json.specs.Value.{JsonValue}
 use Rattle.mapping_body.specs.declared.kind.Kind.{Kind}
 use Rattle.mapping_body.specs.declared.kind.Kind.TheVariants.{Text, Keyword, Long, Boolean, Date, Object, Nested, Join}
-use Rattle.mapping_body.specs.Bodies.{AreBodies}
+use Rattle.mapping_growth.specs.Bodies.{AreBodies}
 use Rattle.mapping_body.specs.Body.{is_body, is_nested}
-use Rattle.mapping_body.specs.Fields.{Draft, draft_paths, drafts_of}
+use Rattle.mapping_growth.specs.Fields.{Draft, draft_paths, drafts_of}
 use Rattle.mapping_body.specs.Names.{AreAscending, lies_above, names_between, place_of}
 use Rattle.mapping_body.specs.Order.{AreDistinct, name_at, order_from}
-use Rattle.mapping_body.specs.Relations.{relations_of}
+use Rattle.mapping_growth.specs.Relations.{relations_of}
 use Rattle.mapping_body.proofs.Ascending.{not_itself}
 use Rattle.mapping_body.proofs.Closed.{has_name}
-use Rattle.mapping_body.proofs.Fitting.{fit}
-use Rattle.mapping_body.proofs.Founding.{not_itself as not_own_ancestor, parent_within}
+use Rattle.mapping_growth.proofs.Fitting.{fit}
+use Rattle.mapping_growth.proofs.Founding.{not_itself as not_own_ancestor, parent_within}
 use Rattle.mapping_body.proofs.Merges.{AreAscending-in_byte_order, put_all-after}
 use Rattle.mapping_body.proofs.Ordered.{is_order, order_permutes, place_is}
 use Rattle.mapping_body.proofs.Ranks.{AllAfter}
@@ -27,8 +27,8 @@ use Rattle.mapping.specs.Mapping.{Field, Mapping, field_at, field_by, field_name
 use Rattle.mapping.specs.Stored.{IsKept, scope_parts, scope_seen}
 use Rattle.mapping.specs.declared.scope.ScopePath.{ScopePath}
 use Rattle.mapping.specs.declared.scope.Scope.{Scope as Part}
-use Rattle.mapping_body.specs.declared.draft.Draft.{Draft as Made}
-use Rattle.mapping_body.specs.Kept.{made_of}
+use Rattle.mapping_growth.specs.declared.draft.Draft.{Draft as Made}
+use Rattle.mapping_growth.specs.Kept.{made_of}
 use Rattle.mapping.proofs.Above.{above_less, above_nothing, above_in_range, above_parts}
 use Rattle.mapping.proofs.InTurn.{AreFounded, AreInTurn, StandsBefore, founded}
 use Rattle.mapping.proofs.Nearest.{nearest_last, paths_at, arounds_at, names_at, homes_at, field_paths_at}

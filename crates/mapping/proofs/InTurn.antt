@@ -8,11 +8,11 @@ use Rattle.std.specs.List.{AllByRecursion, list_all, position_from}
 use Rattle.std.specs.List.Sorted.{IsStrictlySortedBy}
 use Rattle.tree_json.specs.Value.{JsonValue}
 use Rattle.mapping_body.specs.Body.{Property, is_body, properties_of}
-use Rattle.mapping_body.specs.Fields.{Draft, draft_of, draft_paths, drafts_added, drafts_from, drafts_of}
+use Rattle.mapping_growth.specs.Fields.{Draft, draft_of, draft_paths, drafts_added, drafts_from, drafts_of}
 use Rattle.mapping_body.specs.Names.{AreAscending, in_byte_order, is_among, lies_above, put, put_all}
 use Rattle.mapping_body.proofs.Ascending.{not_back, not_itself}
 use Rattle.mapping_body.proofs.Closed.{IsClosed, closed_body, has_name}
-use Rattle.mapping_body.proofs.Distinct.{AreOutside, added_ascend, added_outside}
+use Rattle.mapping_growth.proofs.Distinct.{AreOutside, added_ascend, added_outside}
 use Rattle.mapping_body.proofs.Merges.{same_name}
 use Rattle.mapping_body.proofs.Ranks.{AllAfter, by_ordering, compared}
 use Rattle.mapping_body.proofs.Walks.{split}
@@ -171,7 +171,7 @@ added_have g known v is =
 
 -- ---- generations
 
-abbrev AllOf : ℕ → List Draft → Type 0
+abbrev pub AllOf : ℕ → List Draft → Type 0
 AllOf g ds = AllByRecursion (λ (d : Draft). d.since ≡ g) ds
 
 map_of : (g : ℕ) (ps : List Property) → AllOf g (map (draft_of g) ps)
@@ -190,7 +190,7 @@ put_all_of : (g : ℕ) (ys xs : List Draft) → AllOf g ys → AllOf g xs → Al
 put_all_of g ys [] one two = one
 put_all_of g ys (x ∷ xs) one two = put_all_of g (put (λ d. d.path) x ys) xs (put_of g x ys two.0 one) two.1
 
-added_of : (g : ℕ) (known : List (List ℕ)) (v : JsonValue) → AllOf g (drafts_added g known v)
+pub added_of : (g : ℕ) (known : List (List ℕ)) (v : JsonValue) → AllOf g (drafts_added g known v)
 added_of g known v =
     filter_all (λ (d : Draft). d.since ≡ g) (λ d. not (is_among known d.path)) (in_byte_order (λ d. d.path) (map (draft_of g) (properties_of v))) (put_all_of g [] (map (draft_of g) (properties_of v)) tt (map_of g (properties_of v)))
 

@@ -4,12 +4,12 @@ use Rattle.std.proofs.lemmas.List.{length-map, get_or-map}
 use Rattle.mapping.specs.declared.scope.ScopePath.{ScopePath}
 use Rattle.mapping.specs.declared.scope.Scope.{Scope as Part}
 use Rattle.tree_json.specs.Value.{JsonValue}
-use Rattle.mapping_body.specs.declared.draft.Draft.{Draft as Made}
-use Rattle.mapping_body.specs.declared.relation.Relation.{Relation as Tied}
-use Rattle.mapping_body.specs.Fields.{Draft, draft_paths, drafts_of}
-use Rattle.mapping_body.specs.Kept.{made_of, relation_of}
+use Rattle.mapping_growth.specs.declared.draft.Draft.{Draft as Made}
+use Rattle.mapping_growth.specs.declared.relation.Relation.{Relation as Tied}
+use Rattle.mapping_growth.specs.Fields.{Draft, draft_paths, drafts_of}
+use Rattle.mapping_growth.specs.Kept.{made_of, relation_of}
 use Rattle.mapping_body.specs.Names.{place_of}
-use Rattle.mapping_body.specs.Relations.{relations_of}
+use Rattle.mapping_growth.specs.Relations.{relations_of}
 use Rattle.mapping.specs.Mapping.{Mapping, Scope, field_at, field_by, field_named, mapping_of, no_field, no_relation, reaches, relation_at, root_scope, scope_at, scope_paths}
 use Rattle.mapping.specs.Stored.{Parts, root_part, scope_seen, scope_parts, part_at, reaches_among}
 

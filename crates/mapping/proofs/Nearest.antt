@@ -2,7 +2,7 @@
 use Rattle.std.proofs.Common.{◌≡◌, ℕ, zero, suc, ◌+◌, ◌<◌, ◌≤◌, inl, inr, true, false, List, [], ◌∷◌, ◌++◌, length, map, get_or, drop, refl, ap, arith}
 use Rattle.std.proofs.lemmas.Bool.{cases_order}
 use Rattle.std.specs.List.{AllByRecursion}
-use Rattle.mapping_body.specs.Fields.{Draft, draft_paths}
+use Rattle.mapping_growth.specs.Fields.{Draft, draft_paths}
 use Rattle.mapping_body.specs.Names.{lies_above, names_between}
 use Rattle.mapping_body.proofs.Walks.{split}
 use Rattle.mapping.specs.Mapping.{root_scope, scope_by, field_by, no_field, nearest_from, nearest}

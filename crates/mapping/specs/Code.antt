@@ -5,7 +5,7 @@ use Rattle.tree_json.specs.Value.{JsonValue}
 use Rattle.tree_json.specs.Code.{value_code}
 use Rattle.mapping_body.specs.declared.kind.Kind.{Kind}
 use Rattle.mapping_body.specs.Code.{bytes_code, kind_code}
-use Rattle.mapping_body.specs.Relations.{Relation}
+use Rattle.mapping_growth.specs.Relations.{Relation}
 use Rattle.mapping.specs.Mapping.{Field, Scope, Mapping}
 
 abbrev pub field_code : Coded Field

@@ -5,7 +5,7 @@ use Rattle.std.specs.List.Sorted.{IsPermutation}
 use Rattle.mapping_body.specs.Names.{AreAscending, lies_above, names_between}
 use Rattle.mapping.specs.Mapping.{Mapping, field_at, field_named, kind_at, relation_at, scope_at, home_of, outer, root_scope, IsAbove}
 use Rattle.mapping_body.specs.declared.kind.Kind.TheVariants.{Nested}
-use Rattle.mapping_body.specs.Relations.{IsAncestor}
+use Rattle.mapping_growth.specs.Relations.{IsAncestor}
 
 -- of the scopes that lie above a path, the nearest: no other lies between
 pub record IsNearestAbove (m : Mapping) (path : List ℕ) (scope : ℕ) : Type 0 where

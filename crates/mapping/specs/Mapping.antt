@@ -6,10 +6,10 @@ use Rattle.mapping_body.specs.declared.kind.Kind.{Kind}
 use Rattle.mapping_body.specs.declared.kind.Kind.TheVariants.{Object}
 use Rattle.mapping_body.specs.Names.{has_dot, joined, place_of, lies_above, names_between}
 use Rattle.mapping_body.specs.Body.{is_nested, index_of}
-use Rattle.mapping_body.specs.Bodies.{is_number}
-use Rattle.mapping_body.specs.Fields.{Draft, draft_paths, drafts_of}
+use Rattle.mapping_growth.specs.Bodies.{is_number}
+use Rattle.mapping_growth.specs.Fields.{Draft, draft_paths, drafts_of}
 use Rattle.mapping_body.specs.Order.{order_from}
-use Rattle.mapping_body.specs.Relations.{Relation, relation_names, relations_of}
+use Rattle.mapping_growth.specs.Relations.{Relation, relation_names, relations_of}
 
 -- a field: its path, its kind, the scope that is its home, and the mapping generation that added it, from 1
 pub record Field : Type 0 where

@@ -1,7 +1,7 @@
 -- What a mapping keeps beside its bodies, as the definitions see it.
 use Rattle.std.specs.Prelude.{◌≡◌, ℕ, zero, suc, ◌<◌, ◌^◌, ◌==◌, Bool, false, ◌&&◌, ◌||◌, get_or, if◌then◌else◌, List, [], ◌∷◌, length, map}
 use Rattle.mapping_body.specs.Body.{is_nested}
-use Rattle.mapping_body.specs.Fields.{Draft}
+use Rattle.mapping_growth.specs.Fields.{Draft}
 use Rattle.mapping_body.specs.Order.{IsOrderFrom}
 use Rattle.mapping.specs.declared.scope.Scope.{Scope as Part}
 use Rattle.mapping.specs.declared.scope.ScopePath.{ScopePath}

@@ -2,10 +2,10 @@
 ghost use Rattle.std.specs.Prelude.{◌≡◌, ℕ, List, [], ◌++◌, ◌∷◌, ◌<◌, ◌≤◌, ◌-◌, ◌^◌, map, length, nat_le, ◌==◌, ◌&&◌, ◌||◌, IfOk, IfSome, IsErrOf, IsTrue, ◌↔◌, Some, None, true, false, get_or};
 ghost use Rattle.tree_json.specs.Value.{null};
 ghost use Rattle.tree_json.specs.View.{view};
-ghost use Rattle.mapping_body.specs.Bodies.{AreBodies, adds, conflict_of, exceeded, is_number};
+ghost use Rattle.mapping_growth.specs.Bodies.{AreBodies, adds, conflict_of, exceeded, is_number};
 ghost use Rattle.mapping_body.specs.Body.{is_body};
 ghost use Rattle.std.specs.List.{list_any};
-ghost use Rattle.mapping_body.specs.Kept.{relation_of};
+ghost use Rattle.mapping_growth.specs.Kept.{relation_of};
 ghost use Rattle.mapping_body.specs.Names.{joined};
 ghost use Rattle.mapping_body.specs.declared.refusal.Limit.{Limit};
 ghost use Rattle.mapping.specs.IsMapping.{IsMapping};
@@ -15,9 +15,9 @@ ghost use Rattle.mapping.specs.Stored.{scope_seen, part_at, reaches_among};
 
 use crate::scope::{Scope, ScopePath, homes, scope_paths, scopes};
 use mapping_body::{
-    Below, Bodies, Kind, MappingRefusal, NoMemory, Relation, Whole, has_dot, lies_above,
-    number_among, order_from,
+    Below, Kind, MappingRefusal, NoMemory, Whole, has_dot, lies_above, number_among, order_from,
 };
+use mapping_growth::{Bodies, Relation};
 use std::alloc::Global;
 use std::marker::Model;
 use tree_json::Json;

@@ -1,10 +1,11 @@
 //! Scopes and the homes of fields, made of the fields that bodies say.
 ghost use Rattle.std.specs.Prelude.{◌≡◌, ◌<◌, ◌^◌, map, length, ◌++◌, IfOk, OnOk};
-ghost use Rattle.mapping_body.specs.Kept.{made_of};
+ghost use Rattle.mapping_growth.specs.Kept.{made_of};
 ghost use Rattle.mapping.specs.Mapping.{nearest, scope_paths, scopes_by};
 ghost use Rattle.mapping.specs.Stored.{scope_parts, scope_seen, nested_path, nested_scope};
 
-use mapping_body::{Draft, Kind, Named, NoMemory, lies_above};
+use mapping_body::{Kind, Named, NoMemory, lies_above};
+use mapping_growth::Draft;
 use std::alloc::Global;
 
 /// The path of a scope.

@@ -4,16 +4,7 @@ pub mod Ranks
 pub mod Puts
 pub mod Merges
 pub mod Parents
-pub mod Climbs
-pub mod Pairs
 pub mod Walks
-pub mod Adding
-pub mod Counted
-pub mod Fitting
 pub mod Ascending
 pub mod Ordered
-pub mod Distinct
-pub mod Keeping
-pub mod Conflicts
 pub mod Closed
-pub mod Founding

@@ -7,7 +7,7 @@ use Rattle.std.specs.List.{find, position_from, list_any}
 use Rattle.std.specs.List.Sorted.{IsStrictlySortedBy}
 use Rattle.mapping_body.specs.declared.pair.Pair.{Pair as Lent}
 use Rattle.mapping_body.specs.Names.{AreAscending, in_byte_order, put, put_all}
-use Rattle.mapping_body.specs.Relations.{Pair, Relation, parent_among, relation_by, is_other}
+use Rattle.mapping_body.specs.Pairs.{Pair, parent_among, is_other}
 use Rattle.mapping_body.specs.Kept.{pair_of}
 use Rattle.mapping_body.proofs.Merges.{same_name, map-put_all}
 use Rattle.mapping_body.proofs.Puts.{AreAscending-put, ascending_none, all_beyond}
@@ -99,12 +99,6 @@ parent_missing (p ∷ ps) name at e =
     (λ other. rw other (parent_missing ps name (at + 1) (rw other at e)))
 
 -- ---- what the first pairs say is what all say
-
-pub relations_of_firsts : (g : ℕ) (ps firsts : List Lent) (names ns : List (List ℕ)) → firsts ≡ in_byte_order (λ p. p.child.now) ps
-    → map (relation_by g (map pair_of firsts) names) ns ≡ map (relation_by g (map pair_of ps) names) ns
-relations_of_firsts g ps firsts names [] e = refl
-relations_of_firsts g ps firsts names (n ∷ ns) e =
-    rw (parent_of_firsts ps firsts n e) (ap (λ (rest : List Relation). relation_by g (map pair_of ps) names n ∷ rest) (relations_of_firsts g ps firsts names ns e))
 
 pub others_of_firsts : (all firsts ps : List Lent) → firsts ≡ in_byte_order (λ p. p.child.now) all
     → list_any (λ p. is_other (parent_among (map pair_of firsts) p.child.now) p.parent.now) ps ≡ list_any (λ p. is_other (parent_among (map pair_of all) p.child) p.parent) (map pair_of ps)

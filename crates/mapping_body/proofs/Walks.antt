@@ -3,11 +3,7 @@ use Rattle.std.proofs.Common.{◌≡◌, ℕ, zero, suc, ◌+◌, ◌<◌, List 
 use Rattle.tree_json.specs.Value.{JsonValue, Elements, no_elements, element, Members, no_members, member, member_of, members_of, elements_of, value_size, elements_size, members_size}
 use Rattle.tree_json.specs.View.{view, values, entries}
 use Rattle.tree_json.specs.declared.value.Json.{Json}
-use Rattle.mapping_body.specs.Names.{joined, put_all}
-use Rattle.mapping_body.proofs.Puts.{put_all-append}
-use Rattle.std.proofs.lemmas.List.{map-append}
 use Rattle.mapping_body.specs.Body.{Property, properties_among, properties_at, properties_below, properties_named}
-use Rattle.mapping_body.specs.Fields.{Draft, draft_of}
 
 -- ---- a member stands in its object
 
@@ -53,27 +49,6 @@ member_size_at [] i d h = absurd (omega arith)
 member_size_at (m ∷ ms) zero d h = omega (arith, members_positive (members_of (entries ms)))
 member_size_at (m ∷ ms) (suc i) d h = let more : i < length ms = omega arith in omega (arith, member_size_at ms i d more)
 
--- ---- one more property in the walk for fields
-
-abbrev named : Draft → Seq ℕ
-named d = d.path
-
-pub drafts_step : (g : ℕ) (path : Seq ℕ) (ms : Seq (Seq ℕ × Json)) (i : ℕ) (m : Seq ℕ × Json) (before after : Seq Draft) → i < length ms → m ≡ get_or ms i m
-    → after ≡ put_all named before (draft_of g (record { path = joined path m.0; form = view m.1 }) ∷ map (draft_of g) (properties_below (joined path m.0) (view m.1)))
-    → put_all named after (map (draft_of g) (properties_named path (members_of (entries (drop (i + 1) ms))))) ≡ put_all named before (map (draft_of g) (properties_named path (members_of (entries (drop i ms)))))
-drafts_step g path [] i m before after h e is = absurd (omega arith)
-drafts_step g path (x ∷ ms) zero m before after h e is =
-    let motive : Seq ℕ × Json → Type 0 = λ y. put_all named after (map (draft_of g) (properties_named path (members_of (entries ms)))) ≡ put_all named before (map (draft_of g) (properties_named path (member y.0 (view y.1) (members_of (entries ms))))) in
-    subst motive e
-    (rw (is, map-append (draft_of g) (properties_below (joined path m.0) (view m.1)) (properties_named path (members_of (entries ms))))
-    (sym (put_all-append named before (draft_of g (record { path = joined path m.0; form = view m.1 }) ∷ map (draft_of g) (properties_below (joined path m.0) (view m.1))) (map (draft_of g) (properties_named path (members_of (entries ms)))))))
-drafts_step g path (x ∷ ms) (suc i) m before after h e is =
-    let more : i < length ms = omega arith in
-    let step : suc i + 1 ≡ suc (i + 1) = omega arith in
-    rw step (drafts_step g path ms i m before after more e is)
-
 pub ruleset sizes = (size_at, member_size_at)
 
 pub ruleset outline_walks = (properties_by_member, member_smaller, member_size_at)
-
-pub ruleset draft_walks = (properties_by_member, member_smaller, member_size_at, put_all-append)

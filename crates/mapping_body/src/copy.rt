@@ -9,7 +9,7 @@ use tree_json::{Json, JsonList, JsonObject, JsonText};
 
 #[cycle(copies)]
 #[tactic(auto, using(crate::proofs::Walks::sizes))]
-pub(crate) fn copied(alloc: Global, value: &Json) -> Result<Json, NoMemory>
+pub fn copied(alloc: Global, value: &Json) -> Result<Json, NoMemory>
     ensures { IfOk result (λ j. view j ≡ view value.now) }
 {
     match value {

@@ -1,4 +1,6 @@
 //! The kinds of fields.
+ghost use Rattle.std.specs.Prelude.{◌≡◌};
+ghost use Rattle.mapping_body.specs.Code.{is_same_kind};
 
 /// What a field holds (Elasticsearch reference, field data types).
 #[derive(Clone, Copy, Debug, PartialEq, Eq)]
@@ -18,4 +20,11 @@ pub enum Kind {
     Nested,
     /// A relation to other trees.
     Join,
+}
+
+/// Whether two kinds are the same.
+pub fn is_same_kind(one: Kind, two: Kind) -> bool
+    ensures { result ≡ is_same_kind one two }
+{
+    one as u8 == two as u8
 }

@@ -1,39 +1,31 @@
-//! Bodies of mappings: their form, and what several say together.
+//! Bodies of mappings: names and paths, kinds, and the form of one body with the pairs that its joins name.
 //!
-//! Stands on `tree_json`. `specs/Body` says which form a body has, `specs/Fields` and `specs/Relations` what bodies add one
-//! after another, and `specs/Bodies` which of them are a mapping. The contract that others use: `Bodies::read` and
-//! `Bodies::grown` take a body where these definitions do, and refuse it with its cause. Begin with `specs/Body`.
+//! Stands on `tree_json`. `specs/Names` says what names and paths are, `specs/Body` which form a body has and which
+//! properties it has, and `specs/Pairs` what its joins name. The contracts that others use: `is_body_alone` and
+//! `is_property` hold where these definitions do, and `place_of` and `number_among` find names. Begin with `specs/Body`.
 #![tactic(auto)]
 
-mod addition;
-mod ancestor;
-mod bodies;
 mod bytes;
-mod candidate;
-mod conflict;
 mod copy;
-mod draft;
 mod form;
 mod kind;
-mod limit;
 mod names;
 mod order;
 mod pair;
-mod property;
 mod refusal;
-mod relation;
-mod said;
-mod taken;
-#[cfg(test)]
-mod tests;
 
-pub use bodies::Bodies;
 pub use bytes::Bytes;
-pub use draft::Draft;
-pub use kind::Kind;
-pub use names::{Below, Named, Sought, Whole, has_dot, lies_above, number_among};
-pub use order::order_from;
+pub use copy::copied;
+pub use form::{
+    has_flag, index_of, is_body_alone, is_join, is_nested, is_property, kind_of, member_named,
+};
+pub use kind::{Kind, is_same_kind};
+pub use names::{
+    Below, Named, Sought, Whole, dot_count, has_dot, joined, lies_above, number_among, place_of,
+    put,
+};
+pub use order::{in_byte_order, order_from};
+pub use pair::{Pair, has_two_parents, lacks_names, pairs_of_said, parent_in};
 pub use refusal::{
     Limit, MOST_BODIES, MOST_BYTES, MOST_FIELDS, MOST_NAMES, MOST_NESTED, MappingRefusal, NoMemory,
 };
-pub use relation::Relation;

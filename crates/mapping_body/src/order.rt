@@ -74,7 +74,7 @@ fn merged<T: Named + Copy + Drop>(
 
 /// A name with the number of the item that has it.
 #[derive(Clone, Copy, Drop)]
-pub(crate) struct Entry<'a> {
+pub struct Entry<'a> {
     pub name: &'a [u8],
     pub number: u32,
 }

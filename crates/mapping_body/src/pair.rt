@@ -1,24 +1,24 @@
 //! The pairs that a body's joins name: a parent with one child.
-ghost use Rattle.std.specs.Prelude.{◌≡◌, ℕ, List, ◌++◌, map, length, OnOk, IfOk, Option, option_map};
-ghost use Rattle.std.specs.List.{flat_map, list_any};
-ghost use Rattle.tree_json.specs.Value.{members_of, elements_of};
+ghost use Rattle.std.specs.Prelude.{◌≡◌, ℕ, List, ◌++◌, map, length, OnOk, IfOk, Option, Some, option_map, codes};
+ghost use Rattle.std.specs.List.{list_any};
+ghost use Rattle.tree_json.specs.Value.{object, members_of, elements_of};
 ghost use Rattle.tree_json.specs.View.{view, values, entries};
+ghost use Rattle.mapping_body.specs.Body.{member_named};
 ghost use Rattle.mapping_body.specs.Kept.{pair_of};
 ghost use Rattle.mapping_body.specs.Names.{AreAscending};
-ghost use Rattle.mapping_body.specs.Relations.{pair_of_element, pairs_in_list, pairs_of_parent, pairs_in, pairs_of_form, pairs_of_said, parent_among, is_other, has_two_parents};
+ghost use Rattle.mapping_body.specs.Pairs.{pair_of_element, pairs_in_list, pairs_of_parent, pairs_in, pairs_of_form, pairs_of_said, parent_among, is_other, has_two_parents, lacks_names};
 
 use crate::form::{kind_of, member_named};
 use crate::kind::Kind;
 use crate::names::{Named, Whole, place_of};
 use crate::order::in_byte_order;
-use crate::property::Outline;
 use crate::refusal::NoMemory;
 use std::alloc::Global;
 use tree_json::{Json, JsonText};
 
 /// A parent's name with one child's.
 #[derive(Clone, Copy, Drop)]
-pub(crate) struct Pair<'a> {
+pub struct Pair<'a> {
     pub parent: &'a [u8],
     pub child: &'a [u8],
 }
@@ -86,7 +86,7 @@ fn pairs_in<'a>(members: &'a [(JsonText, Json)], found: &mut Vec<Pair<'a>>) -> R
 }
 
 /// Appends the pairs that a join's `relations` name.
-pub(crate) fn pairs_of_form<'a>(form: &'a Json, found: &mut Vec<Pair<'a>>) -> Result<(), NoMemory>
+pub fn pairs_of_form<'a>(form: &'a Json, found: &mut Vec<Pair<'a>>) -> Result<(), NoMemory>
     ensures { OnOk result (map pair_of found.new.items ≡ map pair_of found.old.items ++ pairs_of_form (view form.now)) }
 {
     match member_named(form, b"relations") {
@@ -95,22 +95,8 @@ pub(crate) fn pairs_of_form<'a>(form: &'a Json, found: &mut Vec<Pair<'a>>) -> Re
     }
 }
 
-/// The pairs of all joins.
-pub(crate) fn pairs_of<'a>(
-    alloc: Global,
-    outlines: &[Outline<'a>],
-) -> Result<Vec<Pair<'a>>, NoMemory>
-    ensures { IfOk result (λ pairs. map pair_of pairs.items ≡ flat_map (λ o. pairs_of_said (view o.form.now)) outlines.now) }
-{
-    let mut pairs = Vec::new(alloc);
-    'outlines: for outline in outlines {
-        pairs_of_said(outline.form, &mut pairs)?;
-    }
-    Ok(pairs)
-}
-
 /// Appends the pairs that a form names if it is a join's.
-pub(crate) fn pairs_of_said<'a>(form: &'a Json, found: &mut Vec<Pair<'a>>) -> Result<(), NoMemory>
+pub fn pairs_of_said<'a>(form: &'a Json, found: &mut Vec<Pair<'a>>) -> Result<(), NoMemory>
     ensures { OnOk result (map pair_of found.new.items ≡ map pair_of found.old.items ++ pairs_of_said (view form.now)) }
 {
     match kind_of(form) {
@@ -120,7 +106,7 @@ pub(crate) fn pairs_of_said<'a>(form: &'a Json, found: &mut Vec<Pair<'a>>) -> Re
 }
 
 /// The parent of a name, among the first pairs of each child.
-pub(crate) fn parent_in<'a>(firsts: &[Pair<'a>], name: &[u8]) -> Option<&'a [u8]>
+pub fn parent_in<'a>(firsts: &[Pair<'a>], name: &[u8]) -> Option<&'a [u8]>
     requires { AreAscending (map (λ p. p.child.now) firsts.now) }
     ensures { option_map (λ parent. parent.now) result ≡ parent_among (map pair_of firsts.now) name.now }
 {
@@ -142,7 +128,7 @@ fn has_other_parent(firsts: &[Pair<'_>], parent: &[u8], child: &[u8]) -> bool
 }
 
 /// Whether some name stands below two different names.
-pub(crate) fn has_two_parents(alloc: Global, pairs: &[Pair<'_>]) -> Result<bool, NoMemory>
+pub fn has_two_parents(alloc: Global, pairs: &[Pair<'_>]) -> Result<bool, NoMemory>
     ensures { IfOk result (λ two. two ≡ has_two_parents (map pair_of pairs.now)) }
 {
     let firsts = in_byte_order(alloc, pairs)?;
@@ -156,4 +142,23 @@ fn some_has_other_parent(firsts: &[Pair<'_>], pairs: &[Pair<'_>]) -> bool
     pairs
         .iter()
         .any(|pair| has_other_parent(firsts, pair.parent, pair.child))
+}
+
+/// Whether the `relations` of a join have no name in them.
+pub fn lacks_names(form: &Json) -> bool
+    ensures { result ≡ lacks_names (member_named (view form.now) (codes "relations")) }
+{
+    match member_named(form, b"relations") {
+        Some(Json::Object(object)) => is_empty(object.as_slice()),
+        _ => true,
+    }
+}
+
+fn is_empty(members: &[(JsonText, Json)]) -> bool
+    ensures { result ≡ lacks_names (Some (object (members_of (entries members.now)))) }
+{
+    match members {
+        [] => true,
+        [_first, _rest @ ..] => false,
+    }
 }

@@ -5,8 +5,8 @@ use Rattle.tree_json.specs.Value.{JsonValue, whole, text, list, object, elements
 use Rattle.mapping_body.specs.declared.kind.Kind.{Kind}
 use Rattle.mapping_body.specs.declared.kind.Kind.TheVariants.{Text, Keyword, Long, Object, Nested, Join}
 use Rattle.mapping.specs.Mapping.{Mapping, Field, Scope, root_scope, mapping_of, included}
-use Rattle.mapping_body.specs.Fields.{drafts_of}
-use Rattle.mapping_body.specs.Relations.{Relation, relations_of}
+use Rattle.mapping_growth.specs.Fields.{drafts_of}
+use Rattle.mapping_growth.specs.Relations.{Relation, relations_of}
 use Rattle.tree_objects.specs.declared.field_value.FieldValue.{FieldValue}
 use Rattle.tree_objects.specs.declared.field_value.FieldValue.TheVariants.{Number, Written}
 use Rattle.tree_objects.specs.Object.{below, way, given}

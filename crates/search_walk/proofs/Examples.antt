@@ -2,8 +2,8 @@
 use Rattle.std.proofs.Common.{◌≡◌, ℕ, pos, List as Seq, [], ◌∷◌, codes, refl, true, false, Option, Some, None}
 use Rattle.tree_json.specs.Value.{JsonValue, bool, whole, text, list, object, elements_of, members_of}
 use Rattle.mapping.specs.Mapping.{Mapping, mapping_of}
-use Rattle.mapping_body.specs.Fields.{drafts_of}
-use Rattle.mapping_body.specs.Relations.{relations_of}
+use Rattle.mapping_growth.specs.Fields.{drafts_of}
+use Rattle.mapping_growth.specs.Relations.{relations_of}
 use Rattle.tree_objects.specs.Values.{convert}
 use Rattle.search_walk.specs.Node.{nodes_of}
 use Rattle.search_walk.specs.Refusal.{first_refusal}

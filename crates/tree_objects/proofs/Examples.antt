@@ -8,9 +8,9 @@ use Rattle.tree_objects.specs.Object.{root, scope, place, block_objects, below, 
 use Rattle.tree_objects.specs.Values.{values, convert, join_of}
 use Rattle.tree_objects.specs.declared.fault.Fault.TheVariants.{BadJoin}
 use Rattle.tree_objects.specs.Fault.{first_fault}
-use Rattle.mapping_body.specs.Bodies.{conflict_of, has_bad_relations}
-use Rattle.mapping_body.specs.Fields.{additions_of, drafts_of}
-use Rattle.mapping_body.specs.Relations.{relations_of}
+use Rattle.mapping_growth.specs.Bodies.{conflict_of, has_bad_relations}
+use Rattle.mapping_growth.specs.Fields.{additions_of, drafts_of}
+use Rattle.mapping_growth.specs.Relations.{relations_of}
 use Rattle.tree_objects.specs.Tree.{Tree}
 
 abbrev typed : Seq ℕ → JsonValue

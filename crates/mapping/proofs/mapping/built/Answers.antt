@@ -1,7 +1,7 @@
 use Rattle.std.proofs.Common.{◌<◌, ◌^◌, subst, length, arith, List}
 use Rattle.std.proofs.lemmas.Grind.{common_steps}
 use Rattle.tree_json.specs.Value.{JsonValue}
-use Rattle.mapping_body.specs.Bodies.{AreBodies}
+use Rattle.mapping_growth.specs.Bodies.{AreBodies}
 use Rattle.mapping.proofs.Founded.{is_mapping, kept}
 use Rattle.mapping.proofs.mapping.built.Goals as goal
 

@@ -1,7 +1,7 @@
 use Rattle.std.proofs.Common.{◌≡◌, drop, map}
 use Rattle.std.specs.List.{list_any}
-use Rattle.mapping_body.specs.Bodies.{is_number}
-use Rattle.mapping_body.specs.Kept.{relation_of}
+use Rattle.mapping_growth.specs.Bodies.{is_number}
+use Rattle.mapping_growth.specs.Kept.{relation_of}
 use Rattle.mapping.proofs.mapping.some_has_parent.Given as goal
 
 abbrev pub invariant-relations : goal.invariant-relations

@@ -1,5 +1,5 @@
 use Rattle.std.proofs.Common.{◌≡◌, map, take}
-use Rattle.mapping_body.specs.Kept.{made_of}
+use Rattle.mapping_growth.specs.Kept.{made_of}
 use Rattle.mapping.specs.Mapping.{nearest}
 use Rattle.mapping.proofs.scope.homes.Given as goal
 

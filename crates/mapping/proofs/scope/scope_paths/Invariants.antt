@@ -1,7 +1,7 @@
 use Rattle.std.proofs.Common.{◌≡◌, ◌++◌, map, drop}
 use Rattle.mapping.specs.Mapping.{scope_paths, nested_among}
-use Rattle.mapping_body.specs.Fields.{draft_paths}
-use Rattle.mapping_body.specs.Kept.{made_of}
+use Rattle.mapping_growth.specs.Fields.{draft_paths}
+use Rattle.mapping_growth.specs.Kept.{made_of}
 use Rattle.mapping.proofs.scope.scope_paths.Given as goal
 
 abbrev pub invariant-drafts : goal.invariant-drafts

@@ -1,6 +1,6 @@
 use Rattle.std.proofs.Common.{◌≡◌, ◌++◌, map, drop}
 use Rattle.mapping.specs.Mapping.{scopes_by, scope_by, nested_among}
-use Rattle.mapping_body.specs.Kept.{made_of}
+use Rattle.mapping_growth.specs.Kept.{made_of}
 use Rattle.mapping.specs.Stored.{scope_parts, scope_seen}
 use Rattle.mapping.proofs.scope.scopes.Given as goal
 

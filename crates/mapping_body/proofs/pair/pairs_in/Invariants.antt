@@ -1,7 +1,7 @@
 use Rattle.std.proofs.Common.{◌≡◌, ◌++◌, map, drop}
 use Rattle.tree_json.specs.Value.{members_of}
 use Rattle.tree_json.specs.View.{entries}
-use Rattle.mapping_body.specs.Relations.{pairs_in}
+use Rattle.mapping_body.specs.Pairs.{pairs_in}
 use Rattle.mapping_body.specs.Kept.{pair_of}
 use Rattle.mapping_body.proofs.pair.pairs_in.Given as goal
 

@@ -1,7 +1,7 @@
 use Rattle.std.proofs.Common.{◌≡◌, ◌++◌, map, drop}
 use Rattle.tree_json.specs.Value.{elements_of}
 use Rattle.tree_json.specs.View.{values}
-use Rattle.mapping_body.specs.Relations.{pairs_in_list}
+use Rattle.mapping_body.specs.Pairs.{pairs_in_list}
 use Rattle.mapping_body.specs.Kept.{pair_of}
 use Rattle.mapping_body.proofs.pair.pairs_in_list.Given as goal
 

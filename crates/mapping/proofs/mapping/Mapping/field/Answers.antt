@@ -1,5 +1,5 @@
 use Rattle.std.proofs.Common.{◌≡◌, ◌∙◌, sym, ap, length}
-use Rattle.mapping_body.specs.Fields.{drafts_of}
+use Rattle.mapping_growth.specs.Fields.{drafts_of}
 use Rattle.mapping.specs.Mapping.{Mapping, field_named}
 use Rattle.mapping.proofs.LookUps.{field_many, field_place}
 use Rattle.mapping.proofs.mapping.Mapping.field.Goals as goal

@@ -1,5 +1,5 @@
 use Rattle.std.proofs.Common.{◌≡◌, ◌∙◌, sym, ap, subst, length, ℕ, Option, IfSome}
-use Rattle.mapping_body.specs.Fields.{drafts_of}
+use Rattle.mapping_growth.specs.Fields.{drafts_of}
 use Rattle.mapping_body.specs.Names.{joined}
 use Rattle.mapping.specs.Mapping.{Mapping, field_at, field_named}
 use Rattle.mapping.proofs.Fields.{path_named}

@@ -1,7 +1,7 @@
 use Rattle.std.proofs.Common.{◌∙◌, ap, List}
 use Rattle.std.specs.List.{list_any}
-use Rattle.mapping_body.specs.Bodies.{is_number}
-use Rattle.mapping_body.specs.Relations.{Relation}
+use Rattle.mapping_growth.specs.Bodies.{is_number}
+use Rattle.mapping_growth.specs.Relations.{Relation}
 use Rattle.mapping.specs.Mapping.{Mapping, is_parent}
 use Rattle.mapping.proofs.mapping.Mapping.is_parent_relation.Goals as goal
 
