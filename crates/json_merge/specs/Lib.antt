@@ -1,0 +1,2 @@
+-- To be believed: what an update makes of a source.
+pub mod Merged
