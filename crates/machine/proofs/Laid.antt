@@ -1,29 +1,27 @@
 -- The trees that the layout has live are the live trees, before and after each request.
-use Rattle.std.proofs.Common.{◌≡◌, ℕ, Bool, true, false, not, cond, List, [], ◌∷◌, ◌++◌, filter, Option, Some, None, tt, refl, ap, ◌∙◌, append-nil}
+use Rattle.std.proofs.Common.{◌≡◌, ℕ, true, false, not, cond, List, [], ◌∷◌, ◌++◌, filter, Option, Some, None, refl, ap, ◌∙◌, append-nil}
 use Rattle.std.specs.Str.{bytes_eq}
-use Rattle.index_core.specs.Layout.{Layout, live_items, staying, sealed, with_change}
+use Rattle.index_core.specs.Layout.{live_items, staying, with_change}
 use Rattle.index_core.proofs.Keeps.{sealed_keeps, change_keeps}
 use Rattle.line_reader.specs.Request.{Request}
 use Rattle.mapping.specs.Mapping.{Mapping}
-use Rattle.mapping_body.specs.Body.{is_body}
 use Rattle.reply_text.specs.declared.refusal.Refusal.{Refusal}
 use Rattle.reply_text.specs.declared.reply.Reply.{Reply}
-use Rattle.reply_text.specs.declared.reply.WriteResult.{WriteResult}
 use Rattle.reply_text.specs.declared.reply.WriteResult.TheVariants.{Deleted}
 use Rattle.request_form.specs.Asked.{Asked, refused, asks, asked_of}
-use Rattle.request_form.specs.Command.{Action, map_body, write, search, refresh, segments, open_pit, close_pit, force_merge, start_merge, advance_merge, finish_merge, abort_merge, commit, automerge, Write, Operation}
+use Rattle.request_form.specs.Command.{Action, map_body, write, search, refresh, segments, open_pit, close_pit, force_merge, start_merge, advance_merge, finish_merge, abort_merge, commit, automerge, Write}
 use Rattle.tree_json.specs.Value.{JsonValue}
 use Rattle.tree_objects.specs.Tree.{Tree, has_id, without}
 use Rattle.query_ast.specs.declared.search.SearchBody.{SearchBody}
 use Rattle.query_parser.specs.Search.{search_of}
 use Rattle.search_walk.specs.Refusal.{first_refusal}
-use Rattle.machine.specs.Answer.{Answer, refuses, answers, outcome_of, first_of, refused_if, unless, sealing, with_mapping, mapped}
+use Rattle.machine.specs.Answer.{Answer, refuses, answers, outcome_of, first_of, refused_if, unless, with_mapping}
 use Rattle.machine.specs.Limits.{Limits}
 use Rattle.machine.specs.MappingLine.{first_refusals, first_done, growing_refusals, growing_done, mapping_by, mapping_step}
-use Rattle.machine.specs.Searching.{searched, found_by, within, search_over, search_by, body_refusal, search_step}
+use Rattle.machine.specs.Searching.{searched, search_over, search_by, body_refusal, search_step}
 use Rattle.machine.specs.State.{State, sealed_state, IsLaid}
 use Rattle.machine.specs.Step.{refresh_step, action_step, asked_step, step}
-use Rattle.machine.specs.Write.{live_tree, early_refusals, nothing_to_do, leaves_source, new_source, added_body, grown_by, put_refusals, put_result, changed, put_tree, new_tree, put_source, full, with_put, take_out, change, answered_or, change_or_nothing, write_by, write_step}
+use Rattle.machine.specs.Write.{live_tree, early_refusals, nothing_to_do, leaves_source, new_source, added_body, grown_by, put_refusals, put_result, changed, put_tree, new_tree, full, with_put, take_out, change, answered_or, change_or_nothing, write_step}
 
 -- where nothing is refused the state afterwards is laid out
 abbrev IsLaidAfter : Answer → Type 0
@@ -64,12 +62,12 @@ change_laid id new state laid =
 put_laid : (limits : Limits) (m : Mapping) (body : Option JsonValue) (tree : Tree) (live : Option Tree) (state : State) → IsLaid state → IsLaidAfter (put_tree limits m body tree live state)
 put_laid limits m body tree live state laid =
     unless_laid (put_refusals limits m body tree state) (changed (grown_by m body) tree.id (with_put tree state.content.live) (tree ∷ []) (put_result live) state)
-      (change_laid tree.id (tree ∷ []) state laid)
+    (change_laid tree.id (tree ∷ []) state laid)
 
 take_laid : (limits : Limits) (m : Mapping) (id : List ℕ) (state : State) → IsLaid state → IsLaidAfter (take_out limits m id state)
 take_laid limits m id state laid =
     unless_laid (full limits m (without id state.content.live) state.content.next ∷ []) (changed m id (without id state.content.live) [] Deleted state)
-      (change_laid id [] state laid ∙ append-nil (without id state.content.live))
+    (change_laid id [] state laid ∙ append-nil (without id state.content.live))
 
 changes_laid : (limits : Limits) (m : Mapping) (id : List ℕ) (source : Option JsonValue) (live : Option Tree) (state : State) → IsLaid state → IsLaidAfter (change limits m id source live state)
 changes_laid limits m id None live state laid = take_laid limits m id state laid
@@ -85,8 +83,8 @@ unfolding write_step
 write_laid limits m it state laid =
     let live = live_tree it.target.id state.content.live in
     refused_laid (first_of (early_refusals m it live)) (change_or_nothing limits m it live state)
-      (answered_laid (nothing_to_do (leaves_source it.operation live) it.target.id it.operation live) state (change limits m it.target.id (new_source it.operation live) live state) laid
-        (changes_laid limits m it.target.id (new_source it.operation live) live state laid))
+    (answered_laid (nothing_to_do (leaves_source it.operation live) it.target.id it.operation live) state (change limits m it.target.id (new_source it.operation live) live state) laid
+    (changes_laid limits m it.target.id (new_source it.operation live) live state laid))
 
 -- ---- the other commands
 
@@ -98,15 +96,15 @@ line_laid : (body : JsonValue) (state : State) → IsLaid state → IsLaidAfter 
 unfolding mapping_step
 line_laid body state laid = mapping_laid body state.content.mapping state laid
 
-over_laid : (limits : Limits) (m : Mapping) (search : SearchBody) (live : Option (List Tree)) (state : State) → IsLaid state → IsLaidAfter (search_over limits m search live state)
-over_laid limits m search None state laid = tt
-over_laid limits m search (Some live) state laid = laid
+over_laid : (limits : Limits) (m : Mapping) (body : SearchBody) (live : Option (List Tree)) (state : State) → IsLaid state → IsLaidAfter (search_over limits m body live state)
+over_laid limits m body None state laid = tt
+over_laid limits m body (Some live) state laid = laid
 
 search_laid : (limits : Limits) (body : JsonValue) (m : Mapping) (state : State) → IsLaid state → IsLaidAfter (search_step limits body m state)
 unfolding search_step
 search_laid limits body m state laid =
     refused_laid (body_refusal (first_refusal m body)) (search_by limits m (search_of m body) state)
-      (over_laid limits m (search_of m body) (searched (search_of m body).pit state) state laid)
+    (over_laid limits m (search_of m body) (searched (search_of m body).pit state) state laid)
 
 action_laid : (limits : Limits) (action : Action) (state : State) → IsLaid state → IsLaidAfter (action_step limits action state)
 action_laid limits (map_body body) state laid = line_laid body (sealed_state state) (sealed_laid state laid)

@@ -1,8 +1,8 @@
 -- What a mapping line does: it sets the mapping, or adds to it (Elasticsearch reference, update mapping API).
-use Rattle.std.specs.Prelude.{ℕ, Bool, true, false, not, if◌then◌else◌, List, [], ◌∷◌, ◌++◌, codes, Option, Some, None, option_map}
+use Rattle.std.specs.Prelude.{ℕ, Bool, false, not, if◌then◌else◌, List, [], ◌∷◌, ◌++◌, codes, Option, Some, None, option_map}
 use Rattle.std.specs.Str.{bytes_eq}
-use Rattle.tree_json.specs.Value.{JsonValue, null, bool, whole, text, list, object}
-use Rattle.mapping_body.specs.Body.{is_body, member_named, is_true}
+use Rattle.tree_json.specs.Value.{JsonValue, bool, text}
+use Rattle.mapping_body.specs.Body.{is_body, member_named}
 use Rattle.mapping_body.specs.declared.refusal.Limit.{Limit}
 use Rattle.mapping_body.specs.declared.refusal.Limit.TheVariants as by
 use Rattle.mapping_growth.specs.Bodies.{adds, conflict_of, exceeded}

@@ -1,6 +1,6 @@
 -- What a search answers: its first refusal under the mapping, or what it finds among the live trees or those of a point in
 -- time.
-use Rattle.std.specs.Prelude.{ℕ, ◌==◌, nat_lt, Bool, if◌then◌else◌, List, [], ◌∷◌, length, find, Option, Some, None, is_some, option_map}
+use Rattle.std.specs.Prelude.{ℕ, ◌==◌, nat_lt, Bool, if◌then◌else◌, List, length, find, Option, Some, None, option_map}
 use Rattle.mapping.specs.Mapping.{Mapping}
 use Rattle.query_ast.specs.Search.{hit_page, found_buckets}
 use Rattle.query_ast.specs.declared.search.SearchBody.{SearchBody}

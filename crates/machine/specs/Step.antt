@@ -1,5 +1,4 @@
 -- The plain machine over trees: the step that it takes for a request, one line for each command.
-use Rattle.std.specs.Prelude.{ℕ}
 use Rattle.line_reader.specs.Request.{Request}
 use Rattle.reply_text.specs.declared.refusal.Refusal.{Refusal}
 use Rattle.reply_text.specs.declared.refusal.Refusal.TheVariants as why

@@ -1,5 +1,5 @@
 -- What a write does (Elasticsearch reference, index, create, update and delete APIs; optimistic concurrency control).
-use Rattle.std.specs.Prelude.{ℕ, ◌+◌, ◌^◌, ◌==◌, nat_lt, Bool, true, false, not, ◌&&◌, ◌||◌, if◌then◌else◌, List, [], ◌∷◌, ◌++◌, length, sum_by, find, Option, Some, None, is_some, option_map, option_and_then, unwrap_or}
+use Rattle.std.specs.Prelude.{ℕ, ◌+◌, ◌^◌, ◌==◌, nat_lt, Bool, false, not, ◌||◌, if◌then◌else◌, List, [], ◌∷◌, ◌++◌, length, sum_by, find, Option, Some, None, is_some, option_and_then, unwrap_or}
 use Rattle.std.specs.Str.{bytes_eq}
 use Rattle.flattener.specs.Block.{block_refusal}
 use Rattle.flattener.specs.Fits.{most_source}
@@ -16,7 +16,7 @@ use Rattle.reply_text.specs.declared.reply.Reply.{Reply}
 use Rattle.reply_text.specs.declared.reply.Reply.TheVariants.{Written, NotFound}
 use Rattle.reply_text.specs.declared.reply.WriteResult.{WriteResult}
 use Rattle.reply_text.specs.declared.reply.WriteResult.TheVariants.{Created, Updated, Deleted, Noop}
-use Rattle.request_form.specs.Command.{Target, Changes, Operation, index, create, update, delete, Write}
+use Rattle.request_form.specs.Command.{Changes, Operation, index, create, update, delete, Write}
 use Rattle.source_growth.specs.Growth.{growth}
 use Rattle.tree_json.specs.Text.{compact}
 use Rattle.tree_json.specs.Value.{JsonValue}
