@@ -21,8 +21,11 @@ join pairs = obj ((codes "relations", obj pairs) ∷ (codes "type", text (codes 
 abbrev kept : Seq JsonValue
 kept = body (
     (codes "a", typed (codes "object"))
-    ∷ (codes "n", obj (
-    (codes "include_in_parent", bool true) ∷ (codes "properties", obj ((codes "price", typed (codes "long")) ∷ [])) ∷ (codes "type", text (codes "nested")) ∷ []))
+    ∷ (
+      codes "n",
+      obj (
+          (codes "include_in_parent", bool true) ∷ (codes "properties", obj ((codes "price", typed (codes "long")) ∷ [])) ∷ (codes "type", text (codes "nested")) ∷ []),
+    )
     ∷ (codes "r", join ((codes "question", text (codes "answer")) ∷ [])) ∷ (codes "t", typed (codes "text")) ∷ []) ∷ []
 
 abbrev conflict : Seq (Seq ℕ × JsonValue) → Option (Seq ℕ)
