@@ -1,0 +1,4 @@
+pub mod Keys
+pub mod Found
+pub mod Scoped
+pub mod Termed

@@ -1,0 +1,39 @@
+//! Why there is no segment.
+
+use std::alloc::{AllocError, AllocFailed};
+
+/// Why blocks give no segment.
+#[derive(Clone, Copy, Debug, PartialEq, Eq)]
+pub enum BuildRefusal {
+    /// The documents are none that one mapping gives.
+    NotASegment,
+    /// Memory ran out.
+    NoMemory,
+}
+
+impl From<AllocError> for BuildRefusal {
+    fn from(_: AllocError) -> BuildRefusal {
+        BuildRefusal::NoMemory
+    }
+}
+
+impl<T: Drop> From<AllocFailed<T>> for BuildRefusal {
+    fn from(_: AllocFailed<T>) -> BuildRefusal {
+        BuildRefusal::NoMemory
+    }
+}
+
+impl From<block_bits::NoMemory> for BuildRefusal {
+    fn from(_: block_bits::NoMemory) -> BuildRefusal {
+        BuildRefusal::NoMemory
+    }
+}
+
+impl From<segment::SegmentRefusal> for BuildRefusal {
+    fn from(refusal: segment::SegmentRefusal) -> BuildRefusal {
+        match refusal {
+            segment::SegmentRefusal::NotASegment => BuildRefusal::NotASegment,
+            segment::SegmentRefusal::NoMemory => BuildRefusal::NoMemory,
+        }
+    }
+}
