@@ -22,7 +22,7 @@ use crate::scopes::scope_sets;
 use crate::terms::{add_keyword_terms, add_number_terms};
 use crate::{Block, BuildRefusal};
 use doc_values::ValueList;
-use segment::{Columns, Segment};
+use segment::{Columns, Segment, scopes_are_of_documents};
 use std::alloc::Global;
 use term_table::{PositionList, TermRow};
 
@@ -34,7 +34,9 @@ pub fn built(alloc: Global, blocks: Vec<Block>) -> Result<Segment, BuildRefusal>
 {
     let entries = entries_of(alloc, blocks)?;
     let columns = made(alloc, entries)?;
-    Ok(Segment::of_columns(alloc, columns)?)
+    let segment = Segment::of_columns(alloc, columns)?;
+    scopes_are_of_documents(&segment);
+    Ok(segment)
 }
 
 /// The columns of entries.
