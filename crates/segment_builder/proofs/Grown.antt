@@ -10,7 +10,7 @@ use Rattle.segment.specs.Flat.{FlatDocument, FlatRoot}
 use Rattle.segment_builder.specs.Entries.{EntriesState, no_entries, with_document, with_documents, with_block, with_blocks}
 use Rattle.segment_builder.specs.Groups.{of_key}
 use Rattle.segment_builder.specs.Parts.{tagged}
-use Rattle.segment_builder.specs.Seen.{BlockState}
+use Rattle.flattener.specs.Block.{BlockState}
 use Rattle.segment_builder.proofs.Keys.{split}
 use Rattle.segment_builder.proofs.Merged.{IsExact, find}
 

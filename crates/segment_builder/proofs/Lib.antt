@@ -10,3 +10,8 @@ pub mod Orders
 pub mod Texts
 pub mod Worded
 pub mod Whole
+pub mod Ordered
+pub mod Fitted
+pub mod Cut
+pub mod Stands
+pub mod Deaths

@@ -8,7 +8,7 @@ use Rattle.std.proofs.lemmas.Cmp.{ranked, by_ranked, nat_cmp_total, nat_list_cmp
 use Rattle.term_table.specs.Terms.{term_cmp}
 use Rattle.segment_builder.proofs.Merged.{IsExact}
 
-nat_exact : (x y : ℕ) → nat_cmp x y ≡ Equal → x ≡ y
+pub nat_exact : (x y : ℕ) → nat_cmp x y ≡ Equal → x ≡ y
 nat_exact x y h = by_ranked (x < y) (x ≡ y) (y < x) (nat_cmp x y) (ranked x y (nat_cmp x y) refl) (λ less _. absurd (cc (h, less))) (λ _ same. same) (λ more _. absurd (cc (h, more)))
 
 then_equal : (a b : Ordering) → ordering_then a b ≡ Equal → (a ≡ Equal) × (b ≡ Equal)
@@ -16,7 +16,7 @@ then_equal Less b h = absurd (cc (h))
 then_equal Equal b h = (refl, h)
 then_equal Greater b h = absurd (cc (h))
 
-bytes_exact : (x y : List ℕ) → slice_cmp nat_cmp x y ≡ Equal → x ≡ y
+pub bytes_exact : (x y : List ℕ) → slice_cmp nat_cmp x y ≡ Equal → x ≡ y
 bytes_exact [] [] h = refl
 bytes_exact [] (y ∷ ys) h = absurd (cc (h))
 bytes_exact (x ∷ xs) [] h = absurd (cc (h))

@@ -21,7 +21,7 @@ use Rattle.segment_builder.specs.Form.{IsOrdered}
 use Rattle.segment_builder.specs.Groups.{of_key, in_groups}
 use Rattle.segment_builder.specs.Made.{IsMade, all_terms}
 use Rattle.segment_builder.specs.Parts.{tagged}
-use Rattle.segment_builder.specs.Seen.{BlockState}
+use Rattle.flattener.specs.Block.{BlockState}
 use Rattle.segment_builder.specs.Terms.{row_group, keyword_terms, number_terms}
 use Rattle.segment_builder.proofs.Assembled.{map_twice}
 use Rattle.segment_builder.proofs.Grown.{flats_in, scopes_of_blocks, roots_of_blocks, by_doc, blocks_add, of_append, at_doc}

@@ -2,7 +2,8 @@
 use Rattle.std.specs.Prelude.{ℕ, ℤ, List, [], ◌∷◌, ◌++◌, length, map, Vec}
 use Rattle.segment.specs.Flat.{FlatDocument, FlatRoot}
 use Rattle.segment_builder.specs.Parts.{tagged, fields_with}
-use Rattle.segment_builder.specs.Seen.{BlockState, root_seen}
+use Rattle.flattener.specs.Block.{BlockState}
+use Rattle.flattener.specs.Seen.{root_seen}
 use Rattle.segment_builder.specs.declared.entries.Entries.{Entries}
 
 -- entries of words by their bytes

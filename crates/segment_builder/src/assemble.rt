@@ -3,14 +3,17 @@
 ghost use Rattle.std.specs.Prelude.{◌≡◌, ◌++◌, map, IfOk};
 ghost use Rattle.std.specs.List.{flat_map, All};
 ghost use Rattle.segment.specs.Flat.{flats_of, roots_of};
+ghost use Rattle.segment_builder.specs.Blocks.{blocks_of};
 ghost use Rattle.segment_builder.specs.Form.{IsOrdered};
 ghost use Rattle.segment_builder.specs.Made.{IsMade};
 ghost use Rattle.term_table.specs.Terms.{term_cmp};
 ghost use Rattle.segment_builder.specs.Entries.{entries_seen, words_seen};
 ghost use Rattle.segment_builder.specs.Groups.{in_groups, of_key};
 ghost use Rattle.segment_builder.specs.Terms.{row_group, keyword_terms, number_terms};
-ghost use Rattle.segment_builder.specs.Seen.{block_seen};
+ghost use Rattle.flattener.specs.Fits.{BlockFits, SegmentFits};
+ghost use Rattle.flattener.specs.Seen.{block_seen};
 
+use crate::BuildRefusal;
 use crate::entries::{Entries, entries_of};
 use crate::grouped::grouped;
 use crate::keywords::Keywords;
@@ -20,14 +23,33 @@ use crate::present::present_of;
 use crate::rows::rows_of;
 use crate::scopes::scope_sets;
 use crate::terms::{add_keyword_terms, add_number_terms};
-use crate::{Block, BuildRefusal};
 use doc_values::ValueList;
+use flattener::{Block, blocks_are_of_their_mapping};
+use mapping::Mapping;
 use segment::{Columns, Segment, scopes_are_of_documents};
 use std::alloc::Global;
 use term_table::{PositionList, TermRow};
 
-/// The segment of these blocks, in their order.
-pub fn built(alloc: Global, blocks: Vec<Block>) -> Result<Segment, BuildRefusal>
+/// The segment of these blocks, in their order, under the mapping that they were made with.
+pub fn built(
+    alloc: Global,
+    mapping: &Mapping,
+    blocks: Vec<Block>,
+) -> Result<Segment, BuildRefusal>
+    requires { All (BlockFits mapping.now) (map block_seen blocks.items) }
+    ensures flats { IfOk result (λ segment. flats_of segment ≡ flat_map (λ block. block.flats) (map block_seen blocks.items)) }
+    ensures roots { IfOk result (λ segment. roots_of segment ≡ map (λ block. block.root) (map block_seen blocks.items)) }
+    ensures fits { IfOk result (λ segment. SegmentFits mapping.now segment) }
+    ensures blocks { IfOk result (λ segment. blocks_of segment ≡ map block_seen blocks.items) }
+{
+    blocks_are_of_their_mapping();
+    let _ = mapping.scope_count();
+    let segment = made_of(alloc, blocks)?;
+    Ok(segment)
+}
+
+/// The segment of blocks whose documents carry what they carry in order.
+fn made_of(alloc: Global, blocks: Vec<Block>) -> Result<Segment, BuildRefusal>
     requires { All IsOrdered (flat_map (λ block. block.flats) (map block_seen blocks.items)) }
     ensures flats { IfOk result (λ segment. flats_of segment ≡ flat_map (λ block. block.flats) (map block_seen blocks.items)) }
     ensures roots { IfOk result (λ segment. roots_of segment ≡ map (λ block. block.root) (map block_seen blocks.items)) }

@@ -3,11 +3,12 @@
 ghost use Rattle.std.specs.Prelude.{◌≡◌, ◌++◌, ◌∷◌, [], map, IfOk, OnOk};
 ghost use Rattle.segment_builder.specs.Entries.{entries_seen, no_entries, with_block, with_blocks, with_document, with_documents, words_seen};
 ghost use Rattle.segment_builder.specs.Parts.{tagged, fields_with};
-ghost use Rattle.segment_builder.specs.Seen.{block_seen, document_seen, keyword_seen, number_seen, word_seen};
+ghost use Rattle.flattener.specs.Seen.{block_seen, document_seen, keyword_seen, number_seen, word_seen};
 
 use crate::keywords::Keywords;
-use crate::{Block, BuildRefusal, Document, KeywordField, NumberField, Word};
+use crate::BuildRefusal;
 use doc_values::ValueList;
+use flattener::{Block, Document, KeywordField, NumberField, Word};
 use segment::Root;
 use std::alloc::Global;
 use term_table::PositionList;

@@ -1,17 +1,20 @@
-use Rattle.std.proofs.Common.{◌≡◌, map, ap, subst, ◌∙◌}
-use Rattle.segment.specs.Flat.{flats_of, roots_of}
-use Rattle.segment_builder.specs.Entries.{entries_seen}
-use Rattle.segment_builder.specs.Seen.{block_seen}
-use Rattle.segment_builder.proofs.Whole.{flats_are, roots_are}
+use Rattle.std.proofs.Common.{◌≡◌, map}
+use Rattle.flattener.specs.Seen.{block_seen}
+use Rattle.segment_builder.proofs.Ordered.{all_ordered}
+use Rattle.segment_builder.proofs.Fitted.{fitted, all_roots}
+use Rattle.segment_builder.proofs.Cut.{blocks_again}
 use Rattle.segment_builder.proofs.assemble.built.Goals as goal
 
-pub returns-clause-flats : goal.returns-clause-flats
-returns-clause-flats c =
-    let same : c.in_ok-segment.segment ≡ c.in_ok-columns.columns = c.in_ok-segment.ensures.columns in
-    ap flats_of same ∙ flats_are (entries_seen c.in_ok-entries.entries) c.in_ok-columns.columns (map block_seen c.args.blocks.items) c.in_ok-entries.ensures c.in_ok-columns.ensures c.in_ok-segment.ensures.agree c.requires
-    (rw same at c.scopes_are_of_documents.ensures.sets)
+pub made_of-requires : goal.made_of-requires
+made_of-requires c = all_ordered c.args.mapping.now (map block_seen c.args.blocks.items) c.requires
 
-pub returns-clause-roots : goal.returns-clause-roots
-returns-clause-roots c =
-    let same : c.in_ok-segment.segment ≡ c.in_ok-columns.columns = c.in_ok-segment.ensures.columns in
-    ap roots_of same ∙ roots_are (entries_seen c.in_ok-entries.entries) c.in_ok-columns.columns (map block_seen c.args.blocks.items) c.in_ok-entries.ensures c.in_ok-columns.ensures c.in_ok-segment.ensures.agree
+pub returns-clause-fits : goal.returns-clause-fits
+returns-clause-fits c =
+    fitted c.args.mapping.now c.in_ok-segment.segment (map block_seen c.args.blocks.items)
+    (λ block fits. c.blocks_are_of_their_mapping.ensures c.args.mapping.now block c.scope_count.ensures.is_mapping fits) c.requires c.in_ok-segment.ensures.flats c.in_ok-segment.ensures.roots
+
+pub returns-clause-blocks : goal.returns-clause-blocks
+returns-clause-blocks c =
+    blocks_again c.args.mapping.now c.in_ok-segment.segment (map block_seen c.args.blocks.items)
+    (all_roots c.args.mapping.now (map block_seen c.args.blocks.items) (λ block fits. c.blocks_are_of_their_mapping.ensures c.args.mapping.now block c.scope_count.ensures.is_mapping fits) c.requires)
+    c.in_ok-segment.ensures.flats c.in_ok-segment.ensures.roots

@@ -2,7 +2,7 @@ use Rattle.std.proofs.Common.{◌≡◌, map, sym, ap, ◌∙◌, rules, arith}
 use Rattle.std.specs.Ordering.{nat_cmp}
 use Rattle.segment_builder.specs.Columns.{terms_in, marks_of}
 use Rattle.segment_builder.specs.Groups.{in_groups}
-use Rattle.segment_builder.specs.Seen.{root_seen}
+use Rattle.flattener.specs.Seen.{root_seen}
 use Rattle.segment_builder.proofs.Assembled.{map_twice, by_bytes}
 use Rattle.segment_builder.proofs.assemble.made.Goals as goal
 

@@ -1,7 +1,7 @@
 use Rattle.std.proofs.Common.{◌≡◌, map}
 use Rattle.std.specs.Vec.Iter.{into_iter_items}
 use Rattle.segment_builder.specs.Entries.{entries_seen, with_documents}
-use Rattle.segment_builder.specs.Seen.{document_seen}
+use Rattle.flattener.specs.Seen.{document_seen}
 use Rattle.segment_builder.proofs.entries.add_documents.Given as goal
 
 abbrev pub invariant-documents : goal.invariant-documents

@@ -1,7 +1,7 @@
 use Rattle.std.proofs.Common.{◌≡◌, ◌++◌, map}
 use Rattle.std.specs.Vec.Iter.{into_iter_items}
 use Rattle.segment_builder.specs.Parts.{tagged}
-use Rattle.segment_builder.specs.Seen.{keyword_seen}
+use Rattle.flattener.specs.Seen.{keyword_seen}
 use Rattle.segment_builder.proofs.entries.add_keywords.Given as goal
 
 abbrev pub invariant-fields : goal.invariant-fields

@@ -2,7 +2,7 @@ use Rattle.std.proofs.Common.{◌≡◌, ◌++◌, map}
 use Rattle.std.specs.Vec.Iter.{into_iter_items}
 use Rattle.segment_builder.specs.Entries.{words_seen}
 use Rattle.segment_builder.specs.Parts.{tagged}
-use Rattle.segment_builder.specs.Seen.{word_seen}
+use Rattle.flattener.specs.Seen.{word_seen}
 use Rattle.segment_builder.proofs.entries.add_words.Given as goal
 
 abbrev pub invariant-words : goal.invariant-words

@@ -1,7 +1,7 @@
 use Rattle.std.proofs.Common.{◌≡◌, map}
 use Rattle.std.specs.Vec.Iter.{into_iter_items}
 use Rattle.segment_builder.specs.Entries.{entries_seen, no_entries, with_blocks}
-use Rattle.segment_builder.specs.Seen.{block_seen}
+use Rattle.flattener.specs.Seen.{block_seen}
 use Rattle.segment_builder.proofs.entries.entries_of.Given as goal
 
 abbrev pub invariant-trees : goal.invariant-trees
