@@ -53,12 +53,12 @@ last_scope : (flats : List FlatDocument) (flat : FlatDocument) → ((doc : ℕ) 
 last_scope [] flat last one = last 0 refl
 last_scope (next ∷ flats) flat last one =
     let rest : (doc : ℕ) → doc + 1 ≡ length (map (λ (f : FlatDocument). f.scope) (next ∷ flats)) → get_or (map (λ (f : FlatDocument). f.scope) (next ∷ flats)) doc 0 ≡ 0 =
-        λ doc h. last (suc doc) (omega (arith, h)) in
+    λ doc h. last (suc doc) (omega (arith, h)) in
     split (is_root flat)
     (λ is. absurd (
-        let more : length (flat ∷ filter is_root (next ∷ flats)) ≡ 1 = rw is at one in
-        let none : length (filter is_root (next ∷ flats)) ≡ 0 = omega (arith, more) in
-        last_none flats next rest (no_roots (next ∷ flats) none)))
+    let more : length (flat ∷ filter is_root (next ∷ flats)) ≡ 1 = rw is at one in
+    let none : length (filter is_root (next ∷ flats)) ≡ 0 = omega (arith, more) in
+    last_none flats next rest (no_roots (next ∷ flats) none)))
     (λ isnt. (isnt, last_scope flats next rest (rw isnt at one)))
 
 pub ends_block : (m : Mapping) (root : FlatRoot) (flats : List FlatDocument) → IsRootOf m root flats → EndsBlock flats

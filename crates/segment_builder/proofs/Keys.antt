@@ -68,8 +68,8 @@ module _ {K P : Type 0} (cmp : K → K → Ordering) (o : IsTotalOrder cmp) wher
   stable_key xs ys moved stable key =
       split (list_any (is_of key) xs)
       (λ some.
-          let x = found_entry key xs some in
-          same_key key x.0.0 ys x.1 ∙ of_entry xs ys stable x.0 ∙ sym (same_key key x.0.0 xs x.1))
+      let x = found_entry key xs some in
+      same_key key x.0.0 ys x.1 ∙ of_entry xs ys stable x.0 ∙ sym (same_key key x.0.0 xs x.1))
       (λ none. none_of key ys (sym (list_any-IsPermutation (is_of key) xs ys moved) ∙ none) ∙ sym (none_of key xs none))
 
   -- ---- groups

@@ -90,23 +90,23 @@ module _ {K X : Type 0} (cmp : K → K → Ordering) (o : IsExact cmp) where
       let up_rest : IsStrictlySortedBy cmp (keys groups) = sorted_tail cmp group.0 (keys groups) up in
       cases (cmp group.0 entry.0)
       (λ less.
-          let behind : AllByRecursion (λ k. cmp group.0 k ≡ Less) (keys (entry ∷ entries)) = (less, after cmp o group.0 entry.0 (keys entries) less later) in
-          let nothing : values_of doc group.1 ≡ [] = says.0 ∙ find_none group.0 (entry ∷ entries) behind in
-          rw nothing (merged_from doc groups (entry ∷ entries) up_rest rise some says.1 (in_rest group groups (entry ∷ entries) behind in_it)))
+      let behind : AllByRecursion (λ k. cmp group.0 k ≡ Less) (keys (entry ∷ entries)) = (less, after cmp o group.0 entry.0 (keys entries) less later) in
+      let nothing : values_of doc group.1 ≡ [] = says.0 ∙ find_none group.0 (entry ∷ entries) behind in
+      rw nothing (merged_from doc groups (entry ∷ entries) up_rest rise some says.1 (in_rest group groups (entry ∷ entries) behind in_it)))
       (λ equal.
-          let same : group.0 ≡ entry.0 = o.same group.0 entry.0 equal in
-          let found : eq_by_cmp cmp group.0 entry.0 ≡ true = ap is_eq equal in
-          let values : values_of doc group.1 ≡ entry.1 = says.0 ∙ rw found refl in
-          let above_entry : AllByRecursion (λ k. cmp entry.0 k ≡ Less) (keys groups) = subst (λ key. AllByRecursion (λ k. cmp key k ≡ Less) (keys groups)) same above in
-          let behind : AllByRecursion (λ k. cmp group.0 k ≡ Less) (keys entries) = subst (λ key. AllByRecursion (λ k. cmp key k ≡ Less) (keys entries)) (sym same) later in
-          let rest : at_document doc groups ≡ entries =
-              merged_from doc groups entries up_rest (sorted_tail cmp entry.0 (keys entries) rise) some.1 (says_rest doc entry groups entries above_entry says.1) (in_rest group groups entries behind in_it.1) in
-          let kept : has_some (entry.0, entry.1) ≡ true = some.0 in
-          rw (values, same, kept, rest) refl)
+      let same : group.0 ≡ entry.0 = o.same group.0 entry.0 equal in
+      let found : eq_by_cmp cmp group.0 entry.0 ≡ true = ap is_eq equal in
+      let values : values_of doc group.1 ≡ entry.1 = says.0 ∙ rw found refl in
+      let above_entry : AllByRecursion (λ k. cmp entry.0 k ≡ Less) (keys groups) = subst (λ key. AllByRecursion (λ k. cmp key k ≡ Less) (keys groups)) same above in
+      let behind : AllByRecursion (λ k. cmp group.0 k ≡ Less) (keys entries) = subst (λ key. AllByRecursion (λ k. cmp key k ≡ Less) (keys entries)) (sym same) later in
+      let rest : at_document doc groups ≡ entries =
+      merged_from doc groups entries up_rest (sorted_tail cmp entry.0 (keys entries) rise) some.1 (says_rest doc entry groups entries above_entry says.1) (in_rest group groups entries behind in_it.1) in
+      let kept : has_some (entry.0, entry.1) ≡ true = some.0 in
+      rw (values, same, kept, rest) refl)
       (λ more.
-          let back : cmp entry.0 group.0 ≡ Less = o.total.antisymm entry.0 group.0 ∙ ap ordering_reverse more in
-          let before : AllByRecursion (λ k. cmp entry.0 k ≡ Less) (keys (group ∷ groups)) = (back, after cmp o entry.0 group.0 (keys groups) back above) in
-          absurd (let never : true ≡ false = sym in_it.0 ∙ none_in cmp o entry.0 (group ∷ groups) before in cc))
+      let back : cmp entry.0 group.0 ≡ Less = o.total.antisymm entry.0 group.0 ∙ ap ordering_reverse more in
+      let before : AllByRecursion (λ k. cmp entry.0 k ≡ Less) (keys (group ∷ groups)) = (back, after cmp o entry.0 group.0 (keys groups) back above) in
+      absurd (let never : true ≡ false = sym in_it.0 ∙ none_in cmp o entry.0 (group ∷ groups) before in cc))
 
   pub merged : (doc : ℕ) (groups : List (K × List (ℕ × List X))) (entries : List (K × List X))
       → IsStrictlySortedBy cmp (keys groups) → IsStrictlySortedBy cmp (keys entries) → AreSome entries

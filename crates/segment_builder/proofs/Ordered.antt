@@ -72,9 +72,9 @@ sorted_range : (n : ℕ) → Sorted nat_cmp (range_with_len 0 n)
 sorted_range n =
     sorted_from_strictly_increasing (range_with_len 0 n)
     (λ k h.
-        let one : get_or (range_with_len 0 n) k 0 ≡ 0 + k = get_or-range_with_len 0 n k 0 (omega (arith, h, length-range_with_len 0 n)) in
-        let two : get_or (range_with_len 0 n) (k + 1) 0 ≡ 0 + (k + 1) = get_or-range_with_len 0 n (k + 1) 0 (omega (arith, h, length-range_with_len 0 n)) in
-        omega (arith, one, two))
+    let one : get_or (range_with_len 0 n) k 0 ≡ 0 + k = get_or-range_with_len 0 n k 0 (omega (arith, h, length-range_with_len 0 n)) in
+    let two : get_or (range_with_len 0 n) (k + 1) 0 ≡ 0 + (k + 1) = get_or-range_with_len 0 n (k + 1) 0 (omega (arith, h, length-range_with_len 0 n)) in
+    omega (arith, one, two))
 
 fields_ascend : (test : Kind → Bool) (m : Mapping) → Sorted nat_cmp (fields_of test m)
 fields_ascend test m = sorted_filter nat_cmp (λ f. test (kind_at m f)) (range_with_len 0 (length m.fields)) (sorted_range (length m.fields))
@@ -231,14 +231,14 @@ together_are f word positions (t ∷ ts) some after up =
     split (bytes_eq t.0 word)
     (λ is. rw is (together_are f word (positions ++ t.1 ∷ []) ts (some_more positions t.1) after.1 up.1))
     (λ isnt.
-        let rest : AreWords f t.0 (together f t.0 (t.1 ∷ []) ts) = together_are f t.0 (t.1 ∷ []) ts refl up.0 up.1 in
-        let apart : is_eq (bytes_cmp word t.0) ≡ false = (eq_by_cmp_equiv nat_list_cmp_total).symm word t.0 ∙ is_eq-slice_cmp t.0 word ∙ isnt in
-        let less : bytes_cmp word t.0 ≡ Less = less_then (bytes_cmp word t.0) Less after.0 apart in
-        rw isnt (record {
-          up = sorted_cons term_cmp (f, word) (keys (together f t.0 (t.1 ∷ []) ts)) (term_before f word t.0 (keys (together f t.0 (t.1 ∷ []) ts)) less rest.least) rest.up;
-          least = ((refl, not_after_itself word), at_least_on f word t.0 (keys (together f t.0 (t.1 ∷ []) ts)) less rest.least);
-          some = (some, rest.some);
-        }))
+    let rest : AreWords f t.0 (together f t.0 (t.1 ∷ []) ts) = together_are f t.0 (t.1 ∷ []) ts refl up.0 up.1 in
+    let apart : is_eq (bytes_cmp word t.0) ≡ false = (eq_by_cmp_equiv nat_list_cmp_total).symm word t.0 ∙ is_eq-slice_cmp t.0 word ∙ isnt in
+    let less : bytes_cmp word t.0 ≡ Less = less_then (bytes_cmp word t.0) Less after.0 apart in
+    rw isnt (record {
+      up = sorted_cons term_cmp (f, word) (keys (together f t.0 (t.1 ∷ []) ts)) (term_before f word t.0 (keys (together f t.0 (t.1 ∷ []) ts)) less rest.least) rest.up;
+      least = ((refl, not_after_itself word), at_least_on f word t.0 (keys (together f t.0 (t.1 ∷ []) ts)) less rest.least);
+      some = (some, rest.some);
+    }))
 
 record AreOfField (f : ℕ) (words : Words) : Type 0 where
   up : Sorted term_cmp (keys words)

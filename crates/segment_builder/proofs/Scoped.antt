@@ -6,9 +6,10 @@ use Rattle.segment_builder.proofs.Keys.{split}
 
 set_mid : (xs ys : List Bool) (x y : Bool) (n : ℕ) → n ≡ length xs → set (xs ++ (x ∷ ys)) n y ≡ xs ++ (y ∷ ys)
 set_mid xs ys x y n is = rw is (at_length xs)
-    where at_length : (zs : List Bool) → set (zs ++ (x ∷ ys)) (length zs) y ≡ zs ++ (y ∷ ys)
-          at_length [] = refl
-          at_length (z ∷ zs) = ap (λ (rest : List Bool). z ∷ rest) (at_length zs)
+  where
+    at_length : (zs : List Bool) → set (zs ++ (x ∷ ys)) (length zs) y ≡ zs ++ (y ∷ ys)
+    at_length [] = refl
+    at_length (z ∷ zs) = ap (λ (rest : List Bool). z ∷ rest) (at_length zs)
 
 pub docs_more : (scopes : List ℕ) (scope doc : ℕ) (old new : List Bool) → doc < length scopes
     → new ≡ (if get_or scopes doc 0 == scope then set old doc true else old)
@@ -21,9 +22,9 @@ docs_more scopes scope doc old new inside is was =
     let count : length scopes - doc ≡ suc (length scopes - (doc + 1)) = omega (arith, inside) in
     let before : old ≡ front ++ (false ∷ left) = was ∙ ap (λ n. front ++ replicate n false) count in
     let taken : documents_of (take (doc + 1) scopes) scope ≡ front ++ (get_or scopes doc 0 == scope) ∷ [] =
-        ap (λ xs. documents_of xs scope) (take_more scopes doc 0 inside) ∙ map-append (has_scope scope) (take doc scopes) (get_or scopes doc 0 ∷ []) in
+    ap (λ xs. documents_of xs scope) (take_more scopes doc 0 inside) ∙ map-append (has_scope scope) (take doc scopes) (get_or scopes doc 0 ∷ []) in
     let after : documents_of (take (doc + 1) scopes) scope ++ left ≡ front ++ ((get_or scopes doc 0 == scope) ∷ left) =
-        ap (λ xs. xs ++ left) taken ∙ append_assoc front ((get_or scopes doc 0 == scope) ∷ []) left in
+    ap (λ xs. xs ++ left) taken ∙ append_assoc front ((get_or scopes doc 0 == scope) ∷ []) left in
     is ∙ sym (after ∙ split (get_or scopes doc 0 == scope)
     (λ yes_is. rw yes_is (sym (ap (λ xs. set xs doc true) before ∙ set_mid front left false true doc long)))
     (λ not_is. rw not_is (sym before)))

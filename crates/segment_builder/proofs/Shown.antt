@@ -95,9 +95,9 @@ module _ {K : Type 0} (cmp : K → K → Ordering) (o : IsExact cmp) where
         split (list_any (λ (group : K × List (ℕ × List X)). eq_by_cmp cmp entry.0 group.0) groups)
         (λ is. is)
         (λ none. absurd (
-            let nothing : entry.1 ≡ [] = sym own ∙ sym (says entry.0) ∙ ap (values_of doc) (sym gathers ∙ no_group entry.0 groups none) in
-            let never : has_some (entry.0, entry.1) ≡ true = some in
-            let empty : false ≡ true = rw nothing at never in cc (empty)))
+        let nothing : entry.1 ≡ [] = sym own ∙ sym (says entry.0) ∙ ap (values_of doc) (sym gathers ∙ no_group entry.0 groups none) in
+        let never : has_some (entry.0, entry.1) ≡ true = some in
+        let empty : false ≡ true = rw nothing at never in cc (empty)))
 
     are_there : (some : List (K × List X)) → AreSome cmp o some → AllByRecursion (λ (entry : K × List X). find cmp o entry.0 entries ≡ entry.1) some → AllByRecursion (λ (entry : K × List X). Gathers entry.0) some → AreIn cmp o groups some
     are_there [] full own gathers = tt

@@ -68,24 +68,25 @@ cut_all flat [] front (root ∷ roots) ends count =
       documents = rw is (append-nil (front ++ flat ∷ []));
       same = rw is (ap (λ rs. root ∷ rs) (sym none));
     }
-    where no_more : (rs : List FlatRoot) → length rs ≡ 0 → rs ≡ []
-          no_more [] h = refl
-          no_more (r ∷ rs) h = absurd (omega (arith, h))
+  where
+    no_more : (rs : List FlatRoot) → length rs ≡ 0 → rs ≡ []
+    no_more [] h = refl
+    no_more (r ∷ rs) h = absurd (omega (arith, h))
 cut_all flat (next ∷ flats) front (root ∷ roots) ends count =
     split (is_root flat)
     (λ is.
-        let less : roots_in (next ∷ flats) ≡ length roots = omega (arith, rw is at count) in
-        let rest : AreCut [] (next ∷ flats) roots = cut_all next flats [] roots ends less in
-        record {
-          documents = rw is (ap (λ fs. (front ++ flat ∷ []) ++ fs) rest.documents ∙ append_assoc front (flat ∷ []) (next ∷ flats));
-          same = rw is (ap (λ rs. root ∷ rs) rest.same);
-        })
+    let less : roots_in (next ∷ flats) ≡ length roots = omega (arith, rw is at count) in
+    let rest : AreCut [] (next ∷ flats) roots = cut_all next flats [] roots ends less in
+    record {
+      documents = rw is (ap (λ fs. (front ++ flat ∷ []) ++ fs) rest.documents ∙ append_assoc front (flat ∷ []) (next ∷ flats));
+      same = rw is (ap (λ rs. root ∷ rs) rest.same);
+    })
     (λ isnt.
-        let rest : AreCut (front ++ flat ∷ []) (next ∷ flats) (root ∷ roots) = cut_all next flats (front ++ flat ∷ []) (root ∷ roots) ends (omega (arith, rw isnt at count)) in
-        record {
-          documents = rw isnt (rest.documents ∙ append_assoc front (flat ∷ []) (next ∷ flats));
-          same = rw isnt rest.same;
-        })
+    let rest : AreCut (front ++ flat ∷ []) (next ∷ flats) (root ∷ roots) = cut_all next flats (front ++ flat ∷ []) (root ∷ roots) ends (omega (arith, rw isnt at count)) in
+    record {
+      documents = rw isnt (rest.documents ∙ append_assoc front (flat ∷ []) (next ∷ flats));
+      same = rw isnt rest.same;
+    })
 
 -- ---- which documents are live, root by root
 
@@ -148,13 +149,13 @@ marks_cut flat [] front (root ∷ roots) (mark ∷ marks) long count ends =
 marks_cut flat (next ∷ flats) front (root ∷ roots) (mark ∷ marks) long count ends =
     split (is_root flat)
     (λ is.
-        let rest : marks_in (marked_by (cut_from [] (next ∷ flats) roots) marks) ≡ live_by (map is_root (next ∷ flats)) marks =
-            marks_cut next flats [] roots marks (omega (arith, long)) (omega (arith, rw is at count)) ends in
-        rw (is, one_longer front flat, rest) (replicate_more (length front) mark (live_by (map is_root (next ∷ flats)) marks)))
+    let rest : marks_in (marked_by (cut_from [] (next ∷ flats) roots) marks) ≡ live_by (map is_root (next ∷ flats)) marks =
+    marks_cut next flats [] roots marks (omega (arith, long)) (omega (arith, rw is at count)) ends in
+    rw (is, one_longer front flat, rest) (replicate_more (length front) mark (live_by (map is_root (next ∷ flats)) marks)))
     (λ isnt.
-        let rest : marks_in (marked_by (cut_from (front ++ flat ∷ []) (next ∷ flats) (root ∷ roots)) (mark ∷ marks)) ≡ replicate (length (front ++ flat ∷ [])) mark ++ live_by (map is_root (next ∷ flats)) (mark ∷ marks) =
-            marks_cut next flats (front ++ flat ∷ []) (root ∷ roots) (mark ∷ marks) long (omega (arith, rw isnt at count)) ends in
-        rw isnt (rest ∙ ap (λ n. replicate n mark ++ live_by (map is_root (next ∷ flats)) (mark ∷ marks)) (one_longer front flat) ∙ replicate_more (length front) mark (live_by (map is_root (next ∷ flats)) (mark ∷ marks))))
+    let rest : marks_in (marked_by (cut_from (front ++ flat ∷ []) (next ∷ flats) (root ∷ roots)) (mark ∷ marks)) ≡ replicate (length (front ++ flat ∷ [])) mark ++ live_by (map is_root (next ∷ flats)) (mark ∷ marks) =
+    marks_cut next flats (front ++ flat ∷ []) (root ∷ roots) (mark ∷ marks) long (omega (arith, rw isnt at count)) ends in
+    rw isnt (rest ∙ ap (λ n. replicate n mark ++ live_by (map is_root (next ∷ flats)) (mark ∷ marks)) (one_longer front flat) ∙ replicate_more (length front) mark (live_by (map is_root (next ∷ flats)) (mark ∷ marks))))
 
 -- ---- blocks with their marks
 

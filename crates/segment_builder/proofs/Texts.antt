@@ -29,12 +29,12 @@ marked (doc ∷ docs) flags d inside =
     let later : get_or (with_marks (set flags doc true) docs) d false ≡ (get_or (set flags doc true) d false || list_any (is_doc d) docs) = marked docs (set flags doc true) d (omega (arith, inside, length-set flags doc true)) in
     later ∙ split (doc == d)
     (λ is.
-        let same : doc ≡ d = eqb-true doc d is in
-        let set_it : get_or (set flags doc true) d false ≡ true = rw same (get_or-set_same flags d true false inside) in
-        rw (set_it, is) (sym (or_true (get_or flags d false))))
+    let same : doc ≡ d = eqb-true doc d is in
+    let set_it : get_or (set flags doc true) d false ≡ true = rw same (get_or-set_same flags d true false inside) in
+    rw (set_it, is) (sym (or_true (get_or flags d false))))
     (λ isnt.
-        let other : get_or (set flags doc true) d false ≡ get_or flags d false = get_or-set_other flags doc d true false (λ same. (let e : (doc == d) ≡ true = eq-eqb doc d (sym same) in let never : true ≡ false = sym e ∙ isnt in cc (never))) in
-        rw (other, isnt) refl)
+    let other : get_or (set flags doc true) d false ≡ get_or flags d false = get_or-set_other flags doc d true false (λ same. (let e : (doc == d) ≡ true = eq-eqb doc d (sym same) in let never : true ≡ false = sym e ∙ isnt in cc (never))) in
+    rw (other, isnt) refl)
 
 pub marks_at : (documents d : ℕ) (docs : List ℕ) → d < documents → get_or (marks_of documents docs) d false ≡ list_any (is_doc d) docs
 marks_at documents d docs inside =

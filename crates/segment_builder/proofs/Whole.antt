@@ -107,7 +107,7 @@ module _ (it : EntriesState) (columns : Columns) (blocks : List BlockState) (is 
     words_say : (key : ℕ × List ℕ) → values_of d (of_key term_cmp key (all_terms it)) ≡ find term_cmp term_order key flat.words
     words_say key =
         let parts : of_key term_cmp key (all_terms it) ≡ (of_key term_cmp key it.words ++ of_key term_cmp key (keyword_terms it.keywords)) ++ of_key term_cmp key (number_terms it.numbers) =
-            of_append term_cmp key (it.words ++ keyword_terms it.keywords) (number_terms it.numbers) ∙ ap (λ xs. xs ++ of_key term_cmp key (number_terms it.numbers)) (of_append term_cmp key it.words (keyword_terms it.keywords)) in
+        of_append term_cmp key (it.words ++ keyword_terms it.keywords) (number_terms it.numbers) ∙ ap (λ xs. xs ++ of_key term_cmp key (number_terms it.numbers)) (of_append term_cmp key it.words (keyword_terms it.keywords)) in
         ap (values_of d) parts
         ∙ values_first d (of_key term_cmp key it.words ++ of_key term_cmp key (keyword_terms it.keywords)) (of_key term_cmp key (number_terms it.numbers)) (numbers_empty key it.numbers)
         ∙ values_first d (of_key term_cmp key it.words) (of_key term_cmp key (keyword_terms it.keywords)) (keywords_empty key it.keywords)
@@ -121,10 +121,10 @@ module _ (it : EntriesState) (columns : Columns) (blocks : List BlockState) (is 
     words_gathered =
         let all : AllByRecursion (λ (entry : (ℕ × List ℕ) × (ℕ × List ℕ)). IsGathered entry.0) (all_terms it) = each_by (λ (entry : (ℕ × List ℕ) × (ℕ × List ℕ)). IsGathered entry.0) (all_terms it) made.entries in
         let words : AllByRecursion (λ (entry : (ℕ × List ℕ) × (ℕ × List ℕ)). IsGathered entry.0) it.words =
-            each_left (λ (entry : (ℕ × List ℕ) × (ℕ × List ℕ)). IsGathered entry.0) it.words (keyword_terms it.keywords)
-            (each_left (λ (entry : (ℕ × List ℕ) × (ℕ × List ℕ)). IsGathered entry.0) (it.words ++ keyword_terms it.keywords) (number_terms it.numbers) all) in
+        each_left (λ (entry : (ℕ × List ℕ) × (ℕ × List ℕ)). IsGathered entry.0) it.words (keyword_terms it.keywords)
+        (each_left (λ (entry : (ℕ × List ℕ) × (ℕ × List ℕ)). IsGathered entry.0) (it.words ++ keyword_terms it.keywords) (number_terms it.numbers) all) in
         let docs : AllByRecursion (λ (entry : (ℕ × List ℕ) × (ℕ × List ℕ)). IsGathered entry.0) (by_doc (λ doc f. tagged doc f.words) 0 flats) =
-            subst (AllByRecursion (λ (entry : (ℕ × List ℕ) × (ℕ × List ℕ)). IsGathered entry.0)) words_are words in
+        subst (AllByRecursion (λ (entry : (ℕ × List ℕ) × (ℕ × List ℕ)). IsGathered entry.0)) words_are words in
         in_document IsGathered (0 + d) flat.words (in_by_doc (λ (entry : (ℕ × List ℕ) × (ℕ × List ℕ)). IsGathered entry.0) (λ doc f. tagged doc f.words) 0 d flats flat here docs)
 
     words_shown : at_document term_cmp term_order d term_groups ≡ flat.words
@@ -178,7 +178,7 @@ module _ (it : EntriesState) (columns : Columns) (blocks : List BlockState) (is 
     is_of_scope =
         let long : d < length it.scopes = omega (arith, inside, made.documents) in
         let set : get_or columns.scopes flat.scope [] ≡ documents_of it.scopes flat.scope =
-            ap (λ sets. get_or sets flat.scope []) made.scopes ∙ get_or-map-range_with_len (documents_of it.scopes) 0 (length columns.scopes) flat.scope flat.scope [] scope_within (omega arith) in
+        ap (λ sets. get_or sets flat.scope []) made.scopes ∙ get_or-map-range_with_len (documents_of it.scopes) 0 (length columns.scopes) flat.scope flat.scope [] scope_within (omega arith) in
         ap (λ flags. get_or flags d false) set
         ∙ get_or-map (has_scope flat.scope) it.scopes d 0 false long
         ∙ eq-eqb (get_or it.scopes d 0) flat.scope scope_known
@@ -195,5 +195,5 @@ module _ (it : EntriesState) (columns : Columns) (blocks : List BlockState) (is 
   flats_are ordered scoped =
       sym (fill_by_all (flat_of columns) flats columns.documents no_flat count
       (λ k inside.
-          let long : k < length flats = omega (arith, inside, count) in
-          sym (flat_is k (get_or flats k no_flat) (slice_get-get_or flats k no_flat long) (ordered k no_flat long) inside scoped)))
+      let long : k < length flats = omega (arith, inside, count) in
+      sym (flat_is k (get_or flats k no_flat) (slice_get-get_or flats k no_flat long) (ordered k no_flat long) inside scoped)))

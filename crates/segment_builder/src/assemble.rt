@@ -31,11 +31,7 @@ use std::alloc::Global;
 use term_table::{PositionList, TermRow};
 
 /// The segment of these blocks, in their order, under the mapping that they were made with.
-pub fn built(
-    alloc: Global,
-    mapping: &Mapping,
-    blocks: Vec<Block>,
-) -> Result<Segment, BuildRefusal>
+pub fn built(alloc: Global, mapping: &Mapping, blocks: Vec<Block>) -> Result<Segment, BuildRefusal>
     requires { All (BlockFits mapping.now) (map block_seen blocks.items) }
     ensures flats { IfOk result (λ segment. flats_of segment ≡ flat_map (λ block. block.flats) (map block_seen blocks.items)) }
     ensures roots { IfOk result (λ segment. roots_of segment ≡ map (λ block. block.root) (map block_seen blocks.items)) }

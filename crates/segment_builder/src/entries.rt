@@ -5,8 +5,8 @@ ghost use Rattle.segment_builder.specs.Entries.{entries_seen, no_entries, with_b
 ghost use Rattle.segment_builder.specs.Parts.{tagged, fields_with};
 ghost use Rattle.flattener.specs.Seen.{block_seen, document_seen, keyword_seen, number_seen, word_seen};
 
-use crate::keywords::Keywords;
 use crate::BuildRefusal;
+use crate::keywords::Keywords;
 use doc_values::ValueList;
 use flattener::{Block, Document, KeywordField, NumberField, Word};
 use segment::Root;
@@ -133,11 +133,7 @@ fn add_words(
 }
 
 /// Adds the text fields of a document that have a value.
-fn add_texts(
-    doc: u32,
-    fields: Vec<u32>,
-    into: &mut Vec<(u32, u32)>,
-) -> Result<(), BuildRefusal>
+fn add_texts(doc: u32, fields: Vec<u32>, into: &mut Vec<(u32, u32)>) -> Result<(), BuildRefusal>
     ensures { OnOk result (into.new.items ≡ into.old.items ++ fields_with doc fields.items) }
 {
     'fields: for field in fields {

@@ -21,7 +21,10 @@ pub(crate) fn ordinal_groups(
 {
     let mut made = Vec::new(alloc);
     'groups: for (field, members) in groups {
-        made.push((field, ordinal_rows(alloc, terms, field, members.as_slice())?))?;
+        made.push((
+            field,
+            ordinal_rows(alloc, terms, field, members.as_slice())?,
+        ))?;
     }
     Ok(made)
 }
