@@ -1,5 +1,5 @@
 -- A flag that is cleared is a block that is dead.
-use Rattle.std.proofs.Common.{◌≡◌, ℕ, zero, suc, ◌+◌, ◌-◌, ◌==◌, Bool, true, false, List, [], ◌∷◌, set, refl, ap, ◌∙◌, arith, eqb-true}
+use Rattle.std.proofs.Common.{◌≡◌, ℕ, zero, suc, ◌-◌, ◌==◌, Bool, false, List, [], ◌∷◌, set, refl, ap, arith, eqb-true}
 use Rattle.flattener.specs.Block.{BlockState}
 use Rattle.flattener.specs.StandsFor.{Marked}
 use Rattle.segment_builder.specs.Blocks.{marked_by, dead_at}

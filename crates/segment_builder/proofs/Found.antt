@@ -1,5 +1,5 @@
 -- A term that stands at a place.
-use Rattle.std.proofs.Common.{◌≡◌, ℕ, List, [], Some, slice_get, get_or, ap}
+use Rattle.std.proofs.Common.{◌≡◌, ℕ, List, [], Some, slice_get, ap}
 use Rattle.std.proofs.lemmas.Option.{get_or_from_slice_get}
 use Rattle.segment.specs.Flat.{bytes_at}
 

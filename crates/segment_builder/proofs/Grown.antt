@@ -1,13 +1,12 @@
 -- What is taken apart, document by document: what each document adds, and what it carries at a key.
-use Rattle.std.proofs.Common.{◌≡◌, ℕ, zero, suc, ◌+◌, ◌<◌, ◌≢◌, ◌==◌, Bool, true, false, cond, if◌then◌else◌, List, [], ◌∷◌, ◌++◌, length, map, slice_get, Some, refl, sym, ap, ◌∙◌, append_assoc, append-nil, arith, eq-eqb, length-append}
-use Rattle.std.specs.Cmp.{IsTotalOrder}
+use Rattle.std.proofs.Common.{◌≡◌, ℕ, zero, suc, ◌+◌, ◌<◌, ◌==◌, true, false, List, [], ◌∷◌, ◌++◌, length, map, slice_get, Some, refl, sym, ap, ◌∙◌, append_assoc, append-nil, arith, eq-eqb, length-append}
 use Rattle.std.specs.List.{flat_map}
 use Rattle.std.specs.Ordering.{eq_by_cmp}
 use Rattle.std.specs.declared.cmp.Ordering.{Ordering}
 use Rattle.std.proofs.lemmas.List.{map-append}
 use Rattle.doc_values.specs.Values.{values_of}
-use Rattle.segment.specs.Flat.{FlatDocument, FlatRoot}
-use Rattle.segment_builder.specs.Entries.{EntriesState, no_entries, with_document, with_documents, with_block, with_blocks}
+use Rattle.segment.specs.Flat.{FlatDocument}
+use Rattle.segment_builder.specs.Entries.{EntriesState, with_document, with_documents, with_block, with_blocks}
 use Rattle.segment_builder.specs.Groups.{of_key}
 use Rattle.segment_builder.specs.Parts.{tagged}
 use Rattle.flattener.specs.Block.{BlockState}

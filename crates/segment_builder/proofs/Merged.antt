@@ -1,5 +1,5 @@
 -- What columns say of one document is what the document carries: lists by ascending key, the one a part of the other.
-use Rattle.std.proofs.Common.{◌≡◌, ℕ, ◌+◌, ◌<◌, ◌==◌, Bool, true, false, ◌||◌, cond, List, [], ◌∷◌, ◌++◌, length, map, nat_lt, refl, sym, ap, subst, ◌∙◌, arith}
+use Rattle.std.proofs.Common.{◌≡◌, ℕ, true, false, ◌||◌, cond, List, [], ◌∷◌, map, refl, sym, ap, subst, ◌∙◌}
 use Rattle.std.specs.Cmp.{IsTotalOrder}
 use Rattle.std.specs.List.{filter, list_any, AllByRecursion}
 use Rattle.std.specs.List.Sorted.{IsStrictlySortedBy}
@@ -10,7 +10,6 @@ use Rattle.std.proofs.lemmas.Cmp.{eq_by_cmp_equiv}
 use Rattle.std.proofs.lemmas.Map.Keys.{sorted_head, sorted_tail}
 use Rattle.doc_values.specs.Values.{values_of}
 use Rattle.segment.specs.Flat.{has_some}
-use Rattle.segment_builder.proofs.Keys.{split}
 
 -- an order in which only the same things tie
 pub record IsExact {K : Type 0} (cmp : K → K → Ordering) : Type 0 where

@@ -1,10 +1,9 @@
 -- What a block's documents carry comes in order.
-use Rattle.std.proofs.Common.{◌≡◌, ℕ, ℤ, ◌+◌, ◌<◌, Bool, true, false, cond, if◌then◌else◌, List, [], ◌∷◌, ◌++◌, length, map, get_or, nat_lt, refl, sym, ap, subst, ◌∙◌, arith, lt-ltb, length-append}
+use Rattle.std.proofs.Common.{◌≡◌, ℕ, ℤ, ◌+◌, Bool, true, false, List, [], ◌∷◌, ◌++◌, length, map, get_or, nat_lt, refl, sym, ap, subst, ◌∙◌, arith, lt-ltb, length-append}
 use Rattle.std.specs.Cmp.{IsTotalOrder}
-use Rattle.std.specs.Cmp.Lexicographic.{slice_cmp}
 use Rattle.std.specs.List.{All, AllByRecursion, filter, flat_map, range_with_len}
 use Rattle.std.specs.List.Sorted.{IsStrictlySortedBy}
-use Rattle.std.specs.Ordering.{is_gt, is_lt, is_eq, ordering_reverse, ordering_then, nat_cmp, eq_by_cmp}
+use Rattle.std.specs.Ordering.{is_gt, is_eq, ordering_reverse, ordering_then, nat_cmp}
 use Rattle.std.specs.Str.{bytes_eq}
 use Rattle.std.specs.declared.cmp.Ordering.{Ordering}
 use Rattle.std.specs.declared.cmp.Ordering.TheVariants.{Less, Equal, Greater}
@@ -14,15 +13,15 @@ use Rattle.std.proofs.lemmas.Bool.Decides.{nat_tests}
 use Rattle.std.proofs.lemmas.List.Elements.{All-cons}
 use Rattle.std.proofs.lemmas.Map.Keys.{sorted_from_strictly_increasing}
 use Rattle.std.proofs.lemmas.Map.Text.{is_eq-slice_cmp}
-use Rattle.flattener.specs.Block.{BlockState, flats_of_tree, block_of}
+use Rattle.flattener.specs.Block.{BlockState, flats_of_tree}
 use Rattle.flattener.specs.Fits.{BlockFits}
 use Rattle.flattener.specs.Flat.{placed, ascending, bytes_cmp, token_cmp, tokens, together, grouped, words_of_field, number_field, keyword_field, text_field, field_words, fields_of, has_numbers, is_keyword, is_text, flat_of}
 use Rattle.mapping.specs.Mapping.{Mapping, kind_at}
 use Rattle.mapping_body.specs.declared.kind.Kind.{Kind}
-use Rattle.segment.specs.Flat.{FlatDocument, has_some}
+use Rattle.segment.specs.Flat.{has_some}
 use Rattle.term_table.specs.Terms.{term_cmp}
 use Rattle.tree_objects.specs.Object.{Object, block_objects}
-use Rattle.segment_builder.specs.Form.{IsOrdered, IsByField, IsByTerm}
+use Rattle.segment_builder.specs.Form.{IsOrdered}
 use Rattle.segment_builder.proofs.Keys.{split}
 use Rattle.segment_builder.proofs.Merged.{keys}
 use Rattle.segment_builder.proofs.Orders.{bytes_exact}

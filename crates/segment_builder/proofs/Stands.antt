@@ -1,19 +1,18 @@
 -- An entry whose blocks are those of marked trees stands for these trees.
-use Rattle.std.proofs.Common.{◌≡◌, ℕ, zero, suc, ◌+◌, ◌-◌, ◌<◌, ◌≤◌, ◌==◌, Bool, true, false, cond, if◌then◌else◌, List, [], ◌∷◌, ◌++◌, length, map, take, drop, get_or, replicate, slice_index_or, IsTrue, refl, sym, ap, subst, ◌∙◌, append_assoc, append-nil, arith}
-use Rattle.std.specs.List.{All, AllByRecursion, count_by, flat_map, range_with_len}
-use Rattle.std.proofs.lemmas.List.{length-map, map-append}
+use Rattle.std.proofs.Common.{◌≡◌, ℕ, zero, suc, ◌+◌, ◌-◌, ◌<◌, ◌≤◌, ◌==◌, Bool, true, false, cond, if◌then◌else◌, List, [], ◌∷◌, ◌++◌, length, map, take, drop, get_or, replicate, slice_index_or, refl, sym, ap, subst, ◌∙◌, append_assoc, append-nil, arith}
+use Rattle.std.specs.List.{count_by, flat_map, range_with_len}
+use Rattle.std.proofs.lemmas.List.{length-map}
 use Rattle.std.proofs.lemmas.List.FromFn.{fill_by_all}
-use Rattle.std.proofs.lemmas.List.Concat.{flat_map-append}
 use Rattle.block_bits.specs.Flags.{is_marked}
-use Rattle.flattener.specs.Block.{BlockState, block_of, flats_of_tree, root_of_tree}
+use Rattle.flattener.specs.Block.{BlockState, block_of, flats_of_tree}
 use Rattle.flattener.specs.Fits.{is_root}
 use Rattle.flattener.specs.Flat.{flat_of as flat_of_object}
-use Rattle.flattener.specs.StandsFor.{Marked, by_document, flat_at, live_mark, EntryStandsFor}
+use Rattle.flattener.specs.StandsFor.{Marked, flat_at, live_mark, EntryStandsFor}
 use Rattle.mapping.specs.IsMapping.{IsMapping}
 use Rattle.mapping.specs.Mapping.{Mapping}
 use Rattle.segment.specs.Agree.{AreColumns}
 use Rattle.segment.specs.Flat.{FlatDocument, FlatRoot, flat_of, flats_of, roots_of, flat_root}
-use Rattle.segment.specs.Live.{LiveState, IsLiveOver, live_docs, root_of}
+use Rattle.segment.specs.Live.{LiveState, IsLiveOver, live_docs}
 use Rattle.segment.specs.Marks.{count-mark}
 use Rattle.segment.specs.Parts.{root_flags}
 use Rattle.segment.specs.declared.columns.Columns.{Columns}

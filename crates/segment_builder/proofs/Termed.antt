@@ -1,7 +1,6 @@
 -- Rows of terms are the groups of their entries, by the bytes of terms.
-use Rattle.std.proofs.Common.{◌≡◌, ℕ, ◌<◌, List, [], ◌∷◌, ◌++◌, length, map, get_or, refl, sym, ap, subst, ◌∙◌, Vec}
+use Rattle.std.proofs.Common.{◌≡◌, ℕ, List, [], ◌∷◌, map, get_or, refl, sym, subst, ◌∙◌, Vec}
 use Rattle.std.specs.List.{All}
-use Rattle.std.specs.Ordering.{is_eq, eq_by_cmp}
 use Rattle.std.specs.declared.cmp.Ordering.{Ordering}
 use Rattle.std.proofs.lemmas.List.Elements.{All-map}
 use Rattle.term_table.specs.Terms.{term_cmp}

@@ -1,6 +1,6 @@
 -- The columns made of all blocks say of each document what it carries.
 use Rattle.std.proofs.Common.{◌≡◌, ℕ, ℤ, zero, suc, ◌+◌, ◌<◌, ◌==◌, Bool, true, false, List, [], ◌∷◌, ◌++◌, length, map, get_or, slice_get, slice_index_or, Some, refl, sym, ap, subst, ◌∙◌, arith, eq-eqb, eqb-true}
-use Rattle.std.specs.List.{All, AllByRecursion, filter, flat_map, range_with_len}
+use Rattle.std.specs.List.{All, AllByRecursion, filter}
 use Rattle.std.specs.List.Sorted.{IsStrictlySortedBy}
 use Rattle.std.specs.Ordering.{nat_cmp}
 use Rattle.std.proofs.lemmas.List.{get_or-map, length-map}
@@ -10,13 +10,12 @@ use Rattle.std.proofs.lemmas.Option.{slice_get-get_or, get_or_from_slice_get}
 use Rattle.block_bits.specs.Blocks.{documents_of, has_scope}
 use Rattle.doc_values.specs.Values.{values_of}
 use Rattle.segment.specs.Agree.{AreColumns}
-use Rattle.segment.specs.Flat.{FlatDocument, FlatRoot, has_some, flat_of, flats_of, roots_of, values_at, words_at, bytes_at}
+use Rattle.segment.specs.Flat.{FlatDocument, has_some, flat_of, flats_of, roots_of, values_at, words_at}
 use Rattle.segment.specs.Lists.{terms_of}
 use Rattle.segment.specs.declared.columns.Columns.{Columns}
 use Rattle.term_table.specs.Terms.{term_cmp}
-use Rattle.term_table.specs.declared.rows.TermRow.{TermRow}
 use Rattle.segment_builder.specs.Columns.{column_bytes, marks_of}
-use Rattle.segment_builder.specs.Entries.{EntriesState, no_entries, with_document, with_blocks}
+use Rattle.segment_builder.specs.Entries.{EntriesState, no_entries, with_blocks}
 use Rattle.segment_builder.specs.Form.{IsOrdered}
 use Rattle.segment_builder.specs.Groups.{of_key, in_groups}
 use Rattle.segment_builder.specs.Made.{IsMade, all_terms}

@@ -1,9 +1,9 @@
 -- Documents that can be written: what each carries comes in order, and no list that it carries is empty.
-use Rattle.std.specs.Prelude.{ℕ, ℤ, List, map}
+use Rattle.std.specs.Prelude.{ℕ, List, map}
 use Rattle.std.specs.List.{All}
 use Rattle.std.specs.List.Sorted.{IsStrictlySortedBy}
 use Rattle.std.specs.Ordering.{nat_cmp}
-use Rattle.std.specs.Prelude.{◌≡◌, Bool, true}
+use Rattle.std.specs.Prelude.{◌≡◌, true}
 use Rattle.segment.specs.Flat.{FlatDocument, has_some}
 use Rattle.term_table.specs.Terms.{term_cmp}
 

@@ -1,5 +1,5 @@
 -- Entries put together by key, in their order.
-use Rattle.std.specs.Prelude.{Bool, cond, List, [], ◌∷◌, ◌++◌}
+use Rattle.std.specs.Prelude.{cond, List, [], ◌∷◌, ◌++◌}
 use Rattle.std.specs.Ordering.{eq_by_cmp}
 use Rattle.std.specs.declared.cmp.Ordering.{Ordering}
 

@@ -1,5 +1,5 @@
 -- What columns that are made of entries say.
-use Rattle.std.specs.Prelude.{◌≡◌, ℕ, ℤ, ◌<◌, List, ◌∷◌, ◌++◌, length, map}
+use Rattle.std.specs.Prelude.{◌≡◌, ℕ, ◌<◌, List, ◌++◌, length, map}
 use Rattle.std.specs.List.{All, range_with_len}
 use Rattle.std.specs.Ordering.{nat_cmp}
 use Rattle.block_bits.specs.Blocks.{documents_of}

@@ -1,4 +1,4 @@
-use Rattle.std.proofs.Common.{◌≡◌, map}
+use Rattle.std.proofs.Common.{map}
 use Rattle.flattener.specs.Seen.{block_seen}
 use Rattle.segment_builder.proofs.Ordered.{all_ordered}
 use Rattle.segment_builder.proofs.Fitted.{fitted, all_roots}

@@ -1,4 +1,4 @@
-use Rattle.std.proofs.Common.{◌≡◌, map, ap, subst, ◌∙◌}
+use Rattle.std.proofs.Common.{◌≡◌, map, ap, ◌∙◌}
 use Rattle.segment.specs.Flat.{flats_of, roots_of}
 use Rattle.segment_builder.specs.Entries.{entries_seen}
 use Rattle.flattener.specs.Seen.{block_seen}

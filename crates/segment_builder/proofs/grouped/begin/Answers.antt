@@ -1,4 +1,4 @@
-use Rattle.std.proofs.Common.{◌≡◌, ◌∷◌, [], refl, ◌∙◌}
+use Rattle.std.proofs.Common.{refl, ◌∙◌}
 use Rattle.segment_builder.proofs.Keys.{begun_in}
 use Rattle.segment_builder.proofs.grouped.begin.Goals as goal
 

@@ -1,4 +1,3 @@
-use Rattle.std.proofs.Common.{rules}
 use Rattle.segment_builder.proofs.Keys.{gathers_on}
 use Rattle.segment_builder.proofs.grouped.gathered.Goals as goal
 

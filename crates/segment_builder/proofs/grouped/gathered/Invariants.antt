@@ -1,4 +1,4 @@
-use Rattle.std.proofs.Common.{◌≡◌, ◌++◌, map, List}
+use Rattle.std.proofs.Common.{◌≡◌, ◌++◌, map}
 use Rattle.std.specs.Vec.Iter.{into_iter_items}
 use Rattle.segment_builder.specs.Groups.{of_key, in_groups}
 use Rattle.segment_builder.proofs.grouped.gathered.Given as goal

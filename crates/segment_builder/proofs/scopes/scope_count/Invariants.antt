@@ -1,4 +1,4 @@
-use Rattle.std.proofs.Common.{ℕ, ◌<◌, take}
+use Rattle.std.proofs.Common.{◌<◌, take}
 use Rattle.std.specs.List.{All}
 use Rattle.segment_builder.proofs.scopes.scope_count.Given as goal
 
