@@ -30,7 +30,8 @@ use segment::{Columns, Segment, scopes_are_of_documents};
 use std::alloc::Global;
 use term_table::{PositionList, TermRow};
 
-/// The segment of these blocks, in their order, under the mapping that they were made with.
+/// The segment of these blocks, in their order: its documents are theirs, one block behind the other. The mapping is the one
+/// that they were made with.
 pub fn built(alloc: Global, mapping: &Mapping, blocks: Vec<Block>) -> Result<Segment, BuildRefusal>
     requires { All (BlockFits mapping.now) (map block_seen blocks.items) }
     ensures flats { IfOk result (λ segment. flats_of segment ≡ flat_map (λ block. block.flats) (map block_seen blocks.items)) }
@@ -44,7 +45,7 @@ pub fn built(alloc: Global, mapping: &Mapping, blocks: Vec<Block>) -> Result<Seg
     Ok(segment)
 }
 
-/// The segment of blocks whose documents carry what they carry in order.
+/// The segment of blocks whose documents carry what they carry in order, each list with something in it.
 fn made_of(alloc: Global, blocks: Vec<Block>) -> Result<Segment, BuildRefusal>
     requires { All IsOrdered (flat_map (λ block. block.flats) (map block_seen blocks.items)) }
     ensures flats { IfOk result (λ segment. flats_of segment ≡ flat_map (λ block. block.flats) (map block_seen blocks.items)) }
@@ -57,7 +58,7 @@ fn made_of(alloc: Global, blocks: Vec<Block>) -> Result<Segment, BuildRefusal>
     Ok(segment)
 }
 
-/// The columns of entries.
+/// The columns that hold what these entries say.
 fn made(alloc: Global, entries: Entries) -> Result<Columns, BuildRefusal>
     ensures { IfOk result (λ columns. IsMade (entries_seen entries) columns) }
 {

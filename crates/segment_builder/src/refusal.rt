@@ -5,7 +5,8 @@ use std::alloc::{AllocError, AllocFailed};
 /// Why blocks give no segment.
 #[derive(Clone, Copy, Debug, PartialEq, Eq)]
 pub enum BuildRefusal {
-    /// The documents are none that one mapping gives.
+    /// A test of the columns failed, or there is no block. Blocks that fit a mapping make columns that pass; that this is so
+    /// isn't proved yet.
     NotASegment,
     /// Memory ran out.
     NoMemory,
