@@ -1,0 +1,29 @@
+-- A segment of blocks that fit a mapping fits it.
+use Rattle.std.proofs.Common.{◌≡◌, List, [], ◌∷◌, ◌++◌, map, refl, sym, ap, subst, ◌∙◌}
+use Rattle.std.specs.List.{All, AllByRecursion, flat_map}
+use Rattle.flattener.specs.Block.{BlockState}
+use Rattle.flattener.specs.Fits.{BlockFits, SegmentFits, IsRootOf, AreRootsOf}
+use Rattle.mapping.specs.Mapping.{Mapping}
+use Rattle.segment.specs.Flat.{FlatDocument, FlatRoot, flats_of, roots_of}
+use Rattle.segment.specs.declared.columns.Columns.{Columns}
+use Rattle.segment_builder.proofs.Shown.{each_by, each_then}
+
+roots_in_order : (m : Mapping) (blocks : List BlockState) → ((block : BlockState) → BlockFits m block → IsRootOf m block.root block.flats) → AllByRecursion (BlockFits m) blocks
+    → AreRootsOf m (map (λ (block : BlockState). block.root) blocks) (map (λ (block : BlockState). block.flats) blocks)
+roots_in_order m [] law all = tt
+roots_in_order m (block ∷ blocks) law all = (law block all.0, roots_in_order m blocks law all.1)
+
+joined : (blocks : List BlockState) → flat_map (λ (block : BlockState). block.flats) blocks ≡ flat_map (λ (flats : List FlatDocument). flats) (map (λ (block : BlockState). block.flats) blocks)
+joined [] = refl
+joined (block ∷ blocks) = ap (λ rest. block.flats ++ rest) (joined blocks)
+
+pub fitted : (m : Mapping) (columns : Columns) (blocks : List BlockState) → ((block : BlockState) → BlockFits m block → IsRootOf m block.root block.flats) → All (BlockFits m) blocks
+    → flats_of columns ≡ flat_map (λ (block : BlockState). block.flats) blocks → roots_of columns ≡ map (λ (block : BlockState). block.root) blocks → SegmentFits m columns
+fitted m columns blocks law all flats roots = record {
+  blocks = map (λ (block : BlockState). block.flats) blocks;
+  flats = flats ∙ joined blocks;
+  roots = subst (λ (rs : List FlatRoot). AreRootsOf m rs (map (λ (block : BlockState). block.flats) blocks)) (sym roots) (roots_in_order m blocks law (each_by (BlockFits m) blocks all));
+}
+
+pub all_roots : (m : Mapping) (blocks : List BlockState) → ((block : BlockState) → BlockFits m block → IsRootOf m block.root block.flats) → All (BlockFits m) blocks → AllByRecursion (λ (block : BlockState). IsRootOf m block.root block.flats) blocks
+all_roots m blocks law all = each_then (BlockFits m) (λ (block : BlockState). IsRootOf m block.root block.flats) law blocks (each_by (BlockFits m) blocks all)

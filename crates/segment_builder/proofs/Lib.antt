@@ -1,0 +1,17 @@
+pub mod Keys
+pub mod Found
+pub mod Scoped
+pub mod Termed
+pub mod Merged
+pub mod Grown
+pub mod Assembled
+pub mod Shown
+pub mod Orders
+pub mod Texts
+pub mod Worded
+pub mod Whole
+pub mod Ordered
+pub mod Fitted
+pub mod Cut
+pub mod Stands
+pub mod Deaths

@@ -1,0 +1,6 @@
+use Rattle.std.proofs.Common.{◌<◌, take}
+use Rattle.std.specs.List.{All}
+use Rattle.segment_builder.proofs.scopes.scope_count.Given as goal
+
+abbrev pub invariant-scopes : goal.invariant-scopes
+invariant-scopes l = All (λ scope. scope < l.count) (take l.scope-index l.scopes)

@@ -1,0 +1,38 @@
+-- The terms of keyword and number fields, from the entries of documents.
+use Rattle.std.specs.Prelude.{ℕ, ℤ, List, [], ◌∷◌, ◌++◌, map, if◌then◌else◌, Vec}
+use Rattle.std.specs.Str.{bytes_eq}
+use Rattle.term_table.specs.Keys.{number_key}
+use Rattle.term_table.specs.declared.rows.TermRow.{TermRow}
+
+-- terms of a field in a document, without positions
+abbrev pub terms_at : ℕ → ℕ → List (List ℕ) → List ((ℕ × List ℕ) × (ℕ × List ℕ))
+terms_at field doc values = map (λ bytes. ((field, bytes), (doc, []))) values
+
+-- a value, if it isn't the one before it
+abbrev pub unless_same : List ℕ → List ℕ → List (List ℕ)
+unless_same last value = if bytes_eq value last then [] else value ∷ []
+
+-- values that ascend, each once
+abbrev pub once_after : List ℕ → List (List ℕ) → List (List ℕ)
+once_after last [] = []
+once_after last (value ∷ values) = unless_same last value ++ once_after value values
+
+abbrev pub once : List (List ℕ) → List (List ℕ)
+once [] = []
+once (value ∷ values) = value ∷ once_after value values
+
+abbrev pub keyword_terms : List (ℕ × (ℕ × List (List ℕ))) → List ((ℕ × List ℕ) × (ℕ × List ℕ))
+keyword_terms [] = []
+keyword_terms (entry ∷ entries) = terms_at entry.0 entry.1.0 (once entry.1.1) ++ keyword_terms entries
+
+abbrev pub number_terms : List (ℕ × (ℕ × List ℤ)) → List ((ℕ × List ℕ) × (ℕ × List ℕ))
+number_terms [] = []
+number_terms (entry ∷ entries) = terms_at entry.0 entry.1.0 (once (map number_key entry.1.1)) ++ number_terms entries
+
+-- a row as the group of its term
+abbrev pub row_group : TermRow → (ℕ × List ℕ) × List (ℕ × List ℕ)
+row_group row = (row.term, row.postings)
+
+-- groups of postings by the bytes of their terms
+abbrev pub rows_seen : {A B : Type 0} → List ((ℕ × Vec ℕ A) × Vec (ℕ × List ℕ) B) → List ((ℕ × List ℕ) × List (ℕ × List ℕ))
+rows_seen {A} {B} groups = map (λ (group : (ℕ × Vec ℕ A) × Vec (ℕ × List ℕ) B). ((group.0.0, group.0.1.items), group.1.items)) groups

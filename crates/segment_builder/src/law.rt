@@ -1,0 +1,28 @@
+//! What the blocks of an entry say of trees, as laws for the crates above: call the function where you need its clauses.
+
+ghost use Rattle.std.specs.Prelude.{◌≡◌, ℕ, List, map};
+ghost use Rattle.flattener.specs.StandsFor.{Marked, EntryStandsFor};
+ghost use Rattle.mapping.specs.IsMapping.{IsMapping};
+ghost use Rattle.mapping.specs.Mapping.{Mapping};
+ghost use Rattle.segment.specs.Live.{IsLiveOver, LiveState, killed};
+ghost use Rattle.segment.specs.declared.columns.Columns.{Columns};
+ghost use Rattle.segment_builder.specs.Blocks.{blocks_of, marked_by, block_of_marked, dead_at};
+ghost use Rattle.tree_objects.specs.Tree.{Tree};
+
+use segment::{LiveBits, Segment, scopes_are_of_documents};
+
+/// A segment with its live bits stands for trees where its blocks are those of the trees, each live where its tree is.
+/// Does nothing.
+pub fn blocks_stand_for_trees(segment: &Segment, live: &LiveBits)
+    requires { IsLiveOver segment.now live.now }
+    ensures { (m : Mapping) (trees : List (Marked Tree)) → IsMapping m → marked_by (blocks_of segment.now) live.now.roots ≡ map (block_of_marked m) trees
+        → EntryStandsFor m segment.now live.now trees }
+{
+    let _ = segment.docs();
+    scopes_are_of_documents(segment);
+}
+
+/// Where a root of a segment is killed, its block alone is marked dead. Does nothing.
+pub fn deaths_mark_blocks()
+    ensures { (columns : Columns) (root : ℕ) (live : LiveState) → marked_by (blocks_of columns) (killed columns root live).roots ≡ dead_at root (marked_by (blocks_of columns) live.roots) }
+{}

@@ -1,0 +1,25 @@
+//! Blocks as a segment: the documents of trees, put together by field and by term.
+//!
+//! It stands on `flattener` for blocks and on `segment` for columns (Lucene's `IndexingChain`, package `org.apache.lucene.index`).
+//! Blocks are taken apart in one pass, what they carry is put together by key with one stable sort, and each column is
+//! written once. What others use is that `built` gives a segment whose documents and roots are those of its blocks, and that
+//! a segment stands for the trees of its blocks. Begin reading with `specs/Blocks.antt` and `assemble`, then `grouped`.
+#![tactic(auto)]
+
+mod assemble;
+mod entries;
+mod find;
+mod grouped;
+mod keywords;
+mod law;
+mod numbers;
+mod ordinals;
+mod present;
+mod refusal;
+mod rows;
+mod scopes;
+mod terms;
+
+pub use assemble::built;
+pub use law::{blocks_stand_for_trees, deaths_mark_blocks};
+pub use refusal::BuildRefusal;
