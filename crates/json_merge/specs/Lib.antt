@@ -1,4 +1,5 @@
--- A reader must believe Merged, which says what an update makes of a source. The others serve proofs alone.
+-- A reader must believe Merged, which says what an update makes of a source, and Same, which says whether it leaves it as it
+-- is; `is_same` of `src/` says that Same is equality. Coming serves proofs alone.
 pub mod Merged
-pub mod Coming
 pub mod Same
+pub mod Coming

@@ -2,7 +2,7 @@
 ghost use Rattle.std.specs.Prelude.{◌≡◌, ◌↔◌, IsTrue};
 ghost use Rattle.tree_json.specs.Value.{elements_of, members_of};
 ghost use Rattle.tree_json.specs.View.{view, values, entries};
-ghost use Rattle.json_merge.specs.Same.{same, same_elements, same_members};
+ghost use Rattle.json_merge.specs.Same.{is_same, is_same_list, is_same_object};
 
 use tree_json::{Json, JsonText};
 
@@ -10,15 +10,16 @@ use tree_json::{Json, JsonText};
 /// takes no memory.
 #[tactic(auto, using(crate::proofs::Equal::equals))]
 pub fn is_same(a: &Json, b: &Json) -> bool
-    ensures { IsTrue result ↔ (view a.now ≡ view b.now) }
+    ensures same { result ≡ is_same (view a.now) (view b.now) }
+    ensures equal { IsTrue result ↔ (view a.now ≡ view b.now) }
 {
     same(a, b)
 }
 
 #[cycle(same)]
-#[tactic(auto, using(crate::proofs::Sizes::sizes, crate::proofs::Equal::ends))]
+#[tactic(auto, using(crate::proofs::Sizes::sizes, crate::proofs::Equal::same_bool))]
 fn same(a: &Json, b: &Json) -> bool
-    ensures { result ≡ same (view a.now) (view b.now) }
+    ensures { result ≡ is_same (view a.now) (view b.now) }
 {
     match (a, b) {
         (Json::Null, Json::Null) => true,
@@ -34,7 +35,7 @@ fn same(a: &Json, b: &Json) -> bool
 #[cycle(same)]
 #[tactic(auto, using(crate::proofs::Sizes::sizes, crate::proofs::Equal::ends))]
 fn same_elements(a: &[Json], b: &[Json]) -> bool
-    ensures { result ≡ same_elements (elements_of (values a.now)) (elements_of (values b.now)) }
+    ensures { result ≡ is_same_list (elements_of (values a.now)) (elements_of (values b.now)) }
 {
     let mut rest = b;
     'elements: for element in a {
@@ -54,7 +55,7 @@ fn same_elements(a: &[Json], b: &[Json]) -> bool
 #[cycle(same)]
 #[tactic(auto, using(crate::proofs::Sizes::sizes, crate::proofs::Equal::ends))]
 fn same_members(a: &[(JsonText, Json)], b: &[(JsonText, Json)]) -> bool
-    ensures { result ≡ same_members (members_of (entries a.now)) (members_of (entries b.now)) }
+    ensures { result ≡ is_same_object (members_of (entries a.now)) (members_of (entries b.now)) }
 {
     let mut rest = b;
     'members: for (name, value) in a {
