@@ -62,8 +62,8 @@ module _ (m : Mapping) (laws : Laws m) (from to : ℕ) (above : IsAbove m from t
       let here : (scope o == from) ≡ true = same_number (scope o) from at in
       let apart : (scope o == to) ≡ false = by_test (scope o == to) (λ held. let same : scope o ≡ to = eqb-true (scope o) to held in absurd (omega (arith, less.0))) (λ failed. failed) in
       let others : Each (λ (y : Object). (scope y == from) ≡ false) (inner m left o) =
-          each_map (λ (y : Object). scope o < scope y) (λ (y : Object). (scope y == from) ≡ false)
-          (λ y h. by_test (scope y == from) (λ held. let same : scope y ≡ from = eqb-true (scope y) from held in absurd (omega arith)) (λ failed. failed)) (inner m left o) (inner_after m laws left o) in
+      each_map (λ (y : Object). scope o < scope y) (λ (y : Object). (scope y == from) ≡ false)
+      (λ y h. by_test (scope y == from) (λ held. let same : scope y ≡ from = eqb-true (scope y) from held in absurd (omega arith)) (λ failed. failed)) (inner m left o) (inner_after m laws left o) in
       ap (λ docs. down (docs ++ rest)) (map_append shown (inner m left o) (o ∷ []))
       ∙ ap down (append_assoc (map shown (inner m left o)) (shown o ∷ []) rest)
       ∙ inside_down (inner m left o) o rest here others (inner_around m laws left from o at)

@@ -81,14 +81,14 @@ module _ (m : Mapping) (laws : Laws m) (to from : ℕ) (above : IsAbove m to fro
       let here : (scope o == to) ≡ true = same_number (scope o) to at in
       let apart : (scope o == from) ≡ false = by_test (scope o == from) (λ held. let same : scope o ≡ from = eqb-true (scope o) from held in absurd (omega (arith, less.0))) (λ failed. failed) in
       let others : Each (λ (y : Object). (scope y == to) ≡ false) (inner m left o) =
-          each_map (λ (y : Object). scope o < scope y) (λ (y : Object). (scope y == to) ≡ false)
-          (λ y h. by_test (scope y == to) (λ held. let same : scope y ≡ to = eqb-true (scope y) to held in absurd (omega arith)) (λ failed. failed)) (inner m left o) (inner_after m laws left o) in
+      each_map (λ (y : Object). scope o < scope y) (λ (y : Object). (scope y == to) ≡ false)
+      (λ y h. by_test (scope y == to) (λ held. let same : scope y ≡ to = eqb-true (scope y) to held in absurd (omega arith)) (λ failed. failed)) (inner m left o) (inner_after m laws left o) in
       let heard : flat_map told (inner m left o) ≡ filter_map score (below m o from) =
-          sym (append_nil (flat_map told (inner m left o)))
-          ∙ ap (λ zs. flat_map told (inner m left o) ++ zs) (sym (append_nil (told o) ∙ told_nothing o apart))
-          ∙ sym (flat_append (inner m left o) (o ∷ []))
-          ∙ told_below (objects m (suc left) o)
-          ∙ ap (λ zs. filter_map score zs) (laws.within (suc left) from o (subst (λ s. IsAbove m s from) (sym at) above) enough) in
+      sym (append_nil (flat_map told (inner m left o)))
+      ∙ ap (λ zs. flat_map told (inner m left o) ++ zs) (sym (append_nil (told o) ∙ told_nothing o apart))
+      ∙ sym (flat_append (inner m left o) (o ∷ []))
+      ∙ told_below (objects m (suc left) o)
+      ∙ ap (λ zs. filter_map score zs) (laws.within (suc left) from o (subst (λ s. IsAbove m s from) (sym at) above) enough) in
       let last : join (flat_map told (inner m left o)) (shown o ∷ rest) ≡ answer o ∷ join [] rest = rw here (ap (λ zs. mode zs ∷ join [] rest) heard) in
       ap (λ docs. join [] (docs ++ rest)) (map_append shown (inner m left o) (o ∷ []))
       ∙ ap (join []) (append_assoc (map shown (inner m left o)) (shown o ∷ []) rest)

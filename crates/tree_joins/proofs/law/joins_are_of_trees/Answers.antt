@@ -10,7 +10,7 @@ returns-clause-up c = λ m to from score mode trees is above none.
       mapping = is;
       step = λ a n some low. c.scopes_form_chains.ensures.step m a n is some low;
       smaller = λ a b h. c.scopes_form_chains.ensures.smaller m a b is h;
-      within = λ levels n o h enough. c.objects_nest.ensures.within m levels n o is h enough
+      within = λ levels n o h enough. c.objects_nest.ensures.within m levels n o is h enough;
     } in
     up_trees m laws to from above score mode none trees
 
@@ -20,6 +20,6 @@ returns-clause-down c = λ m from to score trees is above.
       mapping = is;
       step = λ a n some low. c.scopes_form_chains.ensures.step m a n is some low;
       smaller = λ a b h. c.scopes_form_chains.ensures.smaller m a b is h;
-      within = λ levels n o h enough. c.objects_nest.ensures.within m levels n o is h enough
+      within = λ levels n o h enough. c.objects_nest.ensures.within m levels n o is h enough;
     } in
     down_trees m laws from to above score trees
