@@ -1,6 +1,6 @@
 -- A value changed by another, as an update changes a source by its `doc` (Elasticsearch reference, update API): objects are
 -- merged recursively, all else is replaced, and null is a value like others.
-use Rattle.std.specs.Prelude.{ℕ, Bool, List}
+use Rattle.std.specs.Prelude.{ℕ, List, Option, Some, None}
 use Rattle.std.specs.Ordering.{nat_cmp, match_ordering}
 use Rattle.std.specs.Cmp.Lexicographic.{slice_cmp}
 use Rattle.tree_json.specs.Value.{JsonValue, null, bool, whole, text, list, object, Members, no_members, member}
@@ -33,3 +33,10 @@ abbrev mutual
   pub merged_members : Members → Members → Members
   merged_members no_members live = live
   merged_members (member name v ms) live = merged_members ms (with_member name (merged v) v live)
+
+-- what stands under a name of a merged object: the live value where the change has none, the change's where there is no live
+-- one, and else both merged
+abbrev pub under : Option JsonValue → Option JsonValue → Option JsonValue
+under None live = live
+under (Some v) None = Some v
+under (Some v) (Some d) = Some (merged v d)

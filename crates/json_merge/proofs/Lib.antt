@@ -1,0 +1,6 @@
+pub mod Sizes
+pub mod Firsts
+pub mod Merging
+pub mod Under
+pub mod Equal
+mod Examples
