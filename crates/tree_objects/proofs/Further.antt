@@ -1,9 +1,8 @@
 -- Further bodies leave the objects of a tree.
-use Rattle.std.proofs.Common.{◌≡◌, ℕ, zero, suc, ◌+◌, ◌<◌, ◌≤◌, ◌==◌, Bool, true, false, nat_lt, List as Seq, [], ◌∷◌, ◌++◌, length, filter, get_or, refl, sym, ap, ◌∙◌, subst, arith, length-append}
+use Rattle.std.proofs.Common.{◌≡◌, ℕ, zero, suc, ◌+◌, ◌<◌, ◌≤◌, ◌==◌, true, false, nat_lt, List as Seq, [], ◌∷◌, ◌++◌, length, filter, get_or, refl, sym, ap, ◌∙◌, subst, arith, length-append}
 use Rattle.std.proofs.lemmas.Bool.{lt-leb, ltb-false, ltb-true}
 use Rattle.std.proofs.lemmas.List.{get_or_append_left}
 use Rattle.std.specs.List.{AllByRecursion, flat_map}
-use Rattle.tree_json.specs.Value.{JsonValue}
 use Rattle.mapping_body.proofs.Walks.{split}
 use Rattle.mapping.proofs.Numbering.{IsKid, each_kid}
 use Rattle.mapping.specs.Growth.{GoesOn, HasFurtherBodies}

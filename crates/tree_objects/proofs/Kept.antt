@@ -1,5 +1,5 @@
 -- Further bodies leave the values of a tree's objects, its relation and its faults.
-use Rattle.std.proofs.Common.{◌≡◌, ℕ, zero, suc, ◌+◌, ◌<◌, ◌≤◌, ◌==◌, ◌&&◌, ◌||◌, Bool, true, false, if◌then◌else◌, nat_le, List as Seq, [], ◌∷◌, ◌++◌, length, map, get_or, refl, sym, ap, ◌∙◌, subst, arith, length-append, append-nil, filter, ◌⊎◌, inl, inr, Option, Some, None, option_and_then, find, bytes_eq}
+use Rattle.std.proofs.Common.{◌≡◌, ℕ, zero, suc, ◌+◌, ◌<◌, ◌≤◌, ◌==◌, ◌&&◌, ◌||◌, Bool, true, false, if◌then◌else◌, nat_le, List as Seq, [], ◌∷◌, ◌++◌, length, map, get_or, refl, sym, ap, ◌∙◌, arith, length-append, append-nil, filter, inl, inr, Option, Some, None, option_and_then, find, bytes_eq}
 use Rattle.std.proofs.lemmas.Bool.{eq-eqb, lt-leb, ne_eqb}
 use Rattle.std.proofs.lemmas.List.Folds.{find-append}
 use Rattle.std.specs.List.{AllByRecursion, filter_map, flat_map, position_from}
@@ -13,17 +13,17 @@ use Rattle.mapping_body.proofs.Walks.{split}
 use Rattle.mapping_growth.specs.Relations.{Relation}
 use Rattle.mapping.specs.Growth.{GoesOn, HasFurtherBodies}
 use Rattle.mapping.specs.IsMapping.{IsMapping}
-use Rattle.mapping.specs.Mapping.{Field, Scope, Mapping, field_at, field_below, field_named, generation_of, home_of, if_known, included, kind_at, knows, knows_relation, names_to, no_field, no_relation, outer, reaches, relation_at, relation_known, scope_at, shows}
+use Rattle.mapping.specs.Mapping.{Field, Scope, Mapping, field_at, field_below, generation_of, home_of, if_known, included, kind_at, knows, knows_relation, no_field, no_relation, outer, reaches, relation_at, relation_known, scope_at, shows}
 use Rattle.tree_objects.specs.Object.{Object, scope, content, items, tree_of, below, objects}
 use Rattle.tree_objects.specs.Tree.{Tree}
 use Rattle.tree_objects.specs.Values.{convert, own_values, values, joined_as_root, joined_as_child, join_by_name, join_by_parent, join_reading, join_field, join_at, join_of, relation_read, has_join_names, id_written, member_of_source}
-use Rattle.tree_objects.specs.Fault.{fault_single, fault_at, fault_in, fault_among, fault_of_source, first_fault, first_of, fault_joined, holds_objects}
+use Rattle.tree_objects.specs.Fault.{fault_single, fault_at, fault_in, fault_among, fault_of_source, first_fault, first_of, fault_joined}
 use Rattle.tree_objects.specs.declared.fault.Fault.{Fault}
 use Rattle.tree_objects.specs.declared.field_value.FieldValue.{FieldValue}
 use Rattle.tree_objects.proofs.Inside.{flat_same, found_below, itself}
 use Rattle.mapping.proofs.Above.{above_lt, both, included_up}
 use Rattle.tree_objects.specs.Enclosing.{stands_at}
-use Rattle.tree_objects.proofs.Further.{past, within, scope_same, field_same, outer_same, outer_within, below_same}
+use Rattle.tree_objects.proofs.Further.{past, within, scope_same, field_same, outer_within, below_same}
 
 -- ---- values
 
