@@ -14,6 +14,8 @@ mod law;
 mod names;
 mod refusal;
 mod shown;
+#[cfg(test)]
+mod tests;
 mod texts;
 mod values;
 mod walk;
