@@ -13,3 +13,5 @@ pub mod Nested
 pub mod Fitted
 pub mod Relations
 pub mod Fitting
+pub mod Further
+pub mod FitsFurther

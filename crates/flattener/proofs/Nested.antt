@@ -18,7 +18,7 @@ use Rattle.flattener.specs.Fits.{parents_of}
 
 -- ---- the scopes of a mapping are a tree
 
-enclosing_is : (m : Mapping) (n : ℕ) → n < length m.scopes → enclosing (parents_of m) n ≡ around_of m n
+pub enclosing_is : (m : Mapping) (n : ℕ) → n < length m.scopes → enclosing (parents_of m) n ≡ around_of m n
 enclosing_is m n h = get_or-map-range_with_len (around_of m) 0 (length m.scopes) n n None h (omega arith)
 
 pub enclosing_nested : (m : Mapping) (n : ℕ) → 0 < n → n < length m.scopes → enclosing (parents_of m) n ≡ Some (outer m n)

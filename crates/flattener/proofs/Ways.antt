@@ -1,8 +1,9 @@
 -- The way between two scopes, and what stands along it.
-use Rattle.std.proofs.Common.{◌≡◌, ℕ, zero, suc, ◌-◌, ◌<◌, ◌==◌, true, false, List, [], ◌∷◌, ◌++◌, length, reverse, refl, arith}
+use Rattle.std.proofs.Common.{◌≡◌, ℕ, zero, suc, ◌-◌, ◌<◌, ◌==◌, true, false, List, [], ◌∷◌, ◌++◌, length, filter, map, reverse, Bool, ap, refl, arith}
 use Rattle.std.proofs.lemmas.List.{reverse-append}
 use Rattle.std.proofs.lemmas.List.Concat.{flat_map-append}
-use Rattle.std.specs.List.{flat_map}
+use Rattle.std.specs.List.{flat_map, list_all}
+use Rattle.mapping_body.proofs.Walks.{split}
 use Rattle.mapping.specs.IsMapping.{IsMapping}
 use Rattle.mapping.specs.Mapping.{Mapping, outer, home_of, scope_at}
 use Rattle.mapping_body.specs.Names.{names_between}
@@ -44,3 +45,10 @@ pub some_scope : (m : Mapping) → IsMapping m → 0 < length m.scopes
 some_scope m is = is.some
 
 pub ruleset starts = (some_scope)
+
+pub all_kept : {A B : Type 0} (f : A → B) (t : B → Bool) (xs : List A) → list_all (λ x. t (f x)) xs ≡ true → filter t (map f xs) ≡ map f xs
+all_kept f t [] h = refl
+all_kept {A} {B} f t (x ∷ xs) h =
+    split (t (f x))
+    (λ held. let more : list_all (λ x. t (f x)) xs ≡ true = rw held at h in rw held (ap (λ (ys : List B). f x ∷ ys) (all_kept f t xs more)))
+    (λ failed. let never : false ≡ true = rw failed at h in absurd (cc (never)))

@@ -13,7 +13,7 @@ ghost use Rattle.flattener.specs.Walked.{flat_at, kept, valued};
 
 use crate::document::{Document, KeywordField, NumberField};
 use crate::refusal::NoMemory;
-use crate::shown::shown_items;
+use crate::shown::find_shown;
 use crate::texts::{has_text, push_words_of_field, tokens};
 use crate::values::{keywords, numbers};
 use mapping::{Kind, Mapping};
@@ -40,6 +40,7 @@ pub(crate) fn document(
         words: Vec::new(alloc),
         texts: Vec::new(alloc),
     };
+    let mut found = Vec::new(alloc);
     let mut field = 0;
     'fields: while field < count {
         add_field(
@@ -49,6 +50,7 @@ pub(crate) fn document(
             scope,
             content,
             field,
+            &mut found,
             &mut document,
         )?;
         field += 1;
@@ -56,15 +58,16 @@ pub(crate) fn document(
     Ok(document)
 }
 
-/// Adds what a field shows to a document.
+/// Adds what a field shows to a document. `found` is for the items, so that all fields share its memory.
 #[tactic(auto, using(crate::proofs::Wording::converting))]
-fn add_field(
+fn add_field<'a>(
     alloc: Global,
     mapping: &Mapping,
     generation: u32,
     scope: u32,
-    content: &Json,
+    content: &'a Json,
     field: u32,
+    found: &mut Vec<&'a Json>,
     into: &mut Document,
 ) -> Result<(), NoMemory>
     requires field { field < length mapping.now.fields }
@@ -73,24 +76,24 @@ fn add_field(
 {
     match mapping.kind(field) {
         Kind::Text => {
-            let items = shown_items(alloc, mapping, generation, field, scope, content)?;
-            add_text(alloc, field, items.as_slice(), into)
+            find_shown(alloc, mapping, generation, field, scope, content, found)?;
+            add_text(alloc, field, found.as_slice(), into)
         }
         Kind::Keyword => {
-            let items = shown_items(alloc, mapping, generation, field, scope, content)?;
-            add_keywords(alloc, field, items.as_slice(), into)
+            find_shown(alloc, mapping, generation, field, scope, content, found)?;
+            add_keywords(alloc, field, found.as_slice(), into)
         }
         Kind::Long => {
-            let items = shown_items(alloc, mapping, generation, field, scope, content)?;
-            add_numbers(alloc, Kind::Long, field, items.as_slice(), into)
+            find_shown(alloc, mapping, generation, field, scope, content, found)?;
+            add_numbers(alloc, Kind::Long, field, found.as_slice(), into)
         }
         Kind::Boolean => {
-            let items = shown_items(alloc, mapping, generation, field, scope, content)?;
-            add_numbers(alloc, Kind::Boolean, field, items.as_slice(), into)
+            find_shown(alloc, mapping, generation, field, scope, content, found)?;
+            add_numbers(alloc, Kind::Boolean, field, found.as_slice(), into)
         }
         Kind::Date => {
-            let items = shown_items(alloc, mapping, generation, field, scope, content)?;
-            add_numbers(alloc, Kind::Date, field, items.as_slice(), into)
+            find_shown(alloc, mapping, generation, field, scope, content, found)?;
+            add_numbers(alloc, Kind::Date, field, found.as_slice(), into)
         }
         Kind::Object => Ok(()),
         Kind::Nested => Ok(()),

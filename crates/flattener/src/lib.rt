@@ -14,11 +14,13 @@ mod law;
 mod names;
 mod refusal;
 mod shown;
+#[cfg(test)]
+mod tests;
 mod texts;
 mod values;
 mod walk;
 
 pub use document::{Block, Document, KeywordField, NumberField, Word};
 pub use flatten::block;
-pub use law::blocks_are_of_their_mapping;
+pub use law::{blocks_are_of_their_mapping, further_bodies_leave_blocks};
 pub use refusal::{FlattenRefusal, NoMemory};

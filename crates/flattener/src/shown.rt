@@ -1,6 +1,6 @@
 //! The items of a field that an object shows.
 ghost use Rattle.std.specs.Prelude.{◌≡◌, ◌++◌, ◌<◌, ◌==◌, length, map, filter, option_map, nat_le, reverse, IfOk, OnOk};
-ghost use Rattle.std.specs.List.{All, flat_map};
+ghost use Rattle.std.specs.List.{All, flat_map, list_all};
 ghost use Rattle.tree_json.specs.Value.{is_object};
 ghost use Rattle.tree_json.specs.View.{view};
 ghost use Rattle.mapping.specs.Mapping.{outer, home_of, scope_at};
@@ -14,28 +14,27 @@ use mapping::Mapping;
 use std::alloc::Global;
 use tree_json::Json;
 
-/// The items of a field that an object of a scope shows, in document order.
-pub(crate) fn shown_items<'a>(
+/// Finds the items of a field that an object of a scope shows, in document order, in place of what was found before.
+pub(crate) fn find_shown<'a>(
     alloc: Global,
     mapping: &Mapping,
     generation: u32,
     field: u32,
     scope: u32,
     content: &'a Json,
-) -> Result<Vec<&'a Json>, NoMemory>
+    found: &mut Vec<&'a Json>,
+) -> Result<(), NoMemory>
     requires field { field < length mapping.now.fields }
     requires scope { scope < length mapping.now.scopes }
-    ensures { IfOk result (λ v. map (λ j. view j.now) v.items ≡ shown_items mapping.now generation field scope (view content.now)) }
+    ensures { OnOk result (map (λ j. view j.now) found.new.items ≡ shown_items mapping.now generation field scope (view content.now)) }
 {
-    let mut found = Vec::new(alloc);
+    found.clear();
     if mapping.home(field) == scope {
-        push_own(mapping, generation, field, content, &mut found)?;
+        push_own(mapping, generation, field, content, found)?;
     } else if mapping.knows(generation, field) && mapping.included(field, scope) {
-        push_included(
-            alloc, mapping, generation, field, scope, content, &mut found,
-        )?;
+        push_included(alloc, mapping, generation, field, scope, content, found)?;
     }
-    Ok(found)
+    Ok(())
 }
 
 /// Adds the items of a field at an object of its home.
@@ -183,6 +182,7 @@ pub(crate) fn children<'a>(
 }
 
 /// The objects along the names of a scope.
+#[tactic(auto, using(crate::proofs::Ways::all_kept))]
 fn objects_at<'a>(
     alloc: Global,
     mapping: &Mapping,
@@ -194,7 +194,17 @@ fn objects_at<'a>(
 {
     let mut found = Vec::new(alloc);
     gather(content, path_of(mapping, scope), &mut found)?;
+    if are_objects(found.as_slice()) {
+        return Ok(found);
+    }
     Ok(objects_among(alloc, found.as_slice())?)
+}
+
+/// Whether all items are objects, as those of a source without a fault are.
+fn are_objects(found: &[&Json]) -> bool
+    ensures { result ≡ list_all (λ j. is_object (view j.now)) found.now }
+{
+    found.iter().all(|item| is_object(*item))
 }
 
 /// The path of a scope below the scope around it.

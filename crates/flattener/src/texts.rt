@@ -3,7 +3,7 @@ ghost use Rattle.std.specs.Prelude.{◌≡◌, ◌+◌, ◌<◌, ◌≤◌, ◌^
 ghost use Rattle.tree_json.specs.View.{view};
 ghost use Rattle.tree_objects.specs.Values.{text_of};
 ghost use Rattle.flattener.specs.Flat.{ascending, token_cmp, tokens, grouped, together, placed_words, words_of_field};
-ghost use Rattle.flattener.specs.Placing.{tokens_on, texts_among, start_of, end_after};
+ghost use Rattle.flattener.specs.Placing.{IsOfField, grouped_on, tokens_on, texts_among, start_of, end_after};
 ghost use Rattle.flattener.specs.Walked.{one_text};
 ghost use Rattle.flattener.specs.Seen.{word_seen};
 
@@ -63,7 +63,7 @@ fn push_words(alloc: Global, text: &str, into: &mut Placed) -> Result<(), NoMemo
     let found = analysis::tokens(alloc, text)?.into_vec();
     let count = found.len() as u64;
     let from = start_of(into.end)?;
-    place(found.as_slice(), alloc, from, &mut into.tokens)?;
+    place(found, from, &mut into.tokens)?;
     into.end = end_after(into.end, from, count);
     Ok(())
 }
@@ -101,40 +101,31 @@ fn end_after(end: Option<u64>, from: u64, count: u64) -> Option<u64>
 
 /// Adds words with positions one after the other.
 #[tactic(auto, using(crate::proofs::Wording::wording))]
-fn place(
-    found: &[Token],
-    alloc: Global,
-    from: u64,
-    into: &mut Vec<(Vec<u8>, u32)>,
-) -> Result<(), NoMemory>
+fn place(found: Vec<Token>, from: u64, into: &mut Vec<(Vec<u8>, u32)>) -> Result<(), NoMemory>
     requires { from < 2 ^ 33 }
-    ensures { OnOk result (map (λ t. (t.0.items, t.1)) into.new.items ≡ map (λ t. (t.0.items, t.1)) into.old.items ++ placed_words from (map (λ t. t.folded) found.now)) }
+    ensures { OnOk result (map (λ t. (t.0.items, t.1)) into.new.items ≡ map (λ t. (t.0.items, t.1)) into.old.items ++ placed_words from (map (λ t. t.folded) found.items)) }
 {
     let mut at = from;
     'tokens: for token in found {
-        push_token(alloc, token, at, into)?;
+        push_token(token, at, into)?;
         at += 1;
     }
     Ok(())
 }
 
-fn push_token(
-    alloc: Global,
-    token: &Token,
-    at: u64,
-    into: &mut Vec<(Vec<u8>, u32)>,
-) -> Result<(), NoMemory>
-    ensures token { OnOk result (map {B = List ℕ × ℕ} (λ t. (t.0.items, t.1)) into.new.items ≡ map {B = List ℕ × ℕ} (λ t. (t.0.items, t.1)) into.old.items ++ (token.now.folded, at) ∷ []) }
+fn push_token(token: Token, at: u64, into: &mut Vec<(Vec<u8>, u32)>) -> Result<(), NoMemory>
+    ensures token { OnOk result (map {B = List ℕ × ℕ} (λ t. (t.0.items, t.1)) into.new.items ≡ map {B = List ℕ × ℕ} (λ t. (t.0.items, t.1)) into.old.items ++ (token.folded, at) ∷ []) }
     ensures bound { OnOk result (at < 2 ^ 32) }
 {
     if at > MOST_POSITION {
         return Err(NoMemory);
     }
-    into.push((token.folded.as_slice().to_vec(alloc)?, at as u32))?;
+    into.push((token.folded.into_vec(), at as u32))?;
     Ok(())
 }
 
 /// Adds each different word of some tokens, in byte order, with its positions.
+#[tactic(auto, using(crate::proofs::Wording::wording))]
 pub(crate) fn push_words_of_field(
     alloc: Global,
     field: u32,
@@ -144,10 +135,11 @@ pub(crate) fn push_words_of_field(
     ensures { OnOk result (map word_seen into.new.items ≡ map word_seen into.old.items ++ words_of_field field (map (λ t. (t.0.items, t.1)) tokens.items)) }
 {
     sort_tokens(&mut tokens);
-    match tokens.as_slice() {
-        [] => Ok(()),
-        [(word, at), rest @ ..] => push_grouped(alloc, field, word.as_slice(), *at, rest, into),
+    let mut current = None;
+    'tokens: for (word, at) in tokens {
+        current = Some(with_token(alloc, field, word, at, current, into)?);
     }
+    push_last(current, into)
 }
 
 fn sort_tokens(tokens: &mut Vec<(Vec<u8>, u32)>)
@@ -156,53 +148,49 @@ fn sort_tokens(tokens: &mut Vec<(Vec<u8>, u32)>)
     tokens.sort_unstable();
 }
 
-/// Adds the words of a token and those behind it, where the same words are neighbours.
-#[tactic(auto, using(crate::proofs::Wording::wording))]
-fn push_grouped(
-    alloc: Global,
-    field: u32,
-    word: &[u8],
-    at: u32,
-    rest: &[(Vec<u8>, u32)],
-    into: &mut Vec<Word>,
-) -> Result<(), NoMemory>
-    ensures { OnOk result (map word_seen into.new.items ≡ map word_seen into.old.items ++ together field word.now (at ∷ []) (map (λ t. (t.0.items, t.1)) rest.now)) }
+/// Adds the word that was being put together, if there is one.
+fn push_last(current: Option<Word>, into: &mut Vec<Word>) -> Result<(), NoMemory>
+    ensures { OnOk result ((field : ℕ) → IsOfField field current → map word_seen into.new.items ≡ map word_seen into.old.items ++ grouped_on field current []) }
 {
-    let mut current = new_word(alloc, field, word, at)?;
-    'rest: for (word, at) in rest {
-        current = with_token(alloc, field, word.as_slice(), *at, current, into)?;
+    if let Some(word) = current {
+        into.push(word)?;
     }
-    into.push(current)?;
     Ok(())
 }
 
-fn new_word(alloc: Global, field: u32, word: &[u8], at: u32) -> Result<Word, NoMemory>
-    ensures { IfOk result (λ w. word_seen w ≡ ((field, word.now), at ∷ [])) }
-{
-    let mut positions = Vec::new(alloc);
-    positions.push(at)?;
-    Ok(Word {
-        field,
-        word: word.to_vec(alloc)?,
-        positions,
-    })
-}
-
 /// The word that is being put together after one more token: the same with one more position, or the next word.
-#[tactic(auto, using(crate::proofs::Wording::wording))]
 fn with_token(
     alloc: Global,
     field: u32,
-    word: &[u8],
+    word: Vec<u8>,
+    at: u32,
+    current: Option<Word>,
+    into: &mut Vec<Word>,
+) -> Result<Word, NoMemory>
+    requires { IsOfField field current }
+    ensures field { IfOk result (λ w. w.field ≡ field) }
+    ensures together { IfOk result (λ w. (rest : List (List ℕ × ℕ)) → map word_seen into.new.items ++ grouped_on field (Some w) rest ≡ map word_seen into.old.items ++ grouped_on field current ((word.items, at) ∷ rest)) }
+{
+    match current {
+        None => new_word(alloc, field, word, at),
+        Some(current) => with_next(alloc, field, word, at, current, into),
+    }
+}
+
+#[tactic(auto, using(crate::proofs::Wording::wording))]
+fn with_next(
+    alloc: Global,
+    field: u32,
+    word: Vec<u8>,
     at: u32,
     current: Word,
     into: &mut Vec<Word>,
 ) -> Result<Word, NoMemory>
     requires { current.field ≡ field }
     ensures field { IfOk result (λ w. w.field ≡ field) }
-    ensures together { IfOk result (λ w. (rest : List (List ℕ × ℕ)) → map word_seen into.new.items ++ together field w.word.items w.positions.items rest ≡ map word_seen into.old.items ++ together field current.word.items current.positions.items ((word.now, at) ∷ rest)) }
+    ensures together { IfOk result (λ w. (rest : List (List ℕ × ℕ)) → map word_seen into.new.items ++ together field w.word.items w.positions.items rest ≡ map word_seen into.old.items ++ together field current.word.items current.positions.items ((word.items, at) ∷ rest)) }
 {
-    if word == current.word.as_slice() {
+    if word == current.word {
         let mut current = current;
         current.positions.push(at)?;
         Ok(current)
@@ -210,6 +198,18 @@ fn with_token(
         into.push(current)?;
         new_word(alloc, field, word, at)
     }
+}
+
+fn new_word(alloc: Global, field: u32, word: Vec<u8>, at: u32) -> Result<Word, NoMemory>
+    ensures { IfOk result (λ w. word_seen w ≡ ((field, word.items), at ∷ [])) }
+{
+    let mut positions = Vec::new(alloc);
+    positions.push(at)?;
+    Ok(Word {
+        field,
+        word,
+        positions,
+    })
 }
 
 /// Whether one of the items is a text for a text field.

@@ -1,9 +1,12 @@
-use Rattle.std.proofs.Common.{◌≡◌, ◌<◌, ◌^◌, ◌++◌, map, drop}
+use Rattle.std.proofs.Common.{◌≡◌, ◌<◌, ◌^◌, ◌++◌, map}
+use Rattle.std.specs.Vec.Iter.{into_iter_items}
 use Rattle.flattener.specs.Flat.{placed_words}
 use Rattle.flattener.proofs.texts.place.Given as goal
 
 abbrev pub invariant-tokens : goal.invariant-tokens
 invariant-tokens l =
-    (map (λ t. (t.0.items, t.1)) l.into.items ++ placed_words l.at (map (λ t. t.folded) (drop l.token-index l.found))
-    ≡ map (λ t. (t.0.items, t.1)) l.fn.into.items ++ placed_words l.from (map (λ t. t.folded) l.found))
+    (goal.iterator-tokens).can_next l.token-iterator
+    × (goal.iterator-tokens).is_finite l.token-iterator
+    × (map (λ t. (t.0.items, t.1)) l.into.items ++ placed_words l.at (map (λ t. t.folded) (into_iter_items l.token-iterator))
+    ≡ map (λ t. (t.0.items, t.1)) l.fn.into.items ++ placed_words l.from (map (λ t. t.folded) l.fn.found.items))
     × (l.at < 2 ^ 33)
