@@ -8,3 +8,4 @@ pub mod Distinct
 pub mod Keeping
 pub mod Conflicts
 pub mod Founding
+pub mod Generations
