@@ -27,14 +27,14 @@ nearest_more [] (y ∷ ys) path found at none =
     ap (λ (over : Bool). nearest_from (if over then at else found) (at + 1) ys path) none.0 ∙ nearest_more [] ys path found (at + 1) none.1
 nearest_more (x ∷ xs) ys path found at none = nearest_more xs ys path (if lies_above x path then at else found) (at + 1) none
 
-behind_all : {A : Type 0} (P : A → Type 0) (xs ys : List A) → AllByRecursion P (xs ++ ys) → AllByRecursion P ys
+pub behind_all : {A : Type 0} (P : A → Type 0) (xs ys : List A) → AllByRecursion P (xs ++ ys) → AllByRecursion P ys
 behind_all P [] ys all = all
 behind_all P (x ∷ xs) ys all = behind_all P xs ys all.1
 
-abbrev AreBefore : List Draft → List Draft → Type 0
+abbrev pub AreBefore : List Draft → List Draft → Type 0
 AreBefore ys xs = AllByRecursion (λ (x : Draft). AllByRecursion (StandsBefore x) ys) xs
 
-before_news : (xs ys : List Draft) → AreInTurn (xs ++ ys) → AreBefore ys xs
+pub before_news : (xs ys : List Draft) → AreInTurn (xs ++ ys) → AreBefore ys xs
 before_news [] ys turn = tt
 before_news (x ∷ xs) ys turn = (behind_all (StandsBefore x) xs ys turn.0, before_news xs ys turn.1)
 
@@ -47,7 +47,7 @@ none_over x (y ∷ ys) all =
 
 -- ---- one field and one scope
 
-paths_more : (ds news : List Draft) → scope_paths (ds ++ news) ≡ scope_paths ds ++ draft_paths (nested_among news)
+pub paths_more : (ds news : List Draft) → scope_paths (ds ++ news) ≡ scope_paths ds ++ draft_paths (nested_among news)
 paths_more ds news =
     ap (λ (rest : List (List ℕ)). [] ∷ rest)
     (ap draft_paths (filter-append (λ d. is_nested d.kind) ds news) ∙ map-append (λ d. d.path) (nested_among ds) (nested_among news))
@@ -99,12 +99,12 @@ scopes_kept names ds news (x ∷ xs) have all =
     (λ held. rw held (rw (scope_kept ds news x have.0.0 all.0, scopes_kept names ds news xs have.1 all.1) refl))
     (λ failed. rw failed (scopes_kept names ds news xs have.1 all.1))
 
-fields_more : (ds news : List Draft) → AreBefore news ds → fields_by (ds ++ news) ≡ fields_by ds ++ map (field_by (scope_paths (ds ++ news))) news
+pub fields_more : (ds news : List Draft) → AreBefore news ds → fields_by (ds ++ news) ≡ fields_by ds ++ map (field_by (scope_paths (ds ++ news))) news
 fields_more ds news all =
     map-append (field_by (scope_paths (ds ++ news))) ds news
     ∙ ap (λ (fs : List Field). fs ++ map (field_by (scope_paths (ds ++ news))) news) (fields_kept ds news ds all)
 
-scopes_more : (names : List (List ℕ)) (ds news : List Draft) → HaveAbove names ds → AreBefore news ds → scopes_by (ds ++ news) ≡ scopes_by ds ++ map (scope_by (scope_paths (ds ++ news))) (nested_among news)
+pub scopes_more : (names : List (List ℕ)) (ds news : List Draft) → HaveAbove names ds → AreBefore news ds → scopes_by (ds ++ news) ≡ scopes_by ds ++ map (scope_by (scope_paths (ds ++ news))) (nested_among news)
 scopes_more names ds news have all =
     ap (λ (ss : List Scope). root_scope ∷ ss)
     (ap (map (scope_by (scope_paths (ds ++ news)))) (filter-append (λ d. is_nested d.kind) ds news)

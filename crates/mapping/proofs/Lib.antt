@@ -6,3 +6,4 @@ pub mod Fields
 pub mod InTurn
 pub mod Founded
 pub mod Keeps
+pub mod Further

@@ -1,9 +1,10 @@
 //! Laws: what holds of every mapping, as the contracts of functions that do nothing.
 ghost use Rattle.std.specs.Prelude.{◌≡◌, ℕ, List, [], ◌∷◌, ◌++◌, Bool, ◌<◌, ◌⊎◌, ◌==◌, ◌||◌, true, length};
+ghost use Rattle.std.specs.List.{list_all};
 ghost use Rattle.tree_json.specs.Value.{JsonValue};
 ghost use Rattle.mapping_growth.specs.Bodies.{AreBodies};
 ghost use Rattle.mapping_body.specs.Body.{is_body};
-ghost use Rattle.mapping.specs.Growth.{KeepsNumbers};
+ghost use Rattle.mapping.specs.Growth.{HasFurtherBodies, KeepsNumbers};
 ghost use Rattle.mapping.specs.IsMapping.{IsMapping};
 ghost use Rattle.mapping.specs.Mapping.{Mapping, IsAbove, home_of, included, is_above, mapping_of, outer};
 
@@ -22,4 +23,10 @@ pub fn scopes_form_chains()
 /// all that is said of a scope and of a relation.
 pub fn growth_keeps_numbers()
     ensures { (bodies : List JsonValue) (body : JsonValue) (on later : Bool) → AreBodies bodies → is_body body ≡ true → KeepsNumbers (mapping_of bodies on) (mapping_of (bodies ++ body ∷ []) later) }
+{}
+
+/// Further bodies leave fields, scopes and relations under their numbers, and add others behind them, each of a later
+/// generation. So what is said of a tree by what its generation knows stays the same.
+pub fn further_bodies_stand_behind()
+    ensures { (bodies more : List JsonValue) (on later : Bool) → AreBodies bodies → list_all is_body more ≡ true → HasFurtherBodies (mapping_of bodies on) (mapping_of (bodies ++ more) later) }
 {}

@@ -1,5 +1,5 @@
 //! A mapping, and its look-ups.
-ghost use Rattle.std.specs.Prelude.{◌≡◌, ℕ, List, [], ◌++◌, ◌∷◌, ◌<◌, ◌≤◌, ◌-◌, ◌^◌, map, length, ◌==◌, ◌&&◌, ◌||◌, IfOk, IfSome, IsErrOf, IsTrue, ◌↔◌, Some, None, true, false, get_or};
+ghost use Rattle.std.specs.Prelude.{◌≡◌, ℕ, List, [], ◌++◌, ◌∷◌, ◌<◌, ◌≤◌, ◌-◌, ◌^◌, map, length, nat_le, ◌==◌, ◌&&◌, ◌||◌, IfOk, IfSome, IsErrOf, IsTrue, ◌↔◌, Some, None, true, false, get_or};
 ghost use Rattle.tree_json.specs.Value.{null};
 ghost use Rattle.tree_json.specs.View.{view};
 ghost use Rattle.mapping_growth.specs.Bodies.{AreBodies, adds, conflict_of, exceeded, is_number};
@@ -9,7 +9,7 @@ ghost use Rattle.mapping_growth.specs.Kept.{relation_of};
 ghost use Rattle.mapping_body.specs.Names.{joined};
 ghost use Rattle.mapping_body.specs.declared.refusal.Limit.{Limit};
 ghost use Rattle.mapping.specs.IsMapping.{IsMapping};
-ghost use Rattle.mapping.specs.Mapping.{Mapping, mapping_of, field_at, relation_at, kind_at, home_of, around_of, field_named, field_below, scope_named, relation_named, relation_known, scope_field_of, reaches, included, knows, knows_relation, is_above, is_parent, generation_of, mapping_at};
+ghost use Rattle.mapping.specs.Mapping.{Mapping, mapping_of, field_at, scope_at, relation_at, kind_at, home_of, around_of, field_named, field_below, scope_named, relation_named, relation_known, scope_field_of, reaches, included, knows, knows_relation, is_above, is_parent, generation_of, mapping_at};
 ghost use Rattle.mapping.specs.Growth.{IsGrown};
 ghost use Rattle.mapping.specs.Stored.{scope_seen, part_at, reaches_among};
 
@@ -211,6 +211,22 @@ impl Mapping {
         ensures { result.now ≡ self.now.order }
     {
         self.by_path.as_slice().split_at(1).1
+    }
+
+    /// The path of a scope; the root's is empty.
+    pub fn scope_path(&self, scope: u32) -> &[u8]
+        requires { scope < length self.now.scopes }
+        ensures { result.now ≡ (scope_at self.now scope).path }
+    {
+        self.paths[scope as usize].bytes.as_slice()
+    }
+
+    /// Whether a scope stands in the mapping of a generation.
+    pub fn knows_scope(&self, generation: u32, scope: u32) -> bool
+        requires { scope < length self.now.scopes }
+        ensures { result ≡ nat_le (scope_at self.now scope).since generation }
+    {
+        self.scopes[scope as usize].since <= generation
     }
 
     /// The scope around a nested path, and none for the root.

@@ -62,19 +62,19 @@ module _ {T : Type 0} (name : T → List ℕ) where
   pub same_by_firsts : (xs ys : List T) → AreAscending (map name xs) → AreAscending (map name ys) → ((n : List ℕ) → first name n xs ≡ first name n ys) → xs ≡ ys
   unfolding IsStrictlySortedBy
   same_by_firsts [] [] up on same = refl
-  same_by_firsts [] (y ∷ ys) up on same = let e : None ≡ Some y = rw (itself (name y)) at same (name y) in cc
-  same_by_firsts (x ∷ xs) [] up on same = let e : Some x ≡ None = rw (itself (name x)) at same (name x) in cc
+  same_by_firsts [] (y ∷ ys) up on same = let e : None ≡ Some y = rw (itself (name y)) at (same (name y)) in cc
+  same_by_firsts (x ∷ xs) [] up on same = let e : Some x ≡ None = rw (itself (name x)) at (same (name x)) in cc
   same_by_firsts (x ∷ xs) (y ∷ ys) up on same =
       by_ordering (compared (name x) (name y))
       (λ less.
-      let here : Some x ≡ first name (name x) (y ∷ ys) = rw (itself (name x)) at same (name x) in
+      let here : Some x ≡ first name (name x) (y ∷ ys) = rw (itself (name x)) at (same (name x)) in
       let none = none_of name (name x) (y ∷ ys) (less, all_beyond (name y) (name x) (map name ys) less on.0) in
       let e : Some x ≡ None = here ∙ none in
       cc)
       (λ equal.
       let one : name x ≡ name y = same_name (name x) (name y) equal in
       let there : bytes_eq (name y) (name x) ≡ true = subst (λ (n : List ℕ). bytes_eq n (name x) ≡ true) one (itself (name x)) in
-      let e : Some x ≡ Some y = rw (itself (name x), there) at same (name x) in
+      let e : Some x ≡ Some y = rw (itself (name x), there) at (same (name x)) in
       let first_is : x ≡ y = cc in
       let rest : (n : List ℕ) → first name n xs ≡ first name n ys = λ n.
       split (bytes_eq (name x) n)
@@ -82,12 +82,12 @@ module _ {T : Type 0} (name : T → List ℕ) where
       let is : name x ≡ n = (bytes_eq-Decides (name x) n).0 met in
       none_of name n xs (subst (λ (k : List ℕ). AllAfter k (map name xs)) is up.0)
       ∙ sym (none_of name n ys (subst (λ (k : List ℕ). AllAfter k (map name ys)) (sym one ∙ is) on.0)))
-      (λ other. rw (other, subst (λ (k : List ℕ). bytes_eq k n ≡ false) one other) at same n) in
+      (λ other. rw (other, subst (λ (k : List ℕ). bytes_eq k n ≡ false) one other) at (same n)) in
       let more : xs ≡ ys = same_by_firsts xs ys up.1 on.1 rest in
       cc)
       (λ greater.
       let before = reversed (name x) (name y) Greater greater in
-      let here : first name (name y) (x ∷ xs) ≡ Some y = rw (itself (name y)) at same (name y) in
+      let here : first name (name y) (x ∷ xs) ≡ Some y = rw (itself (name y)) at (same (name y)) in
       let none = none_of name (name y) (x ∷ xs) (before, all_beyond (name x) (name y) (map name xs) before up.0) in
       let e : None ≡ Some y = sym none ∙ here in
       cc)

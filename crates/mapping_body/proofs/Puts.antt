@@ -1,5 +1,5 @@
 -- Elements put at their places in byte order: what is seen of them, and that their names ascend.
-use Rattle.std.proofs.Common.{◌≡◌, ℕ, suc, ◌<◌, ◌≤◌, List, [], ◌∷◌, ◌++◌, map, length, take, drop, get_or, refl, sym, ap, subst, arith, true, false, Less, Equal, Greater, bytes_eq}
+use Rattle.std.proofs.Common.{◌≡◌, ℕ, suc, ◌<◌, ◌≤◌, List, [], ◌∷◌, ◌++◌, map, length, take, drop, get_or, refl, sym, ap, ◌∙◌, subst, arith, true, false, Less, Equal, Greater, bytes_eq}
 use Rattle.std.proofs.lemmas.Cmp.{nat_list_cmp_total}
 use Rattle.std.specs.List.Sorted.{IsStrictlySortedBy}
 use Rattle.mapping_body.specs.Names.{AreAscending, in_byte_order, put, put_all}

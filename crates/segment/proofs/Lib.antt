@@ -1,11 +1,18 @@
 mod Deaths
+mod FlatScopes
+mod FlatTerms
+mod FlatValues
+mod FlatWords
+mod Flats
 mod Listed
 mod Loops
 mod NumberKeys
+mod Numbered
 mod Ordered
 pub mod Passes
 mod Places
 mod PostingKinds
+mod Searches
 mod TermKinds
 pub mod Tested
 mod Within

@@ -1,11 +1,13 @@
 -- Loops that test each element.
 use Rattle.std.proofs.Common.{◌≡◌, ℕ, ◌+◌, ◌<◌, ◌≤◌, ◌↔◌, Bool, true, false, List, [], length, get_or, slice_get, Option, Some, None, IsNone, All, IsTrue, refl, sym, ap, subst, ◌∙◌, inl, inr, arith}
 use Rattle.std.specs.Prelude.{is_some, ◌==◌}
+use Rattle.std.specs.Bool.{MatchBool}
+use Rattle.std.specs.List.{AllWithin, HoldsAt}
 use Rattle.std.specs.Option.{option_map}
 use Rattle.std.proofs.lemmas.Bool.{cases_lt, false≢true}
 use Rattle.std.proofs.lemmas.Bool.Decides.{nat_tests}
 use Rattle.std.proofs.lemmas.List.{nil_from_length}
-use Rattle.std.proofs.lemmas.Option.{slice_get_within, slice_get-get_or, get_or_from_slice_get, same_Some}
+use Rattle.std.proofs.lemmas.Option.{slice_get_cases, slice_get_within, slice_get-get_or, get_or_from_slice_get, same_Some}
 
 -- each element before a place has the property
 pub record PassBefore {X : Type 0} (P : X → Type 0) (xs : List X) (at : ℕ) : Type 0 where
@@ -40,6 +42,17 @@ answer_fails P xs at x is never = (λ no. absurd (false≢true no), λ all. absu
 -- an element that fails its test
 pub answer_not : {X : Type 0} (P : X → Type 0) (xs : List X) (at : ℕ) (x : X) (test : Bool) → slice_get xs at ≡ Some x → (IsTrue test ↔ P x) → test ≡ false → IsTrue false ↔ All P xs
 answer_not P xs at x test is law fails = answer_fails P xs at x is (λ own. false≢true (sym fails ∙ law.1 own))
+
+-- what `all` answers
+pub all_iff : {X : Type 0} (P : X → Type 0) (xs : List X) (r : Bool) → MatchBool r (AllWithin P xs 0 (length xs)) ((k : ℕ) × (k < length xs) × HoldsAt (λ x. P x → ⊥) xs k) → IsTrue r ↔ All P xs
+all_iff P xs true within = (λ _ k d below. within k d (omega arith) below, λ _. refl)
+all_iff P xs false fails = (
+  λ no. absurd (false≢true no),
+  λ all. elim (slice_get_cases xs fails.0).1 [
+    | inl own ↦ absurd (fails.2 own.0 (all fails.0 own.0 fails.1))
+    | inr past ↦ absurd (omega (arith, past.0, fails.1))
+  ],
+)
 
 -- an option that holds nothing
 pub none_seen : {A B : Type 0} (view : A → B) (o : Option A) (found : Option B) (test : Bool) → test ≡ is_some o → test ≡ false → option_map view o ≡ found → IsNone found

@@ -1,5 +1,5 @@
 -- To be believed: the bytes of a segment part by part, which columns can be written, which agree, which bytes are a segment,
--- and what the columns say of documents, roots and live bits.
+-- what the columns say of documents, roots and live bits, and what a document shows.
 pub mod Text
 pub mod Fields
 pub mod Parts
@@ -8,6 +8,7 @@ pub mod Roots
 pub mod Agree
 pub mod Encoding
 pub mod Flat
+pub mod Shows
 pub mod Live
 -- These serve proofs alone: that bytes are the text of one thing at most, part by part, and how parts are read in place.
 pub mod Once

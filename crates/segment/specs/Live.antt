@@ -11,6 +11,12 @@ pub record LiveState : Type 0 where
   pub docs : List Bool
   pub roots : List Bool
 
+-- a segment under its id, with its live bits
+pub record EntryState : Type 0 where
+  pub id : ℕ
+  pub columns : Columns
+  pub live : LiveState
+
 -- the root of a document's block: as many roots come before the document
 abbrev pub root_of : List Bool → ℕ → ℕ
 root_of flags doc = count_by is_marked (take doc flags)

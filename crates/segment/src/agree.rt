@@ -16,7 +16,7 @@ use doc_values::{Column, ColumnValue};
 use stored_sources::{JoinValue, StoredSources};
 
 /// The most bytes of a source.
-const MAX_SOURCE_LEN: u32 = 16_777_216;
+pub(crate) const MAX_SOURCE_LEN: u32 = 16_777_216;
 
 /// The most bytes of an id.
 const MAX_ID_LEN: usize = 512;
@@ -57,7 +57,7 @@ fn are_rooted(parts: &Parts) -> bool
 }
 
 /// Whether the last document is a root.
-fn ends_with_root(scopes: &[BitSet], documents: u32) -> bool
+pub(crate) fn ends_with_root(scopes: &[BitSet], documents: u32) -> bool
     requires { IsHead documents scopes.now }
     ensures { IsTrue result ↔ IsTrue (slice_index_or (root_flags scopes.now) (documents - 1) false) }
 {
@@ -65,7 +65,7 @@ fn ends_with_root(scopes: &[BitSet], documents: u32) -> bool
 }
 
 /// Whether the last scope has documents.
-fn has_greatest(scopes: &[BitSet]) -> bool
+pub(crate) fn has_greatest(scopes: &[BitSet]) -> bool
     requires { 1 ≤ length scopes.now }
     ensures { IsTrue result ↔ (1 ≤ count_by is_marked (slice_index_or scopes.now (length scopes.now - 1) [])) }
 {
@@ -107,7 +107,7 @@ fn has_parent_id(join: JoinValue) -> bool
 }
 
 /// Whether bytes are as many as an id has.
-fn is_id(bytes: &[u8]) -> bool
+pub(crate) fn is_id(bytes: &[u8]) -> bool
     ensures { IsTrue result ↔ IsId bytes.now }
 {
     !bytes.is_empty() && bytes.len() <= MAX_ID_LEN
@@ -197,7 +197,7 @@ fn are_within<T: ColumnValue>(column: &Column<T>, documents: u32) -> bool
 }
 
 /// Whether each text field has documents.
-fn have_present(columns: &[(u32, BitSet)]) -> bool
+pub(crate) fn have_present(columns: &[(u32, BitSet)]) -> bool
     ensures { IsTrue result ↔ All (λ column. 1 ≤ count_by is_marked column.1) columns.now }
 {
     columns.iter().all(|(_, set)| set.count() >= 1)

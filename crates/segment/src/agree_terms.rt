@@ -15,7 +15,7 @@ use postings::Cursor;
 use term_table::number_of;
 
 /// The greatest number of bytes of a term (Lucene's `IndexWriter.MAX_TERM_LENGTH`).
-const MAX_TERM_LEN: usize = 32_766;
+pub(crate) const MAX_TERM_LEN: usize = 32_766;
 
 /// What a term is, as the column of its field is.
 #[derive(Drop)]

@@ -5,6 +5,7 @@ ghost use Rattle.std.specs.Option.{option_map};
 ghost use Rattle.std.specs.List.Sorted.{IsStrictlyIncreasing};
 ghost use Rattle.segment.specs.Fields.{column_of, fields};
 
+use crate::search::index_of;
 use std::marker::Model;
 
 /// One column a field, or what is kept of it, each with its field and by ascending field.
@@ -58,11 +59,10 @@ impl<C: Drop> ByField<C> {
     pub fn get(&self, field: u32) -> Option<&C>
         ensures { option_map (λ column. column.now) result ≡ column_of field self.now }
     {
-        'columns: for (own, column) in &self.columns {
-            if *own == field {
-                return Some(column);
-            }
+        let columns = self.columns.as_slice();
+        match index_of(columns, field) {
+            Some(at) => Some(&columns[at].1),
+            None => None,
         }
-        None
     }
 }

@@ -2,9 +2,10 @@
 
 ghost use Rattle.std.specs.Prelude.{◌≡◌, ◌↔◌, ◌<◌, ◌^◌, length, IsTrue};
 ghost use Rattle.std.specs.List.{All};
+ghost use Rattle.std.specs.Option.{option_map};
 ghost use Rattle.std.specs.List.Sorted.{IsStrictlyIncreasing};
 ghost use Rattle.doc_values.specs.Stands.{IsColumn};
-ghost use Rattle.segment.specs.Fields.{fields, AreByField};
+ghost use Rattle.segment.specs.Fields.{column_of, fields, AreByField};
 
 use crate::ByField;
 use block_bits::{BitList, BitSet};
@@ -72,6 +73,17 @@ impl<T: ColumnValue> ColumnList<T> {
             }
         }
         true
+    }
+
+    /// The column of a field, and None where the field has none.
+    pub(crate) fn get(&self, field: u32) -> Option<&RowList<T>>
+        ensures { option_map (λ column. column.now.1) result ≡ column_of field self.now }
+    {
+        let columns = self.columns.as_slice();
+        match columns.binary_search_by_key(&field, |column| column.field()) {
+            Ok(at) => Some(&columns[at]),
+            Err(_) => None,
+        }
     }
 
     /// The columns, in order.

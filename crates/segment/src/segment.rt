@@ -13,9 +13,9 @@ ghost use Rattle.segment.specs.Text.{segment_text};
 ghost use Rattle.segment.specs.declared.columns.Columns.{Columns};
 
 use crate::agree::are_columns;
+use crate::given::agree;
 use crate::parts::Parts;
 use crate::root_docs::root_places;
-use crate::writable::are_parts;
 use crate::written::segment_bytes;
 use crate::{Columns, SegmentRefusal};
 use block_bits::{BitList, BitSet, words_are_of_one_set};
@@ -71,14 +71,12 @@ impl Segment {
     pub fn of_columns(alloc: Global, columns: Columns) -> Result<Segment, SegmentRefusal>
         ensures columns { IfOk result (λ segment. segment ≡ columns) }
         ensures agree { IfOk result (λ segment. AreColumns columns) }
-        ensures disagree { IsErrOf result SegmentRefusal.NotASegment → AreColumns columns → ⊥ }
+        ensures disagree { IsErrOf result SegmentRefusal.NotASegment ↔ ¬ AreColumns columns }
     {
-        words_are_of_one_set();
-        if !are_parts(&columns) {
+        if !agree(&columns) {
             return Err(SegmentRefusal::NotASegment);
         }
-        let bytes = segment_bytes(alloc, &columns)?;
-        Segment::of_bytes(alloc, Bytes::of(bytes))
+        Ok(Segment::of_agreeing(alloc, columns)?)
     }
 
     /// The segment of columns that are known to agree, as those that a builder or a merge makes are.

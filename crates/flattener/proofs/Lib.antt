@@ -1,0 +1,15 @@
+pub mod Examples
+pub mod Objects
+pub mod Sorting
+pub mod Gathers
+pub mod Numbers
+pub mod Wording
+pub mod Documents
+pub mod Ways
+pub mod Blocks
+pub mod Joins
+pub mod Wholes
+pub mod Nested
+pub mod Fitted
+pub mod Relations
+pub mod Fitting

@@ -1,0 +1,32 @@
+-- Tokens text by text, and words token by token.
+use Rattle.std.proofs.Common.{◌≡◌, ℕ, List, [], ◌∷◌, ◌++◌, length, refl, sym, ◌∙◌, Option, Some, None}
+use Rattle.std.specs.List.{filter_map}
+use Rattle.analysis.specs.Words.{words}
+use Rattle.mapping_body.specs.declared.kind.Kind.TheVariants.{Text}
+use Rattle.tree_json.specs.Value.{JsonValue}
+use Rattle.tree_objects.specs.Values.{convert, text_of}
+use Rattle.flattener.specs.Flat.{texts_in, placed_words}
+use Rattle.flattener.specs.Walked.{one_text}
+use Rattle.flattener.specs.Placing.{tokens_on, texts_among, start_of, end_after}
+use Rattle.flattener.proofs.Numbers.{texts_next}
+
+pub tokens_next : (end : Option ℕ) (text : List ℕ) (rest : List (List ℕ)) →
+    tokens_on end (text ∷ rest) ≡ placed_words (start_of end) (words text) ++ tokens_on (end_after end (length (words text))) rest
+tokens_next None text rest = refl
+tokens_next (Some end) text rest = refl
+
+pub texts_among_next : (v : JsonValue) (vs : List JsonValue) → texts_among (v ∷ vs) ≡ one_text (text_of v) ++ texts_among vs
+texts_among_next v vs = texts_next text_of v vs
+
+pub texts_convert : (vs : List JsonValue) → texts_in (filter_map (convert Text) vs) ≡ texts_among vs
+unfolding convert
+texts_convert [] = refl
+texts_convert (v ∷ vs) = texts_next (convert Text) v vs ∙ rw (texts_convert vs) (sym (texts_next text_of v vs))
+
+pub tokens_none : (end : Option ℕ) → tokens_on end [] ≡ []
+tokens_none None = refl
+tokens_none (Some end) = refl
+
+pub ruleset wording = (tokens_next, texts_among_next, tokens_none)
+
+pub ruleset converting = (texts_convert, tokens_none)

@@ -1,0 +1,144 @@
+//! The document of an object, field by field.
+ghost use Rattle.std.specs.Prelude.{◌≡◌, ◌++◌, ◌<◌, [], IsTrue, length, map, nat_lt, IfOk, OnOk};
+ghost use Rattle.std.specs.List.{filter_map};
+ghost use Rattle.std.specs.Ordering.{int_cmp};
+ghost use Rattle.tree_json.specs.View.{view};
+ghost use Rattle.mapping_body.specs.declared.kind.Kind.{Kind};
+ghost use Rattle.tree_objects.specs.Values.{convert, has_values};
+ghost use Rattle.flattener.specs.Adds.{Added, Adds};
+ghost use Rattle.flattener.specs.Flat.{ascending, bytes_cmp, numbers_in, texts_in, tokens, words_of_field};
+ghost use Rattle.flattener.specs.Placing.{texts_among};
+ghost use Rattle.flattener.specs.Seen.{document_seen};
+ghost use Rattle.flattener.specs.Walked.{flat_at, kept, valued};
+
+use crate::document::{Document, KeywordField, NumberField};
+use crate::refusal::NoMemory;
+use crate::shown::shown_items;
+use crate::texts::{has_text, push_words_of_field, tokens};
+use crate::values::{keywords, numbers};
+use mapping::{Kind, Mapping};
+use std::alloc::Global;
+use tree_json::Json;
+
+/// The document of an object of a scope.
+#[tactic(auto, using(crate::proofs::Documents::documents))]
+pub(crate) fn document(
+    alloc: Global,
+    mapping: &Mapping,
+    generation: u32,
+    scope: u32,
+    content: &Json,
+) -> Result<Document, NoMemory>
+    requires { scope < length mapping.now.scopes }
+    ensures { IfOk result (λ d. document_seen d ≡ flat_at mapping.now generation scope (view content.now)) }
+{
+    let count = mapping.field_count();
+    let mut document = Document {
+        scope,
+        numbers: Vec::new(alloc),
+        keywords: Vec::new(alloc),
+        words: Vec::new(alloc),
+        texts: Vec::new(alloc),
+    };
+    let mut field = 0;
+    'fields: while field < count {
+        add_field(
+            alloc,
+            mapping,
+            generation,
+            scope,
+            content,
+            field,
+            &mut document,
+        )?;
+        field += 1;
+    }
+    Ok(document)
+}
+
+/// Adds what a field shows to a document.
+#[tactic(auto, using(crate::proofs::Wording::converting))]
+fn add_field(
+    alloc: Global,
+    mapping: &Mapping,
+    generation: u32,
+    scope: u32,
+    content: &Json,
+    field: u32,
+    into: &mut Document,
+) -> Result<(), NoMemory>
+    requires field { field < length mapping.now.fields }
+    requires scope { scope < length mapping.now.scopes }
+    ensures { OnOk result (Adds mapping.now generation scope (view content.now) field (document_seen into.old) (document_seen into.new)) }
+{
+    match mapping.kind(field) {
+        Kind::Text => {
+            let items = shown_items(alloc, mapping, generation, field, scope, content)?;
+            add_text(alloc, field, items.as_slice(), into)
+        }
+        Kind::Keyword => {
+            let items = shown_items(alloc, mapping, generation, field, scope, content)?;
+            add_keywords(alloc, field, items.as_slice(), into)
+        }
+        Kind::Long => {
+            let items = shown_items(alloc, mapping, generation, field, scope, content)?;
+            add_numbers(alloc, Kind::Long, field, items.as_slice(), into)
+        }
+        Kind::Boolean => {
+            let items = shown_items(alloc, mapping, generation, field, scope, content)?;
+            add_numbers(alloc, Kind::Boolean, field, items.as_slice(), into)
+        }
+        Kind::Date => {
+            let items = shown_items(alloc, mapping, generation, field, scope, content)?;
+            add_numbers(alloc, Kind::Date, field, items.as_slice(), into)
+        }
+        Kind::Object => Ok(()),
+        Kind::Nested => Ok(()),
+        Kind::Join => Ok(()),
+    }
+}
+
+#[tactic(auto, using(crate::proofs::Documents::adding))]
+fn add_numbers(
+    alloc: Global,
+    kind: Kind,
+    field: u32,
+    items: &[&Json],
+    into: &mut Document,
+) -> Result<(), NoMemory>
+    requires { IsTrue (has_values kind) }
+    ensures { OnOk result (Added (document_seen into.old) (document_seen into.new) (kept (field, ascending int_cmp (numbers_in (filter_map (convert kind) (map (λ j. view j.now) items.now))))) [] [] []) }
+{
+    let values = numbers(alloc, kind, items)?;
+    if !values.is_empty() {
+        into.numbers.push(NumberField { field, values })?;
+    }
+    Ok(())
+}
+
+#[tactic(auto, using(crate::proofs::Documents::adding))]
+fn add_keywords(
+    alloc: Global,
+    field: u32,
+    items: &[&Json],
+    into: &mut Document,
+) -> Result<(), NoMemory>
+    ensures { OnOk result (Added (document_seen into.old) (document_seen into.new) [] (kept (field, ascending bytes_cmp (texts_in (filter_map (convert Kind.Keyword) (map (λ j. view j.now) items.now))))) [] []) }
+{
+    let values = keywords(alloc, items)?;
+    if !values.is_empty() {
+        into.keywords.push(KeywordField { field, values })?;
+    }
+    Ok(())
+}
+
+#[tactic(auto, using(crate::proofs::Documents::adding), unfolding(crate::specs::Flat::tokens))]
+fn add_text(alloc: Global, field: u32, items: &[&Json], into: &mut Document) -> Result<(), NoMemory>
+    ensures { OnOk result (Added (document_seen into.old) (document_seen into.new) [] [] (words_of_field field (tokens (texts_among (map (λ j. view j.now) items.now)))) (valued field (texts_among (map (λ j. view j.now) items.now)))) }
+{
+    push_words_of_field(alloc, field, tokens(alloc, items)?, &mut into.words)?;
+    if has_text(items) {
+        into.texts.push(field)?;
+    }
+    Ok(())
+}

@@ -1,0 +1,122 @@
+//! The block of a tree.
+ghost use Rattle.std.specs.Prelude.{◌≡◌, ◌⊎◌, ◌≤◌, ◌<◌, ◌^◌, ℕ, List, length, map, Some, None, IfErr, IfOk, IsErrOf, IsOk, OnOk};
+ghost use Rattle.tree_json.specs.Text.{compact};
+ghost use Rattle.tree_json.specs.View.{view};
+ghost use Rattle.tree_objects.specs.Fault.{first_fault};
+ghost use Rattle.flattener.specs.Block.{block_of, block_refusal, most_documents, root_of_tree, tree_given};
+ghost use Rattle.flattener.specs.Fits.{BlockFits, IsGiven};
+ghost use Rattle.flattener.specs.Seen.{block_seen, document_seen, root_seen};
+ghost use Rattle.flattener.specs.Walked.{flat_pair, walked};
+
+use crate::document::{Block, Document};
+use crate::join::join_of;
+use crate::refusal::{FlattenRefusal, NoMemory, WalkRefusal};
+use crate::walk::walk;
+use mapping::Mapping;
+use segment::{Bytes, Root};
+use std::alloc::Global;
+use tree_json::{Json, OutText, print};
+use tree_objects::{Fault, first_fault};
+
+/// The block of a tree by its source, its id, its sequence number and the generation of the mapping that it is indexed
+/// under. The refusals are looked for in the order of `FlattenRefusal`: a fault is the first that a walk over the
+/// source meets, names in byte order, lists in order, depth first.
+#[tactic(auto, using(crate::proofs::Wholes::wholes))]
+pub fn block(
+    alloc: Global,
+    mapping: &Mapping,
+    generation: u32,
+    source: &Json,
+    id: &[u8],
+    number: u64,
+) -> Result<Block, FlattenRefusal>
+    requires { IsGiven mapping.now (tree_given id.now number (view source.now) generation) }
+    ensures block { IfOk result (λ b. block_seen b ≡ block_of mapping.now (tree_given id.now number (view source.now) generation)) }
+    ensures fits { number ≤ 2 ^ 62 → IfOk result (λ b. BlockFits mapping.now (block_seen b)) }
+    ensures accepted { IsOk result → block_refusal mapping.now (tree_given id.now number (view source.now) generation) ≡ None }
+    ensures refused { IfErr result (λ e. (e ≡ FlattenRefusal.NoMemory) ⊎ (block_refusal mapping.now (tree_given id.now number (view source.now) generation) ≡ Some e)) }
+{
+    faultless(alloc, mapping, generation, source)?;
+    let documents = documents(alloc, mapping, generation, source)?;
+    let root = root_of(alloc, mapping, generation, source, id, number)?;
+    Ok(Block { documents, root })
+}
+
+/// That a source has no fault, or its first.
+#[tactic(auto, using(crate::proofs::Wholes::faults))]
+fn faultless(
+    alloc: Global,
+    mapping: &Mapping,
+    generation: u32,
+    source: &Json,
+) -> Result<(), FlattenRefusal>
+    ensures ok { OnOk result (first_fault mapping.now generation (view source.now) ≡ None) }
+    ensures fault { (id : List ℕ) (number : ℕ) → IfErr result (λ e. (e ≡ FlattenRefusal.NoMemory) ⊎ (block_refusal mapping.now (tree_given id number (view source.now) generation) ≡ Some e)) }
+{
+    match first_fault(alloc, mapping, generation, source) {
+        Ok(None) => Ok(()),
+        Ok(Some(Fault::WrongType(field))) => Err(FlattenRefusal::WrongType(field)),
+        Ok(Some(Fault::TermTooLong(field))) => Err(FlattenRefusal::TermTooLong(field)),
+        Ok(Some(Fault::BadJoin)) => Err(FlattenRefusal::BadJoin),
+        Err(_) => Err(FlattenRefusal::NoMemory),
+    }
+}
+
+/// The documents of a source's objects.
+#[tactic(auto, using(crate::proofs::Ways::starts))]
+fn documents(
+    alloc: Global,
+    mapping: &Mapping,
+    generation: u32,
+    source: &Json,
+) -> Result<Vec<Document>, FlattenRefusal>
+    ensures documents { IfOk result (λ v. map document_seen v.items ≡ map (flat_pair mapping.now generation) (walked mapping.now generation (length mapping.now.scopes) 0 (view source.now))) }
+    ensures few { IsOk result → length (walked mapping.now generation (length mapping.now.scopes) 0 (view source.now)) ≤ most_documents }
+    ensures many { IfErr result (λ e. (e ≡ FlattenRefusal.NoMemory) ⊎ ((e ≡ FlattenRefusal.TooManyObjects) × (most_documents < length (walked mapping.now generation (length mapping.now.scopes) 0 (view source.now))))) }
+{
+    let levels = mapping.scope_count();
+    let mut documents = Vec::new(alloc);
+    match walk(
+        alloc,
+        mapping,
+        generation,
+        levels,
+        0,
+        source,
+        &mut documents,
+    ) {
+        Ok(()) => Ok(documents),
+        Err(WalkRefusal::TooManyObjects) => Err(FlattenRefusal::TooManyObjects),
+        Err(WalkRefusal::NoMemory) => Err(FlattenRefusal::NoMemory),
+    }
+}
+
+/// What is kept of a root.
+#[tactic(auto, using(crate::proofs::Wholes::roots))]
+fn root_of(
+    alloc: Global,
+    mapping: &Mapping,
+    generation: u32,
+    source: &Json,
+    id: &[u8],
+    number: u64,
+) -> Result<Root, NoMemory>
+    ensures { IfOk result (λ r. root_seen r ≡ root_of_tree mapping.now (tree_given id.now number (view source.now) generation)) }
+{
+    Ok(Root {
+        id: Bytes::of(id.to_vec(alloc)?),
+        number,
+        generation,
+        join: join_of(alloc, mapping, generation, source)?,
+        source: Bytes::of(compact_text(alloc, source)?),
+    })
+}
+
+/// The compact text of a value.
+fn compact_text(alloc: Global, value: &Json) -> Result<Vec<u8>, NoMemory>
+    ensures { IfOk result (λ v. v.items ≡ compact (view value.now)) }
+{
+    let mut text = OutText::empty(alloc);
+    print(value, &mut text)?;
+    Ok(text.into_vec())
+}

@@ -1,0 +1,24 @@
+//! A tree as a block: a document for each of its objects, nested objects first, the root last (Lucene, `search.join`).
+//!
+//! Stands on `tree_objects` for objects and their values, and on `segment` for the form of documents and roots.
+//! The contract that others use: `block` gives `block_of` its tree, or the refusal that `block_refusal` says; all that
+//! evaluates cites `specs/Flat`, `specs/Block` and `specs/StandsFor`. Begin with `flatten`, then `walk` and `fields`.
+#![tactic(auto)]
+
+mod document;
+mod fields;
+mod flatten;
+mod gather;
+mod join;
+mod law;
+mod names;
+mod refusal;
+mod shown;
+mod texts;
+mod values;
+mod walk;
+
+pub use document::{Block, Document, KeywordField, NumberField, Word};
+pub use flatten::block;
+pub use law::blocks_are_of_their_mapping;
+pub use refusal::{FlattenRefusal, NoMemory};

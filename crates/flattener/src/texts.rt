@@ -1,0 +1,237 @@
+//! The words of a text field's values, with their positions.
+ghost use Rattle.std.specs.Prelude.{◌≡◌, ◌+◌, ◌<◌, ◌≤◌, ◌^◌, ◌++◌, ◌∷◌, [], None, ℕ, List, length, map, nat_lt, IfOk, OnOk};
+ghost use Rattle.tree_json.specs.View.{view};
+ghost use Rattle.tree_objects.specs.Values.{text_of};
+ghost use Rattle.flattener.specs.Flat.{ascending, token_cmp, tokens, grouped, together, placed_words, words_of_field};
+ghost use Rattle.flattener.specs.Placing.{tokens_on, texts_among, start_of, end_after};
+ghost use Rattle.flattener.specs.Walked.{one_text};
+ghost use Rattle.flattener.specs.Seen.{word_seen};
+
+use crate::document::Word;
+use crate::refusal::NoMemory;
+use analysis::Token;
+use itoa::Buffer;
+use std::alloc::Global;
+use tree_json::Json;
+
+const POSITION_GAP: u64 = 100;
+
+const MOST_POSITION: u64 = 4_294_967_295;
+
+/// Words with their positions, in the order in which they come.
+#[derive(Drop)]
+pub(crate) struct Placed {
+    pub tokens: Vec<(Vec<u8>, u32)>,
+    /// One past the last position so far, and none where no value came yet.
+    pub end: Option<u64>,
+}
+
+/// The words of the texts that items are, each with its position.
+#[tactic(auto, using(crate::proofs::Wording::wording))]
+pub(crate) fn tokens(alloc: Global, items: &[&Json]) -> Result<Vec<(Vec<u8>, u32)>, NoMemory>
+    ensures { IfOk result (λ v. map (λ t. (t.0.items, t.1)) v.items ≡ tokens_on None (texts_among (map (λ j. view j.now) items.now))) }
+{
+    let mut found = Placed {
+        tokens: Vec::new(alloc),
+        end: None,
+    };
+    'items: for item in items {
+        push_text(alloc, *item, &mut found)?;
+    }
+    Ok(found.tokens)
+}
+
+/// Adds the words of the text that an item is, if it is one.
+#[tactic(auto, using(crate::proofs::Wording::wording))]
+fn push_text(alloc: Global, item: &Json, into: &mut Placed) -> Result<(), NoMemory>
+    ensures { OnOk result ((rest : List (List ℕ)) → map (λ t. (t.0.items, t.1)) into.new.tokens.items ++ tokens_on into.new.end rest ≡ map (λ t. (t.0.items, t.1)) into.old.tokens.items ++ tokens_on into.old.end (one_text (text_of (view item.now)) ++ rest)) }
+{
+    match item {
+        Json::Text(text) => push_words(alloc, text.as_str(), into),
+        Json::Whole(number) => push_words(alloc, Buffer::new().format(*number), into),
+        Json::Bool(true) => push_words(alloc, "true", into),
+        Json::Bool(false) => push_words(alloc, "false", into),
+        _ => Ok(()),
+    }
+}
+
+/// Adds the words of one more text.
+#[tactic(auto, using(crate::proofs::Wording::wording))]
+fn push_words(alloc: Global, text: &str, into: &mut Placed) -> Result<(), NoMemory>
+    ensures { OnOk result ((rest : List (List ℕ)) → map (λ t. (t.0.items, t.1)) into.new.tokens.items ++ tokens_on into.new.end rest ≡ map (λ t. (t.0.items, t.1)) into.old.tokens.items ++ tokens_on into.old.end (text.now ∷ rest)) }
+{
+    let found = analysis::tokens(alloc, text)?.into_vec();
+    let count = found.len() as u64;
+    let from = start_of(into.end)?;
+    place(found.as_slice(), alloc, from, &mut into.tokens)?;
+    into.end = end_after(into.end, from, count);
+    Ok(())
+}
+
+/// The position at which a text's words begin.
+fn start_of(end: Option<u64>) -> Result<u64, NoMemory>
+    ensures start { IfOk result (λ n. n ≡ start_of end) }
+    ensures bound { IfOk result (λ n. n < 2 ^ 33) }
+{
+    match end {
+        None => Ok(0),
+        Some(end) => if end > MOST_POSITION {
+            Err(NoMemory)
+        } else {
+            Ok(end + POSITION_GAP)
+        },
+    }
+}
+
+/// One past the last position, once so many words begin at a position.
+fn end_after(end: Option<u64>, from: u64, count: u64) -> Option<u64>
+    requires from { from ≡ start_of end }
+    requires short { from + count < 2 ^ 64 }
+    ensures { result ≡ end_after end count }
+{
+    match end {
+        None => Some(from + count),
+        Some(end) => if count == 0 {
+            Some(end)
+        } else {
+            Some(from + count)
+        },
+    }
+}
+
+/// Adds words with positions one after the other.
+#[tactic(auto, using(crate::proofs::Wording::wording))]
+fn place(
+    found: &[Token],
+    alloc: Global,
+    from: u64,
+    into: &mut Vec<(Vec<u8>, u32)>,
+) -> Result<(), NoMemory>
+    requires { from < 2 ^ 33 }
+    ensures { OnOk result (map (λ t. (t.0.items, t.1)) into.new.items ≡ map (λ t. (t.0.items, t.1)) into.old.items ++ placed_words from (map (λ t. t.folded) found.now)) }
+{
+    let mut at = from;
+    'tokens: for token in found {
+        push_token(alloc, token, at, into)?;
+        at += 1;
+    }
+    Ok(())
+}
+
+fn push_token(
+    alloc: Global,
+    token: &Token,
+    at: u64,
+    into: &mut Vec<(Vec<u8>, u32)>,
+) -> Result<(), NoMemory>
+    ensures token { OnOk result (map {B = List ℕ × ℕ} (λ t. (t.0.items, t.1)) into.new.items ≡ map {B = List ℕ × ℕ} (λ t. (t.0.items, t.1)) into.old.items ++ (token.now.folded, at) ∷ []) }
+    ensures bound { OnOk result (at < 2 ^ 32) }
+{
+    if at > MOST_POSITION {
+        return Err(NoMemory);
+    }
+    into.push((token.folded.as_slice().to_vec(alloc)?, at as u32))?;
+    Ok(())
+}
+
+/// Adds each different word of some tokens, in byte order, with its positions.
+pub(crate) fn push_words_of_field(
+    alloc: Global,
+    field: u32,
+    mut tokens: Vec<(Vec<u8>, u32)>,
+    into: &mut Vec<Word>,
+) -> Result<(), NoMemory>
+    ensures { OnOk result (map word_seen into.new.items ≡ map word_seen into.old.items ++ words_of_field field (map (λ t. (t.0.items, t.1)) tokens.items)) }
+{
+    sort_tokens(&mut tokens);
+    match tokens.as_slice() {
+        [] => Ok(()),
+        [(word, at), rest @ ..] => push_grouped(alloc, field, word.as_slice(), *at, rest, into),
+    }
+}
+
+fn sort_tokens(tokens: &mut Vec<(Vec<u8>, u32)>)
+    ensures { map (λ t. (t.0.items, t.1)) tokens.new.items ≡ ascending token_cmp (map (λ t. (t.0.items, t.1)) tokens.old.items) }
+{
+    tokens.sort_unstable();
+}
+
+/// Adds the words of a token and those behind it, where the same words are neighbours.
+#[tactic(auto, using(crate::proofs::Wording::wording))]
+fn push_grouped(
+    alloc: Global,
+    field: u32,
+    word: &[u8],
+    at: u32,
+    rest: &[(Vec<u8>, u32)],
+    into: &mut Vec<Word>,
+) -> Result<(), NoMemory>
+    ensures { OnOk result (map word_seen into.new.items ≡ map word_seen into.old.items ++ together field word.now (at ∷ []) (map (λ t. (t.0.items, t.1)) rest.now)) }
+{
+    let mut current = new_word(alloc, field, word, at)?;
+    'rest: for (word, at) in rest {
+        current = with_token(alloc, field, word.as_slice(), *at, current, into)?;
+    }
+    into.push(current)?;
+    Ok(())
+}
+
+fn new_word(alloc: Global, field: u32, word: &[u8], at: u32) -> Result<Word, NoMemory>
+    ensures { IfOk result (λ w. word_seen w ≡ ((field, word.now), at ∷ [])) }
+{
+    let mut positions = Vec::new(alloc);
+    positions.push(at)?;
+    Ok(Word {
+        field,
+        word: word.to_vec(alloc)?,
+        positions,
+    })
+}
+
+/// The word that is being put together after one more token: the same with one more position, or the next word.
+#[tactic(auto, using(crate::proofs::Wording::wording))]
+fn with_token(
+    alloc: Global,
+    field: u32,
+    word: &[u8],
+    at: u32,
+    current: Word,
+    into: &mut Vec<Word>,
+) -> Result<Word, NoMemory>
+    requires { current.field ≡ field }
+    ensures field { IfOk result (λ w. w.field ≡ field) }
+    ensures together { IfOk result (λ w. (rest : List (List ℕ × ℕ)) → map word_seen into.new.items ++ together field w.word.items w.positions.items rest ≡ map word_seen into.old.items ++ together field current.word.items current.positions.items ((word.now, at) ∷ rest)) }
+{
+    if word == current.word.as_slice() {
+        let mut current = current;
+        current.positions.push(at)?;
+        Ok(current)
+    } else {
+        into.push(current)?;
+        new_word(alloc, field, word, at)
+    }
+}
+
+/// Whether one of the items is a text for a text field.
+#[tactic(auto, using(crate::proofs::Wording::wording))]
+pub(crate) fn has_text(items: &[&Json]) -> bool
+    ensures { result ≡ nat_lt 0 (length (texts_among (map (λ j. view j.now) items.now))) }
+{
+    'items: for item in items {
+        if is_text(*item) {
+            return true;
+        }
+    }
+    false
+}
+
+fn is_text(item: &Json) -> bool
+    ensures { result ≡ nat_lt 0 (length (one_text (text_of (view item.now)))) }
+{
+    match item {
+        Json::Text(_) => true,
+        Json::Whole(_) => true,
+        Json::Bool(_) => true,
+        _ => false,
+    }
+}

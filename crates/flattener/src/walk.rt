@@ -1,0 +1,153 @@
+//! One walk over the objects of a source.
+ghost use Rattle.std.specs.Prelude.{◌≡◌, ◌++◌, ◌+◌, ◌<◌, ◌≤◌, ◌∷◌, [], length, map, IsErrOf, OnOk};
+ghost use Rattle.std.specs.List.{flat_map};
+ghost use Rattle.tree_json.specs.View.{view};
+ghost use Rattle.flattener.specs.Block.{most_documents};
+ghost use Rattle.flattener.specs.Seen.{document_seen};
+ghost use Rattle.flattener.specs.Walked.{children_at, inner, kid_part, walked, flat_pair, flat_at};
+
+use crate::document::Document;
+use crate::fields::document;
+use crate::refusal::{NoMemory, WalkRefusal};
+use crate::shown::{children, outer};
+use mapping::Mapping;
+use std::alloc::Global;
+use tree_json::Json;
+
+/// The nested objects that a tree may have.
+const MOST_NESTED: usize = 10_000;
+
+/// Adds the documents of an object and of those inside it, its own last. `left` is how many levels may lie below.
+#[cycle(walks)]
+#[tactic(auto, using(crate::proofs::Blocks::blocks))]
+pub(crate) fn walk(
+    alloc: Global,
+    mapping: &Mapping,
+    generation: u32,
+    left: u32,
+    scope: u32,
+    content: &Json,
+    into: &mut Vec<Document>,
+) -> Result<(), WalkRefusal>
+    requires { scope < length mapping.now.scopes }
+    ensures ok { OnOk result (map document_seen into.new.items ≡ map document_seen into.old.items ++ map (flat_pair mapping.now generation) (walked mapping.now generation left scope (view content.now))) }
+    ensures long { OnOk result (length into.new.items ≡ length into.old.items + length (walked mapping.now generation left scope (view content.now))) }
+    ensures few { OnOk result (length into.new.items ≤ most_documents) }
+    ensures many { IsErrOf result WalkRefusal.TooManyObjects → most_documents < length into.old.items + length (walked mapping.now generation left scope (view content.now)) }
+{
+    walk_inside(alloc, mapping, generation, left, scope, content, into)?;
+    push_document(alloc, mapping, generation, scope, content, into)
+}
+
+/// Adds the documents of the objects inside an object.
+#[cycle(walks)]
+#[tactic(auto, using(crate::proofs::Blocks::blocks))]
+fn walk_inside(
+    alloc: Global,
+    mapping: &Mapping,
+    generation: u32,
+    left: u32,
+    scope: u32,
+    content: &Json,
+    into: &mut Vec<Document>,
+) -> Result<(), WalkRefusal>
+    requires { scope < length mapping.now.scopes }
+    ensures ok { OnOk result (map document_seen into.new.items ≡ map document_seen into.old.items ++ map (flat_pair mapping.now generation) (inner mapping.now generation left scope (view content.now))) }
+    ensures long { OnOk result (length into.new.items ≡ length into.old.items + length (inner mapping.now generation left scope (view content.now))) }
+    ensures many { IsErrOf result WalkRefusal.TooManyObjects → most_documents < length into.old.items + length (inner mapping.now generation left scope (view content.now)) }
+{
+    if left == 0 {
+        return Ok(());
+    }
+    let _ = mapping.scope_count();
+    'kids: for kid in mapping.order() {
+        walk_if_kid(
+            alloc,
+            mapping,
+            generation,
+            left - 1,
+            scope,
+            *kid,
+            content,
+            into,
+        )?;
+    }
+    Ok(())
+}
+
+/// Adds the documents of the objects at one nested path, if the scope around it is an object's.
+#[cycle(walks)]
+#[tactic(auto, using(crate::proofs::Blocks::blocks))]
+fn walk_if_kid(
+    alloc: Global,
+    mapping: &Mapping,
+    generation: u32,
+    left: u32,
+    scope: u32,
+    kid: u32,
+    content: &Json,
+    into: &mut Vec<Document>,
+) -> Result<(), WalkRefusal>
+    requires { kid < length mapping.now.scopes }
+    ensures ok { OnOk result (map document_seen into.new.items ≡ map document_seen into.old.items ++ map (flat_pair mapping.now generation) (kid_part mapping.now generation left scope (view content.now) kid)) }
+    ensures long { OnOk result (length into.new.items ≡ length into.old.items + length (kid_part mapping.now generation left scope (view content.now) kid)) }
+    ensures many { IsErrOf result WalkRefusal.TooManyObjects → most_documents < length into.old.items + length (kid_part mapping.now generation left scope (view content.now) kid) }
+{
+    if outer(mapping, kid) == scope {
+        walk_kid(alloc, mapping, generation, left, kid, content, into)
+    } else {
+        Ok(())
+    }
+}
+
+/// Adds the documents of the objects at one nested path in an object, and of those inside them.
+#[cycle(walks)]
+#[tactic(auto, using(crate::proofs::Blocks::blocks))]
+fn walk_kid(
+    alloc: Global,
+    mapping: &Mapping,
+    generation: u32,
+    left: u32,
+    kid: u32,
+    content: &Json,
+    into: &mut Vec<Document>,
+) -> Result<(), WalkRefusal>
+    requires { kid < length mapping.now.scopes }
+    ensures ok { OnOk result (map document_seen into.new.items ≡ map document_seen into.old.items ++ map (flat_pair mapping.now generation) (flat_map (walked mapping.now generation left kid) (children_at mapping.now generation kid (view content.now)))) }
+    ensures long { OnOk result (length into.new.items ≡ length into.old.items + length (flat_map (walked mapping.now generation left kid) (children_at mapping.now generation kid (view content.now)))) }
+    ensures many { IsErrOf result WalkRefusal.TooManyObjects → most_documents < length into.old.items + length (flat_map (walked mapping.now generation left kid) (children_at mapping.now generation kid (view content.now))) }
+{
+    let children = children(alloc, mapping, generation, kid, content)?;
+    'children: for child in children.as_slice() {
+        walk(alloc, mapping, generation, left, kid, *child, into)?;
+    }
+    Ok(())
+}
+
+/// Adds the document of an object, if there is room in a block.
+fn push_document(
+    alloc: Global,
+    mapping: &Mapping,
+    generation: u32,
+    scope: u32,
+    content: &Json,
+    into: &mut Vec<Document>,
+) -> Result<(), WalkRefusal>
+    requires { scope < length mapping.now.scopes }
+    ensures ok { OnOk result (map document_seen into.new.items ≡ map document_seen into.old.items ++ flat_at mapping.now generation scope (view content.now) ∷ []) }
+    ensures long { OnOk result (length into.new.items ≡ length into.old.items + 1) }
+    ensures few { OnOk result (length into.new.items ≤ most_documents) }
+    ensures many { IsErrOf result WalkRefusal.TooManyObjects → most_documents ≤ length into.old.items }
+{
+    if into.len() > MOST_NESTED {
+        return Err(WalkRefusal::TooManyObjects);
+    }
+    Ok(push(document(alloc, mapping, generation, scope, content)?, into)?)
+}
+
+fn push(document: Document, into: &mut Vec<Document>) -> Result<(), NoMemory>
+    ensures { OnOk result (into.new.items ≡ into.old.items ++ document ∷ []) }
+{
+    into.push(document)?;
+    Ok(())
+}
