@@ -1,9 +1,10 @@
 //! The form of a mapping body.
 ghost use Rattle.std.specs.Prelude.{◌≡◌, ◌&&◌, ℕ, List, codes, Option, option_map};
-ghost use Rattle.std.specs.List.{list_any};
+ghost use Rattle.std.specs.List.{list_all, list_any};
 ghost use Rattle.std.specs.Str.{bytes_eq};
 ghost use Rattle.tree_json.specs.Value.{members_of, elements_of, member_of};
 ghost use Rattle.tree_json.specs.View.{view, values, entries};
+ghost use Rattle.mapping_body.specs.Names.{is_name, is_property_name};
 ghost use Rattle.mapping_body.specs.Body.{kind_named, kind_in, kind_of, is_child, are_children, are_relations, are_properties, property_takes, takes_type, are_taken, has, has_needed, is_property, is_flag, is_index_name, body_takes, is_body_alone, member_named, is_true, is_nested, is_join, index_of};
 
 use crate::kind::Kind;
@@ -57,6 +58,12 @@ fn is_child(value: &Json) -> bool
     }
 }
 
+fn are_child_names(elements: &[Json]) -> bool
+    ensures { result ≡ list_all (λ e. is_child (view e)) elements.now }
+{
+    elements.iter().all(|element| is_child(element))
+}
+
 /// Whether a value is one name of a child, or a list of some.
 #[tactic(auto, using(crate::proofs::Members::each))]
 fn are_children(value: &Json) -> bool
@@ -66,10 +73,18 @@ fn are_children(value: &Json) -> bool
         Json::Text(name) => is_name(name.as_slice()),
         Json::List(list) => {
             let elements = list.as_slice();
-            !elements.is_empty() && elements.iter().all(|element| is_child(element))
+            !elements.is_empty() && are_child_names(elements)
         }
         _ => false,
     }
+}
+
+fn are_parents(members: &[(JsonText, Json)]) -> bool
+    ensures { result ≡ list_all (λ m. is_name m.0 && are_children (view m.1)) members.now }
+{
+    members
+        .iter()
+        .all(|(name, children)| is_name(name.as_slice()) && are_children(children))
 }
 
 #[tactic(auto, using(crate::proofs::Members::each))]
@@ -77,12 +92,15 @@ fn are_relations(value: &Json) -> bool
     ensures { result ≡ are_relations (view value.now) }
 {
     match value {
-        Json::Object(object) => object
-            .as_slice()
-            .iter()
-            .all(|(name, children)| is_name(name.as_slice()) && are_children(children)),
+        Json::Object(object) => are_parents(object.as_slice()),
         _ => false,
     }
+}
+
+fn are_property_names(members: &[(JsonText, Json)]) -> bool
+    ensures { result ≡ list_all (λ m. is_property_name m.0) members.now }
+{
+    members.iter().all(|(name, _)| is_property_name(name.as_slice()))
 }
 
 #[tactic(auto, using(crate::proofs::Members::each))]
@@ -90,10 +108,7 @@ fn are_properties(value: &Json) -> bool
     ensures { result ≡ are_properties (view value.now) }
 {
     match value {
-        Json::Object(object) => object
-            .as_slice()
-            .iter()
-            .all(|(name, _)| is_property_name(name.as_slice())),
+        Json::Object(object) => are_property_names(object.as_slice()),
         _ => false,
     }
 }
@@ -132,9 +147,8 @@ fn takes(kind: Kind, name: &[u8], value: &Json) -> bool
     name == b"type".as_slice() || may_have(kind, name, value)
 }
 
-#[tactic(auto, using(crate::proofs::Members::each))]
 fn each_taken(kind: Kind, members: &[(JsonText, Json)]) -> bool
-    ensures { result ≡ are_taken (takes_type (property_takes kind)) (members_of (entries members.now)) }
+    ensures { result ≡ list_all (λ m. list_any (λ t. bytes_eq m.0 t.0 && t.1 (view m.1)) (takes_type (property_takes kind))) members.now }
 {
     members
         .iter()
@@ -158,6 +172,7 @@ fn has_needed(kind: Kind, form: &JsonObject) -> bool
 }
 
 /// Whether a value has the form of a property, what stands below it left aside.
+#[tactic(auto, using(crate::proofs::Members::each))]
 pub fn is_property(form: &Json) -> bool
     ensures { result ≡ is_property (view form.now) }
 {
@@ -189,9 +204,8 @@ fn body_takes(name: &[u8], value: &Json) -> bool
         || (name == b"dynamic".as_slice() && is_flag(value))
 }
 
-#[tactic(auto, using(crate::proofs::Members::each))]
 fn each_taken_in_body(members: &[(JsonText, Json)]) -> bool
-    ensures { result ≡ are_taken body_takes (members_of (entries members.now)) }
+    ensures { result ≡ list_all (λ m. list_any (λ t. bytes_eq m.0 t.0 && t.1 (view m.1)) body_takes) members.now }
 {
     members
         .iter()
@@ -199,6 +213,7 @@ fn each_taken_in_body(members: &[(JsonText, Json)]) -> bool
 }
 
 /// Whether a value has the form of a mapping body, its properties left aside.
+#[tactic(auto, using(crate::proofs::Members::each))]
 pub fn is_body_alone(body: &Json) -> bool
     ensures { result ≡ is_body_alone (view body.now) }
 {

@@ -1,11 +1,12 @@
 -- Lines of parents: how they go on, and that one comes back exactly where a relation is its own ancestor.
-use Rattle.std.proofs.Common.{◌≡◌, ℕ, zero, suc, ◌+◌, ◌-◌, ◌*◌, ◌<◌, ◌≤◌, List as Seq, [], ◌∷◌, length, refl, sym, ap, ◌∙◌, subst, arith, Bool, true, false, ◌||◌, ◌==◌, Option, Some, None, is_some, option_and_then, slice_get, inl, inr}
+use Rattle.std.proofs.Common.{◌≡◌, ℕ, zero, suc, ◌+◌, ◌-◌, ◌*◌, ◌<◌, ◌≤◌, List as Seq, [], ◌∷◌, length, refl, sym, ap, ◌∙◌, subst, arith, Bool, true, false, ◌||◌, ◌==◌, Option, Some, None, is_some, option_and_then, slice_get, get_or, inl, inr}
 use Rattle.std.proofs.lemmas.Bool.{false≢true, eqb-true, eq-eqb, or_cases, cases_lt}
+use Rattle.std.proofs.lemmas.List.{get_or-set_other}
 use Rattle.std.proofs.lemmas.Map.Steps.{length-le_from_distinct_below}
 use Rattle.std.specs.List.{AllByRecursion, IsDistinct, list_any}
 use Rattle.mapping_body.proofs.Booleans.{neither}
 use Rattle.mapping_body.proofs.Walks.{split}
-use Rattle.mapping_growth.specs.Lines.{Ends}
+use Rattle.mapping_growth.specs.Lines.{AllEnd, Ends, is_ended, marked}
 use Rattle.mapping_growth.specs.Relations.{IsAncestor, parent, further, Relation, parent_of, climbed, turns_back}
 
 pub climbed-add : (rs : Seq Relation) (steps more : ℕ) (at : Option ℕ) → climbed more rs (climbed steps rs at) ≡ climbed (steps + more) rs at
@@ -187,3 +188,29 @@ all_end rs ends =
     let up = stands_above rs r r over in
     let end = ends r (in_range rs r up.steps r up.climbs) in
     never_ends rs r end.steps end.over over)
+
+pub climbed_more : (rs : Seq Relation) (steps : ℕ) (at : Option ℕ) → climbed (steps + 1) rs at ≡ parent_of rs (climbed steps rs at)
+climbed_more rs steps at = sym (climbed-add rs steps 1 at)
+
+-- no relation is marked
+pub none_marked : (rs : Seq Relation) (marks : Seq Bool) → ((n : ℕ) → get_or marks n false ≡ false) → AllEnd rs marks
+none_marked rs marks none = record { ends = λ n marked. absurd (false≢true (sym (none n) ∙ marked)) }
+
+-- the line from a relation ends where it comes to the end of one
+pub ended_there : (rs : Seq Relation) (marks : Seq Bool) (r steps : ℕ) (at : Option ℕ) → AllEnd rs marks → climbed steps rs (Some r) ≡ at → is_ended marks at ≡ true → Ends rs (Some r)
+ended_there rs marks r steps None all e ended = record { steps = steps; over = e }
+ended_there rs marks r steps (Some n) all e ended =
+    let rest = all.ends n ended in
+    record { steps = steps + rest.steps; over = sym (climbed-add rs steps rest.steps (Some r)) ∙ ap (climbed rest.steps rs) e ∙ rest.over }
+
+pub ends_on : (rs : Seq Relation) (at : Option ℕ) → Ends rs at → Ends rs (parent_of rs at)
+ends_on rs at ends = record { steps = ends.steps; over = sym (ap (λ n. climbed n rs at) (omega arith)) ∙ climbed_more rs ends.steps at ∙ ap (parent_of rs) ends.over }
+
+pub all_end_marked : (rs : Seq Relation) (marks : Seq Bool) (at : Option ℕ) → AllEnd rs marks → Ends rs at → AllEnd rs (marked marks at)
+all_end_marked rs marks None all ends = all
+all_end_marked rs marks (Some k) all ends = record {
+  ends = λ n met.
+  split (n == k)
+  (λ same. subst (λ (j : ℕ). Ends rs (Some j)) (sym (eqb-true n k same)) ends)
+  (λ other. all.ends n (rw (get_or-set_other marks k n true false (λ e. false≢true (sym other ∙ eq-eqb n k e))) at met));
+}

@@ -11,6 +11,8 @@ use Rattle.mapping_body.specs.Pairs.{Pair, pairs_of}
 use Rattle.mapping_body.proofs.Ranks.{by_ordering, compared}
 use Rattle.mapping_body.proofs.Walks.{split}
 use Rattle.mapping_growth.specs.Fields.{Draft, draft_of, draft_paths, drafts_added, drafts_from, drafts_of}
+use Rattle.mapping_growth.specs.declared.relation.Relation.{Relation as Tied}
+use Rattle.mapping_growth.specs.Kept.{relation_of}
 use Rattle.mapping_growth.specs.Relations.{Relation, names_added, relation_by, relation_names, relations_added, relations_from, relations_of}
 
 pub filter_all : {A : Type 0} (P : A → Type 0) (t : A → Bool) (xs : List A) → AllByRecursion P xs → AllByRecursion P (filter t xs)
@@ -193,3 +195,16 @@ drafts_parted g bs =
     rw one at parted_from (λ (d : Draft). d.since) drafts_from (λ k known b. drafts_added k (draft_paths known) b) (λ k known. refl) (λ k known b cs. refl)
     (λ k known b. added_of k (draft_paths known) b)
     g 1 [] bs (omega arith) tt
+
+sinces : (rs : Seq Tied) → map (λ r. r.since) rs ≡ map (λ r. r.since) (map relation_of rs)
+sinces [] = refl
+sinces (r ∷ rs) = ap (λ (ns : Seq ℕ). r.since ∷ ns) (sinces rs)
+
+-- how many relations the first bodies say
+pub first_relations : (g i : ℕ) (bs : Seq JsonValue) (rs : Seq Tied) → map relation_of rs ≡ relations_of bs
+    → (IsPartitionedBy (λ r. leb r.since g) rs → IsPartitionPoint (λ r. leb r.since g ≡ true) (λ r. leb r.since g ≡ false) rs i) → i ≤ length rs → i ≡ length (relations_of (take g bs))
+first_relations g i bs rs seen search_is within =
+    let parted = relations_parted g bs in
+    let e : map (λ r. r.since) rs ≡ map (λ r. r.since) (relations_of (take g bs) ++ parted.rest) = sinces rs ∙ ap (map (λ (r : Relation). r.since)) (seen ∙ parted.is) in
+    point_is (λ (r : Tied). r.since) (λ (r : Relation). r.since) g i rs (relations_of (take g bs)) parted.rest e parted.upto parted.past
+    (search_is (upto_first (λ (r : Tied). r.since) (λ (r : Relation). r.since) g rs (relations_of (take g bs)) parted.rest e parted.upto parted.past)) within

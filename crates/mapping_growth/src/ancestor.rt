@@ -8,21 +8,24 @@ use crate::relation::Relation;
 use mapping_body::NoMemory;
 use std::alloc::Global;
 
-fn parent_of(relations: &[Relation], at: Option<u32>) -> Option<u32>
+fn parent_of(relations: &[Relation], at: Option<usize>) -> Option<usize>
     ensures { result ≡ parent_of (map relation_of relations.now) at }
 {
-    match relations.get(at? as usize) {
-        Some(relation) => relation.parent,
+    match relations.get(at?) {
+        Some(relation) => match relation.parent {
+            Some(parent) => Some(parent as usize),
+            None => None,
+        },
         None => None,
     }
 }
 
 /// Whether a line of parents ends here: at none, or at a relation that is marked.
-fn is_ended(marks: &[bool], at: Option<u32>) -> bool
+fn is_ended(marks: &[bool], at: Option<usize>) -> bool
     ensures { result ≡ is_ended marks.now at }
 {
     match at {
-        Some(number) => match marks.get(number as usize) {
+        Some(number) => match marks.get(number) {
             Some(mark) => *mark,
             None => false,
         },
@@ -31,39 +34,41 @@ fn is_ended(marks: &[bool], at: Option<u32>) -> bool
 }
 
 /// Whether the line of parents from a relation ends. One that is longer than there are relations doesn't.
-fn line_ends(relations: &[Relation], marks: &[bool], number: u32) -> bool
-    requires known { AllEnd (map relation_of relations.now) marks.now }
+fn line_ends(relations: &[Relation], marks: &[bool], number: usize) -> bool
+    requires { AllEnd (map relation_of relations.now) marks.now }
     ensures ends { result ≡ true → Ends (map relation_of relations.now) (Some number) }
     ensures turns { result ≡ false → turns_back (map relation_of relations.now) ≡ true }
 {
     let mut at = Some(number);
-    'steps: for _step in 0..relations.len() + 1 {
+    let mut steps = 0;
+    'line: while steps <= relations.len() {
         if is_ended(marks, at) {
             return true;
         }
         at = parent_of(relations, at);
+        steps += 1;
     }
     at.is_none()
 }
 
-fn mark(marks: &mut [bool], at: Option<u32>)
+fn mark(marks: &mut [bool], at: Option<usize>)
     ensures { marks.new ≡ marked marks.old at }
 {
     if let Some(number) = at {
-        if (number as usize) < marks.len() {
-            marks[number as usize] = true;
+        if number < marks.len() {
+            marks[number] = true;
         }
     }
 }
 
 /// Marks a relation whose line of parents ends, and those on the line, up to the first that is marked.
-fn mark_line(relations: &[Relation], marks: &mut [bool], number: u32)
+fn mark_line(relations: &[Relation], marks: &mut [bool], number: usize)
     requires known { AllEnd (map relation_of relations.now) marks.old }
     requires ends { Ends (map relation_of relations.now) (Some number) }
     ensures { AllEnd (map relation_of relations.now) marks.new }
 {
     let mut at = Some(number);
-    'steps: for _step in 0..relations.len() {
+    'line: for _ in 0..relations.len() {
         if is_ended(marks, at) {
             return;
         }
@@ -77,7 +82,7 @@ pub(crate) fn turns_back(alloc: Global, relations: &[Relation]) -> Result<bool, 
     ensures { IfOk result (λ turns. turns ≡ turns_back (map relation_of relations.now)) }
 {
     let mut marks = vec![in alloc; false; relations.len()]?;
-    'relations: for number in 0..relations.len() as u32 {
+    'relations: for number in 0..relations.len() {
         if !line_ends(relations, marks.as_slice(), number) {
             return Ok(true);
         }

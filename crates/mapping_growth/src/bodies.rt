@@ -120,9 +120,7 @@ impl Bodies {
     pub fn relations_in(&self, generation: u32) -> u32
         ensures { result ≡ length (relations_of (take generation self.now)) }
     {
-        self.said
-            .relations
-            .as_slice()
+        self.relations()
             .partition_point(|relation| relation.since <= generation) as u32
     }
 

@@ -1,11 +1,18 @@
-use Rattle.std.proofs.Common.{rules, ◌≡◌, ◌&&◌, ℕ, List, codes, Option, option_map, ◌+◌, ◌-◌, ◌*◌, ◌<◌, ◌≤◌, length, ◌/◌, ◌%◌, Bool, true, false, nat_eq, nat_lt, [], ◌∷◌, ◌++◌, slice_index_or, slice_set, bit_and, bit_or, Fits, w8, w32, w64, Bor, MutBor}
-use Rattle.std.specs.List.{list_any}
-use Rattle.std.specs.Str.{bytes_eq}
-use Rattle.tree_json.specs.Value.{members_of, elements_of, member_of}
-use Rattle.tree_json.specs.View.{view, values, entries}
-use Rattle.mapping_body.specs.Body.{kind_named, kind_in, kind_of, is_child, are_children, are_relations, are_properties, property_takes, takes_type, are_taken, has, has_needed, is_property, is_flag, is_index_name, body_takes, is_body_alone, member_named, is_true, is_nested, is_join, index_of}
+use Rattle.std.proofs.Common.{◌≡◌, ◌∙◌, ◌==◌, sym, ap, arith, length, List as Seq, [], ◌∷◌, false, true}
+use Rattle.std.specs.List.{list_all}
+use Rattle.std.proofs.lemmas.Bool.{false≢true}
+use Rattle.tree_json.specs.Value.{list, elements_of}
+use Rattle.tree_json.specs.View.{view, values}
+use Rattle.tree_json.specs.declared.value.Json.{Json}
+use Rattle.mapping_body.specs.Body.{are_children, is_child}
+use Rattle.mapping_body.proofs.Members.{each_element_all}
 use Rattle.mapping_body.proofs.form.are_children.Goals as goal
 
--- src/form.rt:61:1
+children_of : (js : Seq Json) → (length js == 0) ≡ false → list_all (λ j. is_child (view j)) js ≡ are_children (list (elements_of (values js)))
+children_of [] some = absurd (false≢true (sym some))
+children_of (j ∷ js) some = sym (each_element_all is_child (j ∷ js))
+
 pub returns-then-not-is_empty : goal.returns-then-not-is_empty
-returns-then-not-is_empty c = ?
+returns-then-not-is_empty c =
+    c.are_child_names.ensures ∙ children_of c.as_slice-elements.result.now (sym c.is_empty.ensures ∙ c.if-not-is_empty.true)
+    ∙ ap (λ ds. are_children (list (elements_of ds))) c.as_slice-elements.ensures ∙ sym (ap (λ v. are_children (view v)) c.in-List.is)

@@ -1,39 +1,44 @@
-use Rattle.std.proofs.Common.{rules, ◌≡◌, ◌&&◌, ℕ, List, codes, Option, option_map, ◌+◌, ◌-◌, ◌*◌, ◌<◌, ◌≤◌, length, ◌/◌, ◌%◌, Bool, true, false, nat_eq, nat_lt, [], ◌∷◌, ◌++◌, slice_index_or, slice_set, bit_and, bit_or, Fits, w8, w32, w64, Bor, MutBor}
-use Rattle.std.specs.List.{list_any}
-use Rattle.std.specs.Str.{bytes_eq}
-use Rattle.tree_json.specs.Value.{members_of, elements_of, member_of}
-use Rattle.tree_json.specs.View.{view, values, entries}
-use Rattle.mapping_body.specs.Body.{kind_named, kind_in, kind_of, is_child, are_children, are_relations, are_properties, property_takes, takes_type, are_taken, has, has_needed, is_property, is_flag, is_index_name, body_takes, is_body_alone, member_named, is_true, is_nested, is_join, index_of}
+use Rattle.std.proofs.Common.{◌≡◌, List, ℕ, codes, refl, rules, arith}
+use Rattle.std.proofs.lemmas.Slice.Eq.{text_from_reads}
+use Rattle.mapping_body.specs.Body.{kind_named}
 use Rattle.mapping_body.proofs.form.kind_named.Goals as goal
 
--- src/form.rt:14:1
 pub returns-in-object : goal.returns-in-object
-returns-in-object c = ?
+returns-in-object c =
+    let is : c.args.word.now ≡ codes "object" = text_from_reads c.args.word.now (codes "object") (search (rules, arith)) (search rules) in
+    rw is refl
 
--- src/form.rt:14:1
 pub returns-in-nested : goal.returns-in-nested
-returns-in-nested c = ?
+returns-in-nested c =
+    let is : c.args.word.now ≡ codes "nested" = text_from_reads c.args.word.now (codes "nested") (search (rules, arith)) (search rules) in
+    rw is refl
 
--- src/form.rt:14:1
 pub returns-in-keyword : goal.returns-in-keyword
-returns-in-keyword c = ?
+returns-in-keyword c =
+    let is : c.args.word.now ≡ codes "keyword" = text_from_reads c.args.word.now (codes "keyword") (search (rules, arith)) (search rules) in
+    rw is refl
 
--- src/form.rt:14:1
 pub returns-in-boolean : goal.returns-in-boolean
-returns-in-boolean c = ?
+returns-in-boolean c =
+    let is : c.args.word.now ≡ codes "boolean" = text_from_reads c.args.word.now (codes "boolean") (search (rules, arith)) (search rules) in
+    rw is refl
 
--- src/form.rt:14:1
 pub returns-in-long : goal.returns-in-long
-returns-in-long c = ?
+returns-in-long c =
+    let is : c.args.word.now ≡ codes "long" = text_from_reads c.args.word.now (codes "long") (search (rules, arith)) (search rules) in
+    rw is refl
 
--- src/form.rt:14:1
 pub returns-in-long-2 : goal.returns-in-long-2
-returns-in-long-2 c = ?
+returns-in-long-2 c =
+    let is : c.args.word.now ≡ codes "byte" = text_from_reads c.args.word.now (codes "byte") (search (rules, arith)) (search rules) in
+    rw is refl
 
--- src/form.rt:14:1
 pub returns-in-long-3 : goal.returns-in-long-3
-returns-in-long-3 c = ?
+returns-in-long-3 c =
+    let is : c.args.word.now ≡ codes "short" = text_from_reads c.args.word.now (codes "short") (search (rules, arith)) (search rules) in
+    rw is refl
 
--- src/form.rt:14:1
 pub returns-in-long-4 : goal.returns-in-long-4
-returns-in-long-4 c = ?
+returns-in-long-4 c =
+    let is : c.args.word.now ≡ codes "integer" = text_from_reads c.args.word.now (codes "integer") (search (rules, arith)) (search rules) in
+    rw is refl

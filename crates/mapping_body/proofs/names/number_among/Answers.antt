@@ -1,15 +1,20 @@
-use Rattle.std.proofs.Common.{rules, ◌≡◌, ℕ, List, ◌<◌, ◌≤◌, ◌^◌, ◌++◌, ◌∷◌, length, map, codes, IfOk, OnOk, IfSome, ◌||◌, ◌+◌, ◌-◌, ◌*◌, ◌/◌, ◌%◌, Bool, true, false, nat_eq, nat_lt, [], slice_index_or, slice_set, bit_and, bit_or, Fits, w8, w32, w64, Bor, MutBor}
-use Rattle.std.specs.Cmp.Lexicographic.{slice_cmp}
-use Rattle.std.specs.Ordering.{nat_cmp}
-use Rattle.std.specs.List.{All}
-use Rattle.mapping_body.specs.Order.{IsOrderFrom, name_at}
-use Rattle.mapping_body.specs.Names.{dot_count, AreAscending, dot, joined, lies_above, goes_on, has_dot, is_name, is_property_name, place_of, put}
+use Rattle.std.proofs.Common.{◌≡◌, ◌∙◌, sym, rules, map, get_or, Equal}
+use Rattle.std.proofs.lemmas.Fn.{always_returns_same}
+use Rattle.mapping_body.specs.Order.{name_at}
+use Rattle.mapping_body.proofs.Ordered.{place_is, place_none}
+use Rattle.mapping_body.proofs.Ranks.{absent, compared, is_eq_from, rises}
 use Rattle.mapping_body.proofs.names.number_among.Goals as goal
 
--- src/names.rt:112:1
 pub returns-in-Ok-clause-place : goal.returns-in-Ok-clause-place
-returns-in-Ok-clause-place g c = ?
+returns-in-Ok-clause-place g c =
+    let at = c.in-Ok.ensures.position (λ n. compared (name_at (map g.T.Named.name c.args.items.now) n) (g.S.Sought.sought c.args.sought.now)) (always_returns_same _ _ _ (λ a r q k. search rules)) in
+    sym (place_is (g.S.Sought.sought c.args.sought.now) (map g.T.Named.name c.args.items.now) (get_or c.args.order.now c.in-Ok.place 0) c.requires.distinct
+    (c.requires.in_range c.in-Ok.place 0 c.in-Ok.ensures.bound)
+    (is_eq_from (name_at (map g.T.Named.name c.args.items.now) (get_or c.args.order.now c.in-Ok.place 0)) (g.S.Sought.sought c.args.sought.now) Equal (at 0)))
 
--- src/names.rt:112:1
 pub returns-in-Err-clause-place : goal.returns-in-Err-clause-place
-returns-in-Err-clause-place g c = ?
+returns-in-Err-clause-place g c =
+    let at = c.in-Err.ensures.position (λ n. compared (name_at (map g.T.Named.name c.args.items.now) n) (g.S.Sought.sought c.args.sought.now)) (always_returns_same _ _ _ (λ a r q k. search rules)) in
+    sym (place_none (g.S.Sought.sought c.args.sought.now) (map g.T.Named.name c.args.items.now) c.args.order.now c.requires
+    (absent (name_at (map g.T.Named.name c.args.items.now)) (g.S.Sought.sought c.args.sought.now) c.args.order.now c.in-Err.field-0
+    (at (rises (name_at (map g.T.Named.name c.args.items.now)) (g.S.Sought.sought c.args.sought.now) c.args.order.now c.requires.ascending))))
