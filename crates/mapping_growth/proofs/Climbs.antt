@@ -204,7 +204,9 @@ ended_there rs marks r steps (Some n) all e ended =
     record { steps = steps + rest.steps; over = sym (climbed-add rs steps rest.steps (Some r)) ∙ ap (climbed rest.steps rs) e ∙ rest.over }
 
 pub ends_on : (rs : Seq Relation) (at : Option ℕ) → Ends rs at → Ends rs (parent_of rs at)
-ends_on rs at ends = record { steps = ends.steps; over = sym (ap (λ n. climbed n rs at) (omega arith)) ∙ climbed_more rs ends.steps at ∙ ap (parent_of rs) ends.over }
+ends_on rs at ends =
+    let one : suc ends.steps ≡ ends.steps + 1 = omega arith in
+    record { steps = ends.steps; over = ap (λ (n : ℕ). climbed n rs at) one ∙ climbed_more rs ends.steps at ∙ ap (parent_of rs) ends.over }
 
 pub all_end_marked : (rs : Seq Relation) (marks : Seq Bool) (at : Option ℕ) → AllEnd rs marks → Ends rs at → AllEnd rs (marked marks at)
 all_end_marked rs marks None all ends = all
@@ -214,3 +216,10 @@ all_end_marked rs marks (Some k) all ends = record {
   (λ same. subst (λ (j : ℕ). Ends rs (Some j)) (sym (eqb-true n k same)) ends)
   (λ other. all.ends n (rw (get_or-set_other marks k n true false (λ e. false≢true (sym other ∙ eq-eqb n k e))) at met));
 }
+
+-- after one step more than there are relations the line still goes on
+pub turns_at : (rs : Seq Relation) (n r steps : ℕ) (at : Option ℕ) → length rs ≡ n → n < steps → steps ≤ n + 1 → climbed steps rs (Some r) ≡ at → is_some at ≡ true → turns_back rs ≡ true
+turns_at rs n r steps None long more most e some = absurd (false≢true some)
+turns_at rs n r steps (Some x) long more most e some =
+    let all : steps ≡ suc (length rs) = omega (arith, long) in
+    turns_from rs r x (ap (λ k. climbed k rs (Some r)) (sym all) ∙ e)

@@ -15,21 +15,21 @@ use Rattle.mapping_growth.specs.declared.relation.Relation.{Relation as Tied}
 use Rattle.mapping_growth.specs.Kept.{relation_of}
 use Rattle.mapping_growth.specs.Relations.{Relation, names_added, relation_by, relation_names, relations_added, relations_from, relations_of}
 
-pub filter_all : {A : Type 0} (P : A → Type 0) (t : A → Bool) (xs : List A) → AllByRecursion P xs → AllByRecursion P (filter t xs)
+pub filter_all : {A : Type 0} (P : A → Type 0) (t : A → Bool) (xs : Seq A) → AllByRecursion P xs → AllByRecursion P (filter t xs)
 filter_all P t [] all = tt
 filter_all P t (x ∷ xs) all =
     split (t x)
     (λ held. rw held (all.0, filter_all P t xs all.1))
     (λ failed. rw failed (filter_all P t xs all.1))
 
-abbrev pub AllOf : ℕ → List Draft → Type 0
+abbrev pub AllOf : ℕ → Seq Draft → Type 0
 AllOf g ds = AllByRecursion (λ (d : Draft). d.since ≡ g) ds
 
-map_of : (g : ℕ) (ps : List Property) → AllOf g (map (draft_of g) ps)
+map_of : (g : ℕ) (ps : Seq Property) → AllOf g (map (draft_of g) ps)
 map_of g [] = tt
 map_of g (p ∷ ps) = (refl, map_of g ps)
 
-put_of : (g : ℕ) (x : Draft) (ys : List Draft) → x.since ≡ g → AllOf g ys → AllOf g (put (λ d. d.path) x ys)
+put_of : (g : ℕ) (x : Draft) (ys : Seq Draft) → x.since ≡ g → AllOf g ys → AllOf g (put (λ d. d.path) x ys)
 put_of g x [] first all = (first, tt)
 put_of g x (y ∷ ys) first all =
     by_ordering (compared y.path x.path)
@@ -37,11 +37,11 @@ put_of g x (y ∷ ys) first all =
     (λ equal. rw equal all)
     (λ greater. rw greater (first, all))
 
-put_all_of : (g : ℕ) (ys xs : List Draft) → AllOf g ys → AllOf g xs → AllOf g (put_all (λ d. d.path) ys xs)
+put_all_of : (g : ℕ) (ys xs : Seq Draft) → AllOf g ys → AllOf g xs → AllOf g (put_all (λ d. d.path) ys xs)
 put_all_of g ys [] one two = one
 put_all_of g ys (x ∷ xs) one two = put_all_of g (put (λ d. d.path) x ys) xs (put_of g x ys two.0 one) two.1
 
-pub added_of : (g : ℕ) (known : List (List ℕ)) (v : JsonValue) → AllOf g (drafts_added g known v)
+pub added_of : (g : ℕ) (known : Seq (Seq ℕ)) (v : JsonValue) → AllOf g (drafts_added g known v)
 added_of g known v =
     filter_all (λ (d : Draft). d.since ≡ g) (λ d. not (is_among known d.path)) (in_byte_order (λ d. d.path) (map (draft_of g) (properties_of v))) (put_all_of g [] (map (draft_of g) (properties_of v)) tt (map_of g (properties_of v)))
 
@@ -184,17 +184,17 @@ pub relations_parted : (g : ℕ) (bs : Seq JsonValue) → Parted (λ (r : Relati
 unfolding relations_of
 relations_parted g bs =
     let one : g + 1 - 1 ≡ g = omega arith in
-    rw one at parted_from (λ (r : Relation). r.since) relations_from (λ k known b. relations_added k known (pairs_of b)) (λ k known. refl) (λ k known b cs. refl)
+    rw one at (parted_from {T = Relation} (λ (r : Relation). r.since) relations_from (λ k known b. relations_added k known (pairs_of b)) (λ k known. refl) (λ k known b cs. refl)
     (λ k known b. named_of k (pairs_of b) (relation_names known ++ names_added (relation_names known) (pairs_of b)) (names_added (relation_names known) (pairs_of b)))
-    g 1 [] bs (omega arith) tt
+    g 1 [] bs (omega arith) tt)
 
 pub drafts_parted : (g : ℕ) (bs : Seq JsonValue) → Parted (λ (d : Draft). d.since) g (drafts_of (take g bs)) (drafts_of bs)
 unfolding drafts_of
 drafts_parted g bs =
     let one : g + 1 - 1 ≡ g = omega arith in
-    rw one at parted_from (λ (d : Draft). d.since) drafts_from (λ k known b. drafts_added k (draft_paths known) b) (λ k known. refl) (λ k known b cs. refl)
+    rw one at (parted_from {T = Draft} (λ (d : Draft). d.since) drafts_from (λ k known b. drafts_added k (draft_paths known) b) (λ k known. refl) (λ k known b cs. refl)
     (λ k known b. added_of k (draft_paths known) b)
-    g 1 [] bs (omega arith) tt
+    g 1 [] bs (omega arith) tt)
 
 sinces : (rs : Seq Tied) → map (λ r. r.since) rs ≡ map (λ r. r.since) (map relation_of rs)
 sinces [] = refl

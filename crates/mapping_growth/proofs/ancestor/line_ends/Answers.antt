@@ -1,17 +1,20 @@
-use Rattle.std.proofs.Common.{rules, ◌≡◌, ◌<◌, List, map, length, Bool, true, false, IfOk, Option, Some, option_and_then, ℕ, ◌+◌, ◌-◌, ◌*◌, ◌≤◌, ◌/◌, ◌%◌, nat_eq, nat_lt, [], ◌∷◌, ◌++◌, slice_index_or, slice_set, bit_and, bit_or, Fits, w8, w32, w64, Bor, MutBor}
+use Rattle.std.proofs.Common.{◌≡◌, ◌+◌, ◌≤◌, ◌<◌, ◌∙◌, Some, sym, ap, map, not, length, arith}
+use Rattle.std.proofs.lemmas.List.{length-map}
 use Rattle.mapping_growth.specs.Kept.{relation_of}
-use Rattle.mapping_growth.specs.Relations.{parent_of, turns_back}
-use Rattle.mapping_growth.specs.Lines.{AllEnd, Ends, is_ended, marked}
+use Rattle.mapping_growth.specs.Relations.{parent_of}
+use Rattle.mapping_growth.proofs.Climbs.{climbed_more, ended_there, turns_at}
 use Rattle.mapping_growth.proofs.ancestor.line_ends.Goals as goal
 
--- src/ancestor.rt:46:13
 pub returns-then-is_ended-clause-ends : goal.returns-then-is_ended-clause-ends
-returns-then-is_ended-clause-ends c = ?
+returns-then-is_ended-clause-ends c = λ _.
+    ended_there (map relation_of c.args.relations.now) c.args.marks.now c.args.number c.line.steps c.line.at c.requires c.line.invariant.1 (sym c.is_ended.ensures ∙ c.if-is_ended.true)
 
--- src/ancestor.rt:44:5
 pub line-preserved : goal.line-preserved
-line-preserved c = ?
+line-preserved c =
+    (omega (arith, c.line-test.true),
+    climbed_more (map relation_of c.args.relations.now) c.line.steps (Some c.args.number) ∙ ap (parent_of (map relation_of c.args.relations.now)) c.line.invariant.1 ∙ sym c.parent_of-at.ensures)
 
--- src/ancestor.rt:37:1
 pub returns-clause-turns : goal.returns-clause-turns
-returns-clause-turns c = ?
+returns-clause-turns c = λ going.
+    turns_at (map relation_of c.args.relations.now) (length c.args.relations.now) c.args.number c.line.steps c.line.at (length-map c.args.relations.now relation_of)
+    c.line-test.false c.line.invariant.0 c.line.invariant.1 (c.is_none.ensures ∙ ap not going)
