@@ -1,6 +1,8 @@
 -- The documents of the roots.
-use Rattle.std.proofs.Common.{subst, Some, None, slice_get, ◌++◌, drop, append_assoc, ◌≡◌, inl, inr, ℕ, zero, suc, ◌+◌, ◌-◌, ◌<◌, ◌≤◌, ◌↔◌, Bool, true, false, List, [], ◌∷◌, length, get_or, take, refl, sym, ap, ◌∙◌, arith}
-use Rattle.std.specs.List.{All, count_by, position_from}
+use Rattle.std.proofs.Common.{subst, Some, None, slice_get, ◌++◌, drop, append_assoc, ◌≡◌, inl, inr, ℕ, zero, suc, ◌+◌, ◌-◌, ◌<◌, ◌≤◌, ◌↔◌, Bool, true, false, List, [], ◌∷◌, length, get_or, take, IsTrue, refl, sym, ap, ◌∙◌, arith}
+use Rattle.std.specs.Prelude.{nat_lt, slice_index_or}
+use Rattle.std.specs.List.{All, count_by, position_from, prefix_len}
+use Rattle.std.specs.List.Sorted.{IsStrictlyIncreasing, IsNonDecreasingBy}
 use Rattle.std.proofs.lemmas.List.{append-nil, get_or_default, drop-drop}
 use Rattle.std.proofs.lemmas.Option.{slice_get_read, get_or_from_slice_get}
 use Rattle.block_bits.specs.Flags.{is_marked}
@@ -9,7 +11,8 @@ use Rattle.block_bits.specs.Blocks.{HaveOneScope, documents_of}
 use Rattle.segment.specs.Agree.{AreColumns}
 use Rattle.segment.specs.declared.columns.Columns.{Columns}
 use Rattle.segment.specs.Live.{root_of, block_start, block_end}
-use Rattle.std.proofs.lemmas.Bool.{cases_lt}
+use Rattle.std.proofs.lemmas.Bool.{cases_lt, false≢true}
+use Rattle.std.proofs.lemmas.Map.Keys.{sorted_from_strictly_increasing, below_from_sorted}
 use Rattle.std.proofs.lemmas.Bool.Decides.{nat_tests}
 use Rattle.segment.specs.Text.{marked_places}
 use Rattle.segment.specs.Marks.{count-mark, length-marked_places, marked_places-within, marked_places-ascend}
@@ -174,6 +177,76 @@ start_edge scopes (suc root) doc h =
         | inr late ↦ omega (arith, start, late)
       ],
     )
+
+-- ---- the root of a document's block
+
+no_place : (start bound : ℕ) (flags : List Bool) → bound ≤ start → prefix_len (λ place. nat_lt place bound) (marked_places start flags) ≡ 0
+no_place start bound [] from = refl
+no_place start bound (true ∷ flags) from =
+    let past : nat_lt start bound ≡ false = grind (arith, nat_tests) in
+    rw past refl
+no_place start bound (false ∷ flags) from = no_place (start + 1) bound flags (omega arith)
+
+-- as many marks come before a document as places
+places-before : (start bound doc : ℕ) (flags : List Bool) → bound ≡ start + doc → prefix_len (λ place. nat_lt place bound) (marked_places start flags) ≡ count_by is_marked (take doc flags)
+places-before start bound zero flags is = no_place start bound flags (omega (arith, is))
+places-before start bound (suc doc) [] is = refl
+places-before start bound (suc doc) (true ∷ flags) is =
+    let before : nat_lt start bound ≡ true = grind (arith, nat_tests) in
+    let rest = places-before (start + 1) bound doc flags (omega (arith, is)) in
+    rw before (omega (arith, rest, count-mark true (take doc flags)))
+places-before start bound (suc doc) (false ∷ flags) is =
+    let rest = places-before (start + 1) bound doc flags (omega (arith, is)) in
+    omega (arith, rest, count-mark false (take doc flags))
+
+some_mark : (flags : List Bool) (at : ℕ) → IsTrue (slice_index_or flags at false) → 0 < count_by is_marked flags
+some_mark [] at holds = absurd (false≢true holds)
+some_mark (true ∷ flags) zero holds = omega (arith, count-mark true flags)
+some_mark (false ∷ flags) zero holds = absurd (false≢true holds)
+some_mark (flag ∷ flags) (suc at) holds = omega (arith, some_mark flags at holds, count-mark flag flags)
+
+-- a mark behind a document is one more than those before it
+before_last : (flags : List Bool) (doc last : ℕ) → doc ≤ last → IsTrue (slice_index_or flags last false) → count_by is_marked (take doc flags) < count_by is_marked flags
+before_last flags zero last upto holds = omega (arith, some_mark flags last holds)
+before_last [] (suc doc) last upto holds = absurd (false≢true holds)
+before_last (flag ∷ flags) (suc doc) zero upto holds = absurd (omega (arith, upto))
+before_last (flag ∷ flags) (suc doc) (suc last) upto holds =
+    omega (arith, before_last flags doc last (omega (arith, upto)) holds, count-mark flag flags, count-mark flag (take doc flags))
+
+pub root_before : (own now : Columns) (places : List ℕ) (doc n : ℕ) → ArePlaces own now places → n ≡ prefix_len (λ place. nat_lt place doc) places → n ≡ root_of (root_flags now.scopes) doc
+unfolding root_documents
+root_before own now places doc n it is =
+    is
+    ∙ ap (prefix_len (λ place. nat_lt place doc)) it.are
+    ∙ places-before 0 doc doc (root_flags own.scopes) (omega arith)
+    ∙ ap (λ (one : Columns). root_of (root_flags one.scopes) doc) it.seen
+
+pub root_of-within : (columns : Columns) (doc : ℕ) → AreColumns columns → doc < columns.documents → root_of (root_flags columns.scopes) doc < length columns.roots
+root_of-within columns doc agree inside =
+    omega (arith, before_last (root_flags columns.scopes) doc (columns.documents - 1) (omega (arith, inside)) agree.rooted.last, agree.parts.rooted)
+
+pub root_block : (columns : Columns) (doc : ℕ) → AreColumns columns → doc < columns.documents → (block_start columns.scopes (root_of (root_flags columns.scopes) doc) ≤ doc) × (doc < block_end columns.scopes (root_of (root_flags columns.scopes) doc))
+root_block columns doc agree inside =
+    let root = root_of (root_flags columns.scopes) doc in
+    let known : root < count_by is_marked (root_flags columns.scopes) = omega (arith, root_of-within columns doc agree inside, agree.parts.rooted) in
+    ((start_edge columns.scopes root doc known).1 (omega arith), (end_edge columns.scopes root doc known).1 (omega arith))
+
+-- the places of roots don't fall
+pub places-rise : (own now : Columns) (places : List ℕ) → ArePlaces own now places → IsNonDecreasingBy (λ place. place) places
+unfolding root_documents
+places-rise own now places it i j d upto inside =
+    let flags = root_flags own.scopes in
+    let known : j < count_by is_marked flags = omega (arith, inside, ap (λ (ps : List ℕ). length ps) it.are, length-marked_places 0 flags) in
+    let rising : IsStrictlyIncreasing (marked_places 0 flags) = λ k below.
+    let next : k + 1 ≡ suc k = omega arith in
+    rw next (marked_places-ascend 0 flags k (omega (arith, below, length-marked_places 0 flags))) in
+    let same : (k : ℕ) → k ≤ j → get_or places k d ≡ get_or (marked_places 0 flags) k 0 = λ k low. get_or_default places k d 0 (omega (arith, low, inside)) ∙ ap (λ (ps : List ℕ). get_or ps k 0) it.are in
+    elim (cases_lt i j) [
+      | inl earlier ↦
+          let less : get_or (marked_places 0 flags) i 0 < get_or (marked_places 0 flags) j 0 = below_from_sorted (marked_places 0 flags) i j 0 (sorted_from_strictly_increasing (marked_places 0 flags) rising) earlier (omega (arith, known, length-marked_places 0 flags)) in
+          omega (arith, less, same i upto, same j (omega arith))
+      | inr from ↦ let equal : i ≡ j = omega arith in omega (arith, ap (λ k. get_or places k d) equal)
+    ]
 
 -- a block has a document
 pub block-ordered : (scopes : List (List Bool)) (root : ℕ) → root < count_by is_marked (root_flags scopes) → block_start scopes root < block_end scopes root

@@ -58,6 +58,10 @@ flat_of columns doc = record {
 abbrev pub flats_of : Columns → List FlatDocument
 flats_of columns = map (flat_of columns) (range_with_len 0 columns.documents)
 
+-- what is stored of a root
+abbrev pub flat_root : Root → FlatRoot
+flat_root root = record { id = root.id; number = root.number; generation = root.generation; join = root.join; source = root.source }
+
 -- the roots, in order
 abbrev pub roots_of : Columns → List FlatRoot
-roots_of columns = map (λ (root : Root). record { id = root.id; number = root.number; generation = root.generation; join = root.join; source = root.source }) columns.roots
+roots_of columns = map flat_root columns.roots

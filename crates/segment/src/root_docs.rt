@@ -1,6 +1,8 @@
 //! The documents of the roots, listed from their bits.
 
-ghost use Rattle.std.specs.Prelude.{◌≡◌, IfOk};
+ghost use Rattle.std.specs.Prelude.{◌≡◌, nat_lt, IfOk};
+ghost use Rattle.std.specs.List.{prefix_len};
+ghost use Rattle.std.specs.List.Sorted.{IsNonDecreasingBy};
 ghost use Rattle.segment.specs.Text.{marked_places};
 ghost use Rattle.segment.specs.Roots.{root_documents};
 
@@ -29,4 +31,12 @@ fn places_of(alloc: Global, set: &BitSet) -> Result<Vec<u32>, NoMemory>
         from = place + 1;
     }
     Ok(places)
+}
+
+/// How many of these places, which ascend, come before a document.
+pub(crate) fn places_before(places: &[u32], doc: u32) -> usize
+    requires { IsNonDecreasingBy (λ place. place) places.now }
+    ensures { result ≡ prefix_len (λ place. nat_lt place doc) places.now }
+{
+    places.partition_point(|place| *place < doc)
 }

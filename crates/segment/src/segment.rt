@@ -7,7 +7,9 @@ ghost use Rattle.segment.specs.Agree.{AreColumns};
 ghost use Rattle.segment.specs.Encoding.{IsEncoding};
 ghost use Rattle.segment.specs.Fields.{column_of};
 ghost use Rattle.segment.specs.Lists.{terms_of, postings_of};
-ghost use Rattle.segment.specs.Live.{block_start, block_end};
+ghost use Rattle.segment.specs.Flat.{flat_root, flats_of, roots_of};
+ghost use Rattle.segment.specs.Live.{root_of as block_root, block_start, block_end};
+ghost use Rattle.segment.specs.Parts.{root_flags};
 ghost use Rattle.segment.specs.Roots.{root_documents};
 ghost use Rattle.segment.specs.Text.{segment_text};
 ghost use Rattle.segment.specs.declared.columns.Columns.{Columns};
@@ -15,7 +17,7 @@ ghost use Rattle.segment.specs.declared.columns.Columns.{Columns};
 use crate::agree::are_columns;
 use crate::given::agree;
 use crate::parts::Parts;
-use crate::root_docs::root_places;
+use crate::root_docs::{places_before, root_places};
 use crate::written::segment_bytes;
 use crate::{Columns, SegmentRefusal};
 use block_bits::{BitList, BitSet, words_are_of_one_set};
@@ -110,6 +112,7 @@ impl Segment {
     /// How many documents there are, one or more.
     pub fn docs(&self) -> u32
         ensures documents { result ≡ self.now.documents }
+        ensures flats { length (flats_of self.now) ≡ result }
         ensures agree { AreColumns self.now }
     {
         self.parts.documents()
@@ -197,14 +200,16 @@ impl Segment {
 
     /// The roots with their sources.
     pub fn sources(&self) -> StoredSources<'_>
-        ensures { result ≡ self.now.roots }
+        ensures roots { result ≡ self.now.roots }
+        ensures flat { (root : ℕ) → root < length self.now.roots → slice_get (roots_of self.now) root ≡ Some (flat_root (root_of self.now.roots root)) }
     {
         self.parts.sources()
     }
 
     /// How many roots there are.
     pub fn roots(&self) -> u32
-        ensures { result ≡ length self.now.roots }
+        ensures roots { result ≡ length self.now.roots }
+        ensures flat { length (roots_of self.now) ≡ result }
     {
         self.parts.sources().count()
     }
@@ -218,6 +223,17 @@ impl Segment {
     {
         let _bytes = self.parts.bytes();
         self.root_docs[root as usize]
+    }
+
+    /// The root of a document's block, by its index.
+    pub fn root_of_doc(&self, doc: u32) -> u32
+        requires { doc < self.now.documents }
+        ensures root { result ≡ block_root (root_flags self.now.scopes) doc }
+        ensures within { result < length self.now.roots }
+        ensures inside { (block_start self.now.scopes result ≤ doc) × (doc < block_end self.now.scopes result) }
+    {
+        let _bytes = self.parts.bytes();
+        places_before(self.root_docs.as_slice(), doc) as u32
     }
 
     /// The documents of a root's block: the first, and the one past the last.

@@ -1,0 +1,1 @@
+//! Laws of layouts, as the contracts of functions that do nothing.
