@@ -82,9 +82,7 @@ fn are_children(value: &Json) -> bool
 fn are_parents(members: &[(JsonText, Json)]) -> bool
     ensures { result ≡ list_all (λ m. is_name m.0 && are_children (view m.1)) members.now }
 {
-    members
-        .iter()
-        .all(|(name, children)| is_name(name.as_slice()) && are_children(children))
+    members.iter().all(|(name, children)| is_name(name.as_slice()) && are_children(children))
 }
 
 #[tactic(auto, using(crate::proofs::Members::each))]
@@ -100,7 +98,9 @@ fn are_relations(value: &Json) -> bool
 fn are_property_names(members: &[(JsonText, Json)]) -> bool
     ensures { result ≡ list_all (λ m. is_property_name m.0) members.now }
 {
-    members.iter().all(|(name, _)| is_property_name(name.as_slice()))
+    members
+        .iter()
+        .all(|(name, _)| is_property_name(name.as_slice()))
 }
 
 #[tactic(auto, using(crate::proofs::Members::each))]

@@ -27,5 +27,6 @@ pub use names::{
 pub use order::{in_byte_order, order_from};
 pub use pair::{Pair, has_two_parents, lacks_names, pairs_of_said, parent_in};
 pub use refusal::{
-    Limit, MOST_BODIES, MOST_BYTES, MOST_FIELDS, MOST_NAME_BYTES, MOST_NAMES, MOST_NESTED, MappingRefusal, NoMemory,
+    Limit, MOST_BODIES, MOST_BYTES, MOST_FIELDS, MOST_NAME_BYTES, MOST_NAMES, MOST_NESTED,
+    MappingRefusal, NoMemory,
 };

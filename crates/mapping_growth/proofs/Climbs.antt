@@ -121,23 +121,25 @@ or_true false = refl
 
 apart : (a : ℕ) (xs : Seq ℕ) → ((q : ℕ) → list_any (λ n. q == n) xs ≡ true → (a == q) ≡ false) → AllByRecursion (λ (y : ℕ). (a == y) ≡ false) xs
 apart a [] other = tt
-apart a (x ∷ xs) other =
-    (other x (rw (eq-eqb x x refl) refl),
-    apart a xs (λ q there. other q (rw there (or_true (q == x)))))
+apart a (x ∷ xs) other = (
+  other x (rw (eq-eqb x x refl) refl),
+  apart a xs (λ q there. other q (rw there (or_true (q == x)))),
+)
 
 distinct : (k : ℕ) (rs : Seq Relation) (at : Option ℕ) → ((r : ℕ) → IsAncestor rs r r → ⊥) → IsDistinct (λ a b. a == b) (line k rs at)
 unfolding IsDistinct
 distinct zero rs at founded = tt
 distinct (suc k) rs None founded = tt
-distinct (suc k) rs (Some a) founded =
-    (apart a (line k rs (parent_of rs (Some a))) (λ q there.
-    let up = stands k rs (parent_of rs (Some a)) q there in
-    split (a == q)
-    (λ same.
-    let is : q ≡ a = sym (eqb-true a q same) in
-    absurd (founded a (subst (λ (n : ℕ). IsAncestor rs n a) is (ancestor_by up.steps rs a q (parent_of rs (Some a)) refl up.here))))
-    (λ other. other)),
-    distinct k rs (parent_of rs (Some a)) founded)
+distinct (suc k) rs (Some a) founded = (
+  apart a (line k rs (parent_of rs (Some a))) (λ q there.
+      let up = stands k rs (parent_of rs (Some a)) q there in
+      split (a == q)
+      (λ same.
+      let is : q ≡ a = sym (eqb-true a q same) in
+      absurd (founded a (subst (λ (n : ℕ). IsAncestor rs n a) is (ancestor_by up.steps rs a q (parent_of rs (Some a)) refl up.here))))
+      (λ other. other)),
+  distinct k rs (parent_of rs (Some a)) founded,
+)
 
 record Goes (L : ℕ) (all rs : Seq Relation) : Type 0 where
   at : ℕ
@@ -212,9 +214,9 @@ pub all_end_marked : (rs : Seq Relation) (marks : Seq Bool) (at : Option ℕ) �
 all_end_marked rs marks None all ends = all
 all_end_marked rs marks (Some k) all ends = record {
   ends = λ n met.
-  split (n == k)
-  (λ same. subst (λ (j : ℕ). Ends rs (Some j)) (sym (eqb-true n k same)) ends)
-  (λ other. all.ends n (rw (get_or-set_other marks k n true false (λ e. false≢true (sym other ∙ eq-eqb n k e))) at met));
+      split (n == k)
+      (λ same. subst (λ (j : ℕ). Ends rs (Some j)) (sym (eqb-true n k same)) ends)
+      (λ other. all.ends n (rw (get_or-set_other marks k n true false (λ e. false≢true (sym other ∙ eq-eqb n k e))) at met));
 }
 
 -- after one step more than there are relations the line still goes on

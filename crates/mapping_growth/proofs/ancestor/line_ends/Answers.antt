@@ -10,9 +10,10 @@ returns-then-is_ended-clause-ends c = λ _.
     ended_there (map relation_of c.args.relations.now) c.args.marks.now c.args.number c.line.steps c.line.at c.requires c.line.invariant.1 (sym c.is_ended.ensures ∙ c.if-is_ended.true)
 
 pub line-preserved : goal.line-preserved
-line-preserved c =
-    (omega (arith, c.line-test.true),
-    climbed_more (map relation_of c.args.relations.now) c.line.steps (Some c.args.number) ∙ ap (parent_of (map relation_of c.args.relations.now)) c.line.invariant.1 ∙ sym c.parent_of-at.ensures)
+line-preserved c = (
+  omega (arith, c.line-test.true),
+  climbed_more (map relation_of c.args.relations.now) c.line.steps (Some c.args.number) ∙ ap (parent_of (map relation_of c.args.relations.now)) c.line.invariant.1 ∙ sym c.parent_of-at.ensures,
+)
 
 pub returns-clause-turns : goal.returns-clause-turns
 returns-clause-turns c = λ going.
