@@ -9,3 +9,4 @@ pub mod Keeping
 pub mod Conflicts
 pub mod Founding
 pub mod Generations
+mod Examples
