@@ -8,7 +8,7 @@ use Rattle.std.specs.List.{AllByRecursion, list_all, list_any, position_from}
 use Rattle.tree_json.specs.Value.{JsonValue, null, bool, whole, text, list, object, Members, no_members, member}
 use Rattle.mapping_body.specs.declared.kind.Kind.{Kind}
 use Rattle.mapping_body.specs.declared.kind.Kind.TheVariants.{Text, Keyword, Long, Boolean, Date, Object, Nested, Join}
-use Rattle.mapping_body.specs.Body.{Property, Taken, are_properties, are_taken, body_takes, each_member, has, has_needed, is_body, is_body_alone, is_property, kind_in, properties_among, properties_at, properties_below, properties_named, properties_of, property_takes, suits_kind, takes_type}
+use Rattle.mapping_body.specs.Body.{Property, Taken, are_properties, are_property_names, are_taken, body_takes, has, has_needed, is_body, is_body_alone, is_property, kind_in, properties_among, properties_at, properties_below, properties_named, properties_of, property_takes, suits_kind, takes_type}
 use Rattle.mapping_body.specs.Names.{dot, goes_on, has_dot, is_name, is_property_name, joined, lies_above}
 use Rattle.mapping_body.proofs.Walks.{split}
 
@@ -90,9 +90,6 @@ body_taken d h = elim (or_cases (are_properties d) false h) [ inl is ↦ is | in
 -- what a table asks of the member `properties`
 abbrev Asks : Taken → Type 0
 Asks table = (d : JsonValue) → list_any (λ t. bytes_eq (codes "properties") t.0 && t.1 d) table ≡ true → are_properties d ≡ true
-
-abbrev are_property_names : Members → Bool
-are_property_names ms = each_member (λ name _. is_property_name name) ms
 
 -- where members pass a table that asks it, what stands below is walked by names of properties
 abbrev AreNamed : JsonValue → Type 0

@@ -68,8 +68,11 @@ are_relations (object ms) = each_member (λ name children. is_name name && are_c
 are_relations v = false
 
 -- `properties` is an object whose names are names of properties
+abbrev pub are_property_names : Members → Bool
+are_property_names ms = each_member (λ name _. is_property_name name) ms
+
 abbrev pub are_properties : JsonValue → Bool
-are_properties (object ms) = each_member (λ name _. is_property_name name) ms
+are_properties (object ms) = are_property_names ms
 are_properties v = false
 
 -- what a property of a kind may have besides its type
