@@ -4,6 +4,7 @@ mod FlatTerms
 mod FlatValues
 mod FlatWords
 mod Flats
+mod Halves
 mod Listed
 mod Loops
 mod NumberKeys
