@@ -13,7 +13,9 @@ mod Ordered
 pub mod Passes
 mod Places
 mod PostingKinds
+mod Renewal
 mod Searches
+mod Shown
 mod TermKinds
 pub mod Tested
 mod Within
