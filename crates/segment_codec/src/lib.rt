@@ -36,6 +36,17 @@ pub enum CodecRefusal {
     NoMemory,
 }
 
+impl From<segment::NoMemory> for CodecRefusal {
+    ghost use Rattle.std.specs.Prelude.{◌≡◌};
+    ghost use Rattle.segment_codec.specs.declared.CodecRefusal.TheVariants.{NoMemory};
+
+    ghost from_gives = { λ _ e. e ≡ NoMemory };
+
+    fn from(_: segment::NoMemory) -> CodecRefusal {
+        CodecRefusal::NoMemory
+    }
+}
+
 /// The encoding of a segment, as a copy.
 pub fn encode(alloc: Global, segment: &Segment) -> Result<Bytes, NoMemory>
     ensures { IfOk result (λ bytes. IsEncoding segment.now bytes) }
@@ -61,9 +72,8 @@ pub fn decode_old(alloc: Global, bytes: Bytes) -> Result<Segment, CodecRefusal>
     ensures segment { IfOk result (λ segment. IsOldEncoding segment bytes) }
     ensures none { IsErrOf result CodecRefusal.NotASegment → (columns : Columns) → IsOldEncoding columns bytes → ⊥ }
 {
-    match renewed(alloc, bytes) {
-        Ok(Some(new)) => decode(alloc, new),
-        Ok(None) => Err(CodecRefusal::NotASegment),
-        Err(_) => Err(CodecRefusal::NoMemory),
-    }
+    let Some(new) = renewed(alloc, bytes)? else {
+        return Err(CodecRefusal::NotASegment);
+    };
+    decode(alloc, new)
 }
