@@ -1,3 +1,4 @@
+//! Putting fields: each is appended whole, or nothing is.
 ghost use Rattle.std.specs.Prelude.{◌≡◌, ◌+◌, ◌<◌, ◌≤◌, ◌^◌, ◌++◌, length, OnOk, OnErr, vec_len, vec_capacity};
 ghost use Rattle.byte_fields.specs.Fields.{spelled_u8, spelled_u32, spelled_u64, spelled_bytes};
 

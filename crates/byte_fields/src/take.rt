@@ -1,3 +1,4 @@
+//! Taking fields: what stands at a place of the bytes, and the place after it.
 ghost use Rattle.std.specs.Prelude.{◌≡◌, ℕ, ◌+◌, ◌<◌, ◌≤◌, ◌^◌, List, [], ◌++◌, length, drop, IfSome, IsSomeAnd, Some};
 ghost use Rattle.byte_fields.specs.Fields.{spelled_u8, spelled_u32, spelled_u64, spelled_bytes};
 

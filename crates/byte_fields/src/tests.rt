@@ -1,3 +1,4 @@
+//! What was put is taken again.
 use super::*;
 use std::test::Fail;
 

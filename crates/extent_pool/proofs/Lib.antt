@@ -1,3 +1,4 @@
+mod Examples
 mod Units
 mod Laid
 mod Rising

@@ -1,3 +1,4 @@
+//! Extents of a file in whole units, and lists of them.
 ghost use Rattle.std.specs.Prelude.{◌≡◌, ◌+◌, ◌≤◌, ◌<◌, ◌^◌, [], ◌∷◌, ◌++◌, length, insert, remove, slice_set, OnOk, nat_le};
 ghost use Rattle.extent_pool.specs.Extents.{end_of, room_of};
 

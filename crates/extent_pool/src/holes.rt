@@ -1,3 +1,4 @@
+//! Holes in ascending order of place: the first with room, and what taking and giving back change.
 ghost use Rattle.std.specs.Prelude.{◌≡◌, ℕ, ◌+◌, ◌-◌, ◌*◌, ◌/◌, ◌%◌, ◌≤◌, ◌<◌, ◌^◌, All, length, [], ◌∷◌, ◌++◌, position, take, drop, slice_index_or};
 ghost use Rattle.std.specs.List.{prefix_len};
 ghost use Rattle.std.specs.List.Sorted.{IsNonDecreasingBy};

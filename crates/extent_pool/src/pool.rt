@@ -1,3 +1,4 @@
+//! The pool: extents that are taken, and the holes that they leave below the limit.
 ghost use Rattle.std.specs.Prelude.{◌≡◌, ℕ, ◌+◌, ◌%◌, ◌≤◌, ◌<◌, ◌^◌, ◌∷◌, ◌↔◌, length, All, Any, Contains, IfOk, OnOk, OnErr, IsErrOf, Some, None, vec_len, vec_capacity};
 ghost use Rattle.std.specs.List.Sorted.{IsPermutation};
 ghost use Rattle.extent_pool.specs.Extents.{end_of, room_of, AreDisjoint, AreInOrder};

@@ -1,3 +1,4 @@
+//! Taken extents in ascending order of place.
 ghost use Rattle.std.specs.Prelude.{◌≡◌, ℕ, ◌+◌, ◌<◌, ◌^◌, ◌∷◌, ◌==◌, All, Bool, IfOk, find, nat_le, vec_len, vec_capacity};
 ghost use Rattle.std.specs.List.{list_all, prefix_len};
 ghost use Rattle.std.specs.List.Sorted.{IsNonDecreasingBy, IsPermutation};

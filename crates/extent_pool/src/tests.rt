@@ -1,3 +1,4 @@
+//! A pool from call to call: takes, a return and what is left.
 use super::*;
 use std::test::Fail;
 

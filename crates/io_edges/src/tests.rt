@@ -1,3 +1,4 @@
+//! The objects in memory: their bytes call by call, with calls that fail.
 use crate::{CallList, Disk, Failed, MemDisk, MemSink, MemSource, Sink, Source, Word};
 use std::alloc::Global;
 use std::test::Fail;

@@ -11,8 +11,9 @@ use Rattle.mapping_body.specs.Body.{is_body, is_nested}
 use Rattle.mapping_growth.specs.Fields.{Draft, draft_paths, drafts_added, drafts_of}
 use Rattle.mapping_body.specs.Names.{put, put_all}
 use Rattle.mapping_body.specs.Order.{name_at, order_from}
-use Rattle.mapping_growth.specs.Relations.{Pair, Relation, pairs_of, relation_by, relations_added, relations_of}
-use Rattle.mapping_body.proofs.Adding.{drafts_more, relations_more}
+use Rattle.mapping_body.specs.Pairs.{Pair, pairs_of}
+use Rattle.mapping_growth.specs.Relations.{Relation, relation_by, relations_added, relations_of}
+use Rattle.mapping_growth.proofs.Adding.{drafts_more, relations_more}
 use Rattle.mapping_body.proofs.Puts.{put_all-append}
 use Rattle.mapping_body.proofs.Ranks.{by_ordering, compared}
 use Rattle.mapping_body.proofs.Walks.{split}

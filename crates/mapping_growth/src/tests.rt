@@ -1,5 +1,6 @@
 //! Bodies one after another: what is the same, what is added, and what is refused, worked out by hand from the rules.
-use crate::{Bodies, Bytes, Limit, MappingRefusal};
+use crate::Bodies;
+use mapping_body::{Bytes, Limit, MappingRefusal};
 use std::alloc::Global;
 use std::process::Abort;
 use tree_json::{Json, read};

@@ -1,2 +1,12 @@
 pub mod Members
 pub mod Keys
+pub mod Faults
+pub mod Found
+pub mod Formed
+pub mod Leaves
+pub mod Clauses
+pub mod SortClauses
+pub mod AfterKeys
+pub mod InnerDefinitions
+pub mod BucketDefinitions
+pub mod Searches

@@ -2,6 +2,7 @@
 ghost use Rattle.std.specs.Prelude.{◌≡◌, ◌++◌, map, codes, Some, None, IfOk, IsOk, IsErrOf, pos};
 ghost use Rattle.tree_json.specs.Value.{members_of, member_of, elements_of};
 ghost use Rattle.tree_json.specs.View.{view, values};
+ghost use Rattle.query_ast.specs.Resolved.{IsSearch};
 ghost use Rattle.search_walk.specs.Refusal.{first_refusal};
 ghost use Rattle.query_parser.specs.Search.{key_of, number_of, keys_before, keys_in, last_number, row_of, after_of, pit_of, search_by, search_of};
 
@@ -10,7 +11,7 @@ use crate::inner::inner_of_body;
 use crate::queries::clause_under;
 use crate::readings::{copied, natural_under, number_under, unless_false};
 use crate::sorts::sorts_under;
-use mapping::Mapping;
+use mapping::{Mapping, scopes_form_chains};
 use query_ast::{Key, KeyList, KeyRow, NoMemory, SearchBody};
 use search_form::Shape;
 use search_walk::{SearchRefusal, judged};
@@ -110,6 +111,15 @@ fn search_by(alloc: Global, mapping: &Mapping, body: &JsonObject) -> Result<Sear
     })
 }
 
+// What isn't refused is resolved: the law that `resolved` hands on.
+fn is_resolved(shape: &Shape<'_>, mapping: &Mapping)
+    ensures { first_refusal mapping.now shape.now ≡ None → IsSearch mapping.now (search_of mapping.now shape.now) }
+{
+    shape.members();
+    mapping.scope_count();
+    scopes_form_chains();
+}
+
 /// The search that a body says under a mapping, or its first refusal.
 #[tactic(auto, unfolding(crate::specs::Search::search_of))]
 pub fn resolved(
@@ -118,6 +128,7 @@ pub fn resolved(
     mapping: &Mapping,
 ) -> Result<SearchBody, SearchRefusal>
     ensures search { IfOk result (λ s. s ≡ search_of mapping.now shape.entry) }
+    ensures is_search { IfOk result (λ s. IsSearch mapping.now s) }
     ensures accepted { IsOk result → first_refusal mapping.now shape.entry ≡ None }
     ensures unknown_path { IsErrOf result SearchRefusal.UnknownPath → first_refusal mapping.now shape.entry ≡ Some SearchRefusal.UnknownPath }
     ensures path_out_of_scope { IsErrOf result SearchRefusal.PathOutOfScope → first_refusal mapping.now shape.entry ≡ Some SearchRefusal.PathOutOfScope }
@@ -133,6 +144,7 @@ pub fn resolved(
     ensures too_many_terms { IsErrOf result SearchRefusal.TooManyTerms → first_refusal mapping.now shape.entry ≡ Some SearchRefusal.TooManyTerms }
 {
     judged(alloc, &shape, mapping)?;
+    is_resolved(&shape, mapping);
     let members = shape.members();
     match search_by(alloc, mapping, members) {
         Ok(search) => Ok(search),

@@ -1,3 +1,4 @@
+mod Examples
 pub mod Next
 pub mod Flat
 pub mod Commas

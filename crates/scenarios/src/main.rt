@@ -6,6 +6,7 @@
 //! Begin with `case.rt`; `read.rt` reads the files, and `run.rt` runs a case in every way that it asks for.
 #![tactic(auto)]
 
+mod bodies;
 mod case;
 mod notation;
 mod outside;

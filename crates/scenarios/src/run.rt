@@ -3,6 +3,7 @@
 ghost use Rattle.std.specs.Prelude.{IsTrue};
 ghost use Rattle.line_engine.specs.Limit.{AreLimits};
 
+use crate::bodies;
 use crate::case::Case;
 use crate::outside::{CountedDisk, Dialogue, PieceSink, PieceSource};
 use crate::settings::{Failing, Rose, Sweep};
@@ -50,6 +51,10 @@ struct Ended {
 /// Runs a case in every way that its settings ask for, up to the first run that differs from what the case says. A line
 /// on what differs there; `runs` counts the runs.
 pub fn first_difference(alloc: Global, case: &Case<'_>, runs: &mut u64) -> Result<Option<String>> {
+    if case.settings.bodies {
+        *runs = runs.saturating_add(1);
+        return bodies::first_difference(alloc, case);
+    }
     for pieces in case.settings.reads.as_slice() {
         for most in case.settings.writes.as_slice() {
             let setup = Setup {

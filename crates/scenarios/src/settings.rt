@@ -50,6 +50,8 @@ pub struct Settings<'a> {
     pub sweeps: Vec<Sweep>,
     pub status: u8,
     pub rose: Rose,
+    /// Whether the bodies of the lines are judged alone, without a run.
+    pub bodies: bool,
 }
 
 impl<'a> Settings<'a> {
@@ -67,6 +69,7 @@ impl<'a> Settings<'a> {
             sweeps: Vec::new(alloc),
             status: 0,
             rose: Rose::default(),
+            bodies: false,
         })
     }
 
@@ -78,6 +81,7 @@ impl<'a> Settings<'a> {
             "reads" => self.reads = alternatives(alloc, value)?,
             "writes" => self.writes = numbers(alloc, value.split('|'))?,
             "dialogue" => self.dialogue = true,
+            "bodies" => self.bodies = true,
             "limit" => self.set_limit(value)?,
             "fail" => self.set_failing(value)?,
             "each" => self.sweeps.push(sweep_of(value)?)?,
@@ -125,12 +129,18 @@ impl<'a> Settings<'a> {
         Ok(())
     }
 
-    /// Refuses a sweep of a case that doesn't end well, since what a sweep expects follows from one that does.
+    /// Refuses a sweep of a case that doesn't end well, since what a sweep expects follows from one that does, and a way
+    /// to run bodies that are judged alone.
     pub fn check(&self) -> Result<()> {
         let ends_well = self.status == 0 && self.failing == Failing::default();
         ensure!(
             self.sweeps.is_empty() || ends_well,
             "a sweep of a case that fails"
+        );
+        let is_plain = ends_well && !self.dialogue && self.limits.is_none();
+        ensure!(
+            !self.bodies || (is_plain && self.sweeps.is_empty()),
+            "bodies alone aren't run"
         );
         Ok(())
     }

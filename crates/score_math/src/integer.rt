@@ -1,3 +1,4 @@
+//! Sort keys and sums of buckets: a clamp to 64 bits, and a mean that is rounded down.
 ghost use Rattle.std.specs.Prelude.{◌≡◌, ℤ, pos, ◌+ℤ◌, ◌-ℤ◌, ◌*ℤ◌, ◌≤ℤ◌, ◌<ℤ◌, ◌≤◌, unsigned_abs, FitsSigned};
 ghost use Rattle.std.specs.Int.{saturate_signed, w64};
 ghost use Rattle.score_math.specs.Integers.{floor_div};

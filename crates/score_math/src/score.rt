@@ -1,3 +1,4 @@
+//! Scores: sums that stop at a cap, and the mode of several scores.
 ghost use Rattle.std.specs.Prelude.{◌≡◌, ℕ, ◌+◌, ◌*◌, ◌≤◌, List, Some};
 ghost use Rattle.score_math.specs.Scores.{capped, mode_of, Summarizes};
 

@@ -1,3 +1,4 @@
+//! Each call once.
 use super::*;
 
 /// The scores 2 and 3 of one block, and what is rounded down or cut.

@@ -1,3 +1,4 @@
+mod Digits
 pub mod Escapes
 pub mod Sizes
 pub mod Halves

@@ -1,18 +1,21 @@
 //! Texts between quotation marks (RFC 8259, section 7).
-ghost use Rattle.std.specs.Prelude.{◌≡◌, ◌-◌, ◌≤◌, ◌<◌, ◌^◌, ◌++◌, ◌+◌, ◌*◌, min, length, take, drop, ◌∷◌, [], false, OnOk, OnErr};
+ghost use Rattle.std.specs.Prelude.{◌≡◌, ◌-◌, ◌≤◌, ◌<◌, ◌^◌, ◌++◌, ◌+◌, ◌*◌, min, length, take, drop, ◌∷◌, [], false};
 ghost use Rattle.std.specs.Char.{digit_char};
 ghost use Rattle.json.specs.Print.{escape, escape_byte, escape_letter};
 ghost use Rattle.tree_json.specs.Output.{room_of};
 ghost use Rattle.tree_json.specs.Text.{quoted};
 
-use crate::out_text::{NoMemory, OutText};
+use crate::out_text::OutText;
 
 /// The length of the quoted text, in bytes, or the greatest u64 where it is greater than that.
 #[tactic(auto, unfolding(crate::specs::Text::quoted))]
 pub fn quoted_len(text: &[u8]) -> u64
     ensures { result ≡ min (length (quoted text.now)) (2 ^ 64 - 1) }
 {
-    escaped_len(text).saturating_add(2)
+    let (plain, back) = text.split_at(plain_len(text));
+    (plain.len() as u64)
+        .saturating_add(escaped_len(back))
+        .saturating_add(2)
 }
 
 fn escaped_len(text: &[u8]) -> u64
@@ -49,17 +52,6 @@ pub fn put_quoted(text: &[u8], into: &mut OutText)
     into.push_spare(b"\"");
     put_escaped(text, into);
     into.push_spare(b"\"");
-}
-
-/// Appends a quoted text, and makes room for it where there is none. After NoMemory nothing has changed.
-pub fn push_quoted(text: &[u8], into: &mut OutText) -> Result<(), NoMemory>
-    ensures bytes { OnOk result (into.new.bytes ≡ into.old.bytes ++ quoted text.now) }
-    ensures unchanged { OnErr result (into.new ≡ into.old) }
-    ensures room { room_of into.old ≤ room_of into.new }
-{
-    into.reserve(quoted_len(text))?;
-    put_quoted(text, into);
-    Ok(())
 }
 
 // Runs of bytes that stand for themselves are copied whole.

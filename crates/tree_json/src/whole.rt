@@ -1,15 +1,18 @@
 //! Numbers in decimal.
-ghost use Rattle.std.specs.Prelude.{◌≡◌, ◌≤◌, ◌++◌, ◌+◌, length, decimal, OnOk, OnErr};
+ghost use Rattle.std.specs.Prelude.{◌≡◌, ◌≤◌, ◌++◌, ◌+◌, length, decimal};
 ghost use Rattle.std.specs.Fmt.{signed_decimal};
 ghost use Rattle.tree_json.specs.Output.{room_of};
 
-use crate::out_text::{NoMemory, OutText};
+use crate::out_text::OutText;
 use itoa::Buffer;
 
 /// The number of digits, with the sign of a negative number.
 pub fn whole_len(number: i64) -> u64
     ensures { result ≡ length (signed_decimal number) }
 {
+    if number >= 0 {
+        return count_len(number.unsigned_abs());
+    }
     Buffer::new().format(number).len() as u64
 }
 
@@ -27,7 +30,13 @@ pub fn put_whole(number: i64, into: &mut OutText)
 pub fn count_len(number: u64) -> u64
     ensures { result ≡ length (decimal number) }
 {
-    Buffer::new().format(number).len() as u64
+    match number {
+        0..=9 => 1,
+        10..=99 => 2,
+        100..=999 => 3,
+        1_000..=9_999 => 4,
+        _ => Buffer::new().format(number).len() as u64,
+    }
 }
 
 /// Appends the digits of a number without a sign.
@@ -38,16 +47,4 @@ pub fn put_count(number: u64, into: &mut OutText)
     ensures room { room_of into.old ≤ room_of into.new }
 {
     into.push_spare(Buffer::new().format(number).as_bytes());
-}
-
-/// Appends the digits of a number without a sign, and makes room for them where there is none. After NoMemory nothing has
-/// changed.
-pub fn push_count(number: u64, into: &mut OutText) -> Result<(), NoMemory>
-    ensures bytes { OnOk result (into.new.bytes ≡ into.old.bytes ++ decimal number) }
-    ensures unchanged { OnErr result (into.new ≡ into.old) }
-    ensures room { room_of into.old ≤ room_of into.new }
-{
-    into.reserve(count_len(number))?;
-    put_count(number, into);
-    Ok(())
 }

@@ -1,0 +1,8 @@
+-- To be believed, in this order: the names that objects have, when an object has them, what a first line says, and what a
+-- request asks for.
+pub mod Table
+pub mod Form
+pub mod Command
+pub mod Asked
+-- These serve contracts of private calls and proofs alone: how the Rust types are seen.
+pub mod Seen
