@@ -1,4 +1,5 @@
 mod Deaths
+mod Examples
 mod FlatScopes
 mod FlatTerms
 mod FlatValues

@@ -1,4 +1,4 @@
-//! The segment of one document by hand in both forms, decoded and encoded again.
+//! The segment of one document by hand, decoded and encoded again.
 
 use crate::*;
 use segment::Bytes;
@@ -13,14 +13,6 @@ const ONE: [u8; 116] = [
     0, 0, 0,
 ];
 
-/// The same in the form before mappings grew: without the mapping generation.
-const OLD: [u8; 112] = [
-    b'S', b'E', b'G', b'1', 1, 0, 0, 0, 1, 0, 0, 0, 1, 0, 0, 0, 0, 0, 0, 0, 1, 0, 0, 0, b'1', 0, 0,
-    0, 0, 0, 0, 0, 0, 9, 0, 0, 0, b'{', b'"', b'k', b'"', b':', b'"', b'a', b'"', b'}', 0, 1, 0, 0,
-    0, 0, 0, 0, 0, 0, 0, 0, 0, 1, 0, 0, 0, b'a', 1, 0, 0, 0, 0, 0, 0, 0, 0, 0, 0, 0, 1, 0, 0, 0, 0,
-    0, 0, 0, 1, 0, 0, 0, 0, 0, 0, 0, 1, 0, 0, 0, 0, 0, 0, 0, 0, 0, 0, 0, 0, 0, 0, 0, 0, 0, 0, 0,
-];
-
 #[test]
 fn one_document(rt: HostRuntime) -> Result<(), Fail> {
     let segment = decode(rt.alloc(), Bytes::of(ONE.to_vec(rt.alloc())?))?;
@@ -28,7 +20,5 @@ fn one_document(rt: HostRuntime) -> Result<(), Fail> {
     assert_eq!(rt; (segment.docs(), segment.roots()), (1, 1));
     assert_eq!(rt; segment.terms().find(0, b"a"), Some(0));
     assert!(rt; decode(rt.alloc(), Bytes::of(Vec::new(rt.alloc()))).is_err());
-    let old = decode_old(rt.alloc(), Bytes::of(OLD.to_vec(rt.alloc())?))?;
-    assert_eq!(rt; encode(rt.alloc(), &old)?.as_slice(), ONE.as_slice());
     Ok(())
 }
