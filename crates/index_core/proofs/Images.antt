@@ -1,8 +1,8 @@
 -- What is done to a layout is done alike to a layout of other items.
-use Rattle.std.proofs.Common.{◌≡◌, ℕ, zero, suc, ◌+◌, ◌-◌, ◌*◌, ◌==◌, nat_le, nat_lt, Bool, true, false, not, ◌&&◌, cond, List, [], ◌∷◌, ◌++◌, length, map, filter, take, drop, get_or, Option, Some, None, refl, sym, ap, ◌∙◌, append_assoc}
-use Rattle.std.specs.List.{flat_map, list_any, take-map, drop-map}
+use Rattle.std.proofs.Common.{◌≡◌, ℕ, zero, suc, ◌+◌, ◌-◌, ◌*◌, ◌==◌, nat_le, nat_lt, Bool, true, false, not, ◌&&◌, cond, List, [], ◌∷◌, ◌++◌, length, map, filter, take, drop, get_or, Option, Some, None, refl, sym, ap, ◌∙◌}
+use Rattle.std.specs.List.{flat_map, take-map, drop-map}
 use Rattle.std.proofs.lemmas.List.{length-map, map-append}
-use Rattle.index_core.specs.Layout.{Marked, SegmentOf, OpenMerge, Layout, is_live, item_in, live_in, live_items, live_count, dead_count, alive, segment_of, live_of_range, shifted, merged_range, remade, no_segment, segment_at, is_free, is_spent, is_half_dead, are_uneven, each_remade, last_below, last_uneven, evened_at, evened, all_remade, all_evened, settled, with_buffer_last, sealed, staying, killed_if, killed_in, killed, buffer_size, with_room, with_new, with_change}
+use Rattle.index_core.specs.Layout.{Marked, SegmentOf, Layout, is_live, item_in, live_in, live_items, live_count, dead_count, alive, segment_of, live_of_range, shifted, merged_range, remade, no_segment, segment_at, is_free, is_spent, is_half_dead, are_uneven, each_remade, last_below, last_uneven, evened_at, evened, all_remade, all_evened, settled, with_buffer_last, sealed, staying, killed_if, killed_in, killed, buffer_size, with_room, with_new, with_change}
 use Rattle.index_core.specs.As.{marked_as, segment_as, layout_as}
 
 -- cases of a test
@@ -63,12 +63,12 @@ pub remade_as : {A B : Type 0} (f : A → B) (from count : ℕ) (layout : Layout
 remade_as f from count layout =
     let n = merged_length f from count layout in
     let same : take from (map (segment_as f) layout.segments) ++ (merged_range from count (layout_as f layout) ++ drop (from + count) (map (segment_as f) layout.segments))
-          ≡ map (segment_as f) (take from layout.segments ++ (merged_range from count layout ++ drop (from + count) layout.segments)) =
-        ap (λ xs. xs ++ (merged_range from count (layout_as f layout) ++ drop (from + count) (map (segment_as f) layout.segments))) (take-map (segment_as f) from layout.segments)
-        ∙ ap (λ xs. map (segment_as f) (take from layout.segments) ++ (xs ++ drop (from + count) (map (segment_as f) layout.segments))) (merged_range_as f from count layout)
-        ∙ ap (λ xs. map (segment_as f) (take from layout.segments) ++ (map (segment_as f) (merged_range from count layout) ++ xs)) (drop-map (segment_as f) (from + count) layout.segments)
-        ∙ ap (λ xs. map (segment_as f) (take from layout.segments) ++ xs) (sym (map-append (segment_as f) (merged_range from count layout) (drop (from + count) layout.segments)))
-        ∙ sym (map-append (segment_as f) (take from layout.segments) (merged_range from count layout ++ drop (from + count) layout.segments)) in
+    ≡ map (segment_as f) (take from layout.segments ++ (merged_range from count layout ++ drop (from + count) layout.segments)) =
+    ap (λ xs. xs ++ (merged_range from count (layout_as f layout) ++ drop (from + count) (map (segment_as f) layout.segments))) (take-map (segment_as f) from layout.segments)
+    ∙ ap (λ xs. map (segment_as f) (take from layout.segments) ++ (xs ++ drop (from + count) (map (segment_as f) layout.segments))) (merged_range_as f from count layout)
+    ∙ ap (λ xs. map (segment_as f) (take from layout.segments) ++ (map (segment_as f) (merged_range from count layout) ++ xs)) (drop-map (segment_as f) (from + count) layout.segments)
+    ∙ ap (λ xs. map (segment_as f) (take from layout.segments) ++ xs) (sym (map-append (segment_as f) (merged_range from count layout) (drop (from + count) layout.segments)))
+    ∙ sym (map-append (segment_as f) (take from layout.segments) (merged_range from count layout ++ drop (from + count) layout.segments)) in
     λ i. record {
       segments = same i;
       buffer = map f layout.buffer;
@@ -160,7 +160,7 @@ with_last_as : {A B : Type 0} (f : A → B) (layout : Layout A) → with_buffer_
 with_last_as f layout =
     let new = segment_of_as f layout.made layout.buffer in
     let n : length (segment_of layout.made (map f layout.buffer)) ≡ length (segment_of layout.made layout.buffer) =
-        ap length new ∙ length-map (segment_of layout.made layout.buffer) (segment_as f) in
+    ap length new ∙ length-map (segment_of layout.made layout.buffer) (segment_as f) in
     let same = ap (λ xs. map (segment_as f) layout.segments ++ xs) new ∙ sym (map-append (segment_as f) layout.segments (segment_of layout.made layout.buffer)) in
     λ i. record {
       segments = same i;
@@ -184,6 +184,7 @@ killed_marked f here there same (x ∷ xs) = λ i. one i ∷ killed_marked f her
   two : (b : Bool) → cond b (record { item = f x.item; live = false }) (marked_as f x) ≡ marked_as f (cond b (record x { live = false }) x)
   two true = refl
   two false = refl
+
   one : killed_if there (marked_as f x) ≡ marked_as f (killed_if here x)
   one = ap (λ b. cond b (record { item = f x.item; live = false }) (marked_as f x)) (same x.item) ∙ two (here x.item)
 
@@ -217,9 +218,9 @@ with_room_as : {A B : Type 0} (f : A → B) (layout : Layout A) → with_room (l
 with_room_as f layout =
     ap (λ n. cond (nat_le buffer_size n) (sealed (layout_as f layout)) (layout_as f layout)) (length-map layout.buffer f)
     ∙ one (nat_le buffer_size (length layout.buffer)) where
-  one : (b : Bool) → cond b (sealed (layout_as f layout)) (layout_as f layout) ≡ layout_as f (cond b (sealed layout) layout)
-  one true = sealed_as f layout
-  one false = refl
+      one : (b : Bool) → cond b (sealed (layout_as f layout)) (layout_as f layout) ≡ layout_as f (cond b (sealed layout) layout)
+      one true = sealed_as f layout
+      one false = refl
 
 with_new_as : {A B : Type 0} (f : A → B) (new : List A) (layout : Layout A) → with_new (map f new) (layout_as f layout) ≡ layout_as f (with_new new layout)
 with_new_as f new layout = ap (λ xs. record { segments = map (segment_as f) layout.segments; buffer = xs; merges = layout.merges; started = layout.started; made = layout.made; factor = layout.factor })

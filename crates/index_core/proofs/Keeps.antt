@@ -1,8 +1,8 @@
 -- Which items are live after what is done to a layout.
-use Rattle.std.proofs.Common.{◌≡◌, ℕ, zero, suc, ◌+◌, ◌-◌, nat_le, Bool, true, false, not, cond, List, [], ◌∷◌, ◌++◌, length, map, filter, take, drop, Option, Some, None, refl, sym, ap, ◌∙◌, append_assoc, append-nil, take-append-drop, drop-drop}
+use Rattle.std.proofs.Common.{◌≡◌, ℕ, zero, suc, ◌+◌, nat_le, Bool, true, false, not, cond, List, [], ◌∷◌, ◌++◌, length, map, filter, take, drop, Option, Some, None, refl, sym, ap, ◌∙◌, append_assoc, append-nil, take-append-drop, drop-drop}
 use Rattle.std.specs.List.{flat_map}
 use Rattle.std.proofs.lemmas.List.Concat.{flat_map-append}
-use Rattle.index_core.specs.Layout.{Marked, SegmentOf, Layout, is_live, item_in, live_in, live_items, alive, segment_of, live_of_range, merged_range, remade, is_spent, is_half_dead, each_remade, last_uneven, evened_at, evened, all_remade, all_evened, settled, with_buffer_last, sealed, staying, killed_if, killed_in, killed, buffer_size, with_room, with_new, with_change}
+use Rattle.index_core.specs.Layout.{Marked, SegmentOf, Layout, is_live, item_in, live_in, live_items, alive, segment_of, live_of_range, merged_range, remade, is_spent, is_half_dead, each_remade, last_uneven, evened_at, evened, all_remade, all_evened, settled, with_buffer_last, sealed, staying, killed_if, killed_in, killed, buffer_size, with_room, with_change}
 
 all_live : {A : Type 0} (xs : List A) → map item_in (filter is_live (map alive xs)) ≡ xs
 all_live [] = refl
@@ -76,7 +76,7 @@ dead item = record { item = item; live = false }
 
 one_marked : {A : Type 0} (goes : A → Bool) (item : A) (live : Bool) (rest xs : List (Marked A)) → map item_in rest ≡ filter (staying goes) (map item_in xs)
     → map item_in (cond (killed_if goes (record { item = item; live = live })).live (killed_if goes (record { item = item; live = live }) ∷ rest) rest)
-      ≡ filter (staying goes) (map item_in (cond live (record { item = item; live = live } ∷ xs) xs))
+    ≡ filter (staying goes) (map item_in (cond live (record { item = item; live = live } ∷ xs) xs))
 one_marked goes item false rest xs e =
     elim (goes item) as (λ b. map item_in (cond (is_live (cond b (dead item) (dead item))) (cond b (dead item) (dead item) ∷ rest) rest) ≡ filter (staying goes) (map item_in xs)) [
       | true ↦ e
@@ -84,7 +84,7 @@ one_marked goes item false rest xs e =
     ]
 one_marked goes item true rest xs e =
     elim (goes item) as (λ b. map item_in (cond (is_live (cond b (dead item) (alive item))) (cond b (dead item) (alive item) ∷ rest) rest)
-        ≡ cond (not b) (item ∷ filter (staying goes) (map item_in xs)) (filter (staying goes) (map item_in xs))) [
+    ≡ cond (not b) (item ∷ filter (staying goes) (map item_in xs)) (filter (staying goes) (map item_in xs))) [
       | true ↦ e
       | false ↦ ap (λ ys. item ∷ ys) e
     ]

@@ -1,5 +1,5 @@
 -- Serves proofs alone: a layout in which each item gives way to what is kept of it.
-use Rattle.std.specs.Prelude.{List, map}
+use Rattle.std.specs.Prelude.{map}
 use Rattle.index_core.specs.Layout.{Marked, SegmentOf, Layout}
 
 abbrev pub marked_as : {A B : Type 0} → (A → B) → Marked A → Marked B

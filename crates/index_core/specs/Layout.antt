@@ -1,7 +1,7 @@
 -- How items are laid out in segments, and what sealing, a merge and a change do to them. The machine lays out trees so, and
 -- the index blocks: what is said here looks into an item by the tests that it is given alone (Lucene, `IndexWriter`: a buffer
 -- that is flushed into segments, deletes by marks, merges of neighbours).
-use Rattle.std.specs.Prelude.{ℕ, suc, zero, ◌+◌, ◌-◌, ◌*◌, ◌==◌, nat_le, nat_lt, Bool, true, false, not, ◌&&◌, if◌then◌else◌, List, [], ◌∷◌, ◌++◌, length, map, filter, take, drop, count_by, get_or, Option, Some, None}
+use Rattle.std.specs.Prelude.{ℕ, suc, zero, ◌+◌, ◌-◌, ◌*◌, ◌==◌, nat_le, nat_lt, Bool, true, false, not, ◌&&◌, if◌then◌else◌, List, [], ◌∷◌, ◌++◌, length, map, filter, take, drop, get_or, Option, Some, None}
 use Rattle.std.specs.List.{flat_map, list_any}
 
 -- an item in a segment, and whether it is live
@@ -115,7 +115,7 @@ abbrev pub are_uneven : {A : Type 0} → ℕ → Layout A → ℕ → Bool
 are_uneven {A} factor layout index =
     is_free layout index
     && (is_free layout (index + 1)
-        && nat_lt (live_count (segment_at layout index)) (factor * live_count (segment_at layout (index + 1))))
+    && nat_lt (live_count (segment_at layout index)) (factor * live_count (segment_at layout (index + 1))))
 
 -- each segment that passes is remade by itself: the last first, so that the indexes of those before it stay
 abbrev pub each_remade : {A : Type 0} → (Layout A → ℕ → Bool) → ℕ → Layout A → Layout A

@@ -8,3 +8,4 @@ pub mod Distinct
 pub mod Keeping
 pub mod Conflicts
 pub mod Founding
+mod Examples

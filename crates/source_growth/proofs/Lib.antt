@@ -1,3 +1,5 @@
 pub mod Puts
 pub mod Sizes
 mod Examples
+pub mod Sound
+pub mod Taken

@@ -147,7 +147,7 @@ none_inside m (suc left) p o is away =
     (kids m (scope o)) (each_kid m (scope o) is))) (other_scope p o (λ e. away (inl e)))
 
 -- nor has one among those at its own scope any but itself
-itself : (m : Mapping) (left p : ℕ) (o : Object) → IsMapping m → scope o ≡ p → found m left p o ≡ o ∷ []
+pub itself : (m : Mapping) (left p : ℕ) (o : Object) → IsMapping m → scope o ≡ p → found m left p o ≡ o ∷ []
 itself m zero p o is e = alone p o e
 itself m (suc left) p o is e =
     found_by_kids m left p o

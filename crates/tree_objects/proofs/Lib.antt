@@ -5,3 +5,5 @@ pub mod Inside
 pub mod Places
 pub mod Numerals
 pub mod Terms
+pub mod Further
+pub mod Kept

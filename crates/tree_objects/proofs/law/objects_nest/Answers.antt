@@ -2,6 +2,7 @@ use Rattle.std.proofs.Common.{◌≡◌, ◌<◌, length, subst, refl, ℕ}
 use Rattle.std.proofs.lemmas.List.Elements.{All-contains, All-from_recursion}
 use Rattle.tree_objects.specs.Object.{Object, scope, around, children, block_objects}
 use Rattle.tree_objects.proofs.Inside.{tree_in_range, root_found, found_in_tree, found_below, enclosing, around_child}
+use Rattle.tree_objects.proofs.Kept.{shown_values}
 use Rattle.tree_objects.proofs.Places.{places_differ}
 use Rattle.tree_objects.proofs.law.objects_nest.Goals as goal
 
@@ -30,3 +31,6 @@ returns-clause-child c m o d n is positive home of =
     All-contains (λ (e : Object). around e (scope o) ≡ o) (children m o n) d
     (All-from_recursion (λ (e : Object). around e (scope o) ≡ o) (children m o n)
     (around_child m o n (scope o) (subst (λ (s : ℕ). s < n) home (is.behind n positive)) refl)) of
+
+pub returns-clause-shown : goal.returns-clause-shown
+returns-clause-shown c = shown_values

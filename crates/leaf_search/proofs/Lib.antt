@@ -1,0 +1,17 @@
+pub mod Tests
+pub mod Listing
+pub mod Gaining
+pub mod Termed
+pub mod Cutting
+pub mod Unions
+pub mod Shown
+pub mod TermShown
+pub mod Going
+pub mod Phrasing
+pub mod Phrased
+pub mod Queries
+pub mod Runs
+pub mod Trees
+pub mod Holds
+pub mod Rooted
+pub mod Finding

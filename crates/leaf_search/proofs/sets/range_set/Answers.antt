@@ -1,0 +1,9 @@
+use Rattle.leaf_search.specs.Keys.{lies_within}
+use Rattle.segment.specs.Shows.{has_term}
+use Rattle.leaf_search.proofs.Finding.{made_from}
+use Rattle.leaf_search.proofs.sets.range_set.Goals as goal
+
+pub returns-clause-made : goal.returns-clause-made
+returns-clause-made c =
+    made_from c.args.segment.now c.args.live.now c.args.scope (has_term c.args.field (lies_within c.args.low.now c.args.high.now)) c.docs.result c.in_ok-set.set c.mark_between.new.set c.keep_live.new.set
+    c.requires c.docs.ensures.documents c.in_ok-set.ensures c.mark_between.ensures.gains c.keep_live.ensures

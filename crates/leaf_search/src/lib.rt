@@ -1,0 +1,23 @@
+//! The documents of a segment that meet a leaf of a query: terms, ranges, prefixes, ids, words and phrases.
+//!
+//! It stands on `segment` for terms and postings, on `query_ast` for leaves and their meaning, and on `flattener` for how a
+//! segment stands for trees. The contract that others use is that of `leaf`: its set has exactly the documents of the live
+//! objects of a scope at which the leaf holds. Begin with `leaf`, then `terms`, and for the meaning with `specs/Found`.
+#![tactic(auto)]
+
+mod exists;
+mod key;
+mod leaves;
+mod no_memory;
+mod on_field;
+mod on_kind;
+mod on_roots;
+mod phrase;
+mod roots;
+mod scoped;
+mod sets;
+mod terms;
+mod words;
+
+pub use leaves::leaf;
+pub use no_memory::NoMemory;

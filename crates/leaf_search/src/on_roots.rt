@@ -1,0 +1,89 @@
+//! Leaves on whole objects: all of them, none, and roots by their ids and their parents.
+
+ghost use Rattle.std.specs.Prelude.{◌≡◌, ◌<◌, ℕ, length, IfOk};
+ghost use Rattle.mapping.specs.Mapping.{Mapping as Meaning};
+ghost use Rattle.query_ast.specs.Clause.{match_all, match_none, ids, parent_id};
+ghost use Rattle.segment.specs.Live.{IsLiveOver};
+ghost use Rattle.leaf_search.specs.Found.{Finds};
+
+use crate::NoMemory;
+use crate::roots::RootTest;
+use crate::scoped::keep_live;
+use crate::sets::root_set;
+use block_bits::BitSet;
+use mapping::Bytes;
+use segment::{LiveBits, Segment, values_are_of_documents};
+use std::alloc::Global;
+use tree_objects::objects_nest;
+
+/// `match_all`: each object.
+pub(crate) fn all(
+    alloc: Global,
+    segment: &Segment,
+    live: &LiveBits,
+    scope: u32,
+) -> Result<BitSet, NoMemory>
+    requires { IsLiveOver segment.now live.now }
+    ensures { (m : Meaning) → IfOk result (Finds m segment.now live.now scope match_all) }
+{
+    values_are_of_documents(segment);
+    let mut set = BitSet::full(alloc, segment.docs())?;
+    keep_live(&mut set, segment, live, scope);
+    Ok(set)
+}
+
+/// `match_none`: no object.
+pub(crate) fn none(
+    alloc: Global,
+    segment: &Segment,
+    live: &LiveBits,
+    scope: u32,
+) -> Result<BitSet, NoMemory>
+    requires { IsLiveOver segment.now live.now }
+    ensures { (m : Meaning) → IfOk result (Finds m segment.now live.now scope match_none) }
+{
+    values_are_of_documents(segment);
+    Ok(BitSet::empty(alloc, segment.docs())?)
+}
+
+/// `ids`: the roots whose id is listed.
+pub(crate) fn with_ids(
+    alloc: Global,
+    segment: &Segment,
+    live: &LiveBits,
+    scope: u32,
+    listed: &[Bytes],
+) -> Result<BitSet, NoMemory>
+    requires { IsLiveOver segment.now live.now }
+    ensures { (m : Meaning) → IfOk result (Finds m segment.now live.now scope (ids listed.now)) }
+{
+    objects_nest();
+    values_are_of_documents(segment);
+    Ok(root_set(alloc, segment, live, scope, &RootTest::HasId(listed))?)
+}
+
+/// `parent_id`: the roots of a child relation whose parent has this id.
+pub(crate) fn children(
+    alloc: Global,
+    segment: &Segment,
+    live: &LiveBits,
+    scope: u32,
+    child: Option<u32>,
+    id: &[u8],
+) -> Result<BitSet, NoMemory>
+    requires { IsLiveOver segment.now live.now }
+    ensures { (m : Meaning) → IfOk result (Finds m segment.now live.now scope (parent_id child id.now)) }
+{
+    objects_nest();
+    values_are_of_documents(segment);
+    match child {
+        Some(relation) => Ok(root_set(
+            alloc,
+            segment,
+            live,
+            scope,
+            &RootTest::IsChild(relation, id),
+        )?),
+        None => Ok(BitSet::empty(alloc, segment.docs())?),
+    }
+}

@@ -1,0 +1,29 @@
+//! Sets cut to the live documents of a scope.
+
+ghost use Rattle.std.specs.Prelude.{◌≡◌, length, replicate, true, false, IfOk};
+ghost use Rattle.segment.specs.Flat.{flats_of};
+ghost use Rattle.segment.specs.Live.{IsLiveOver};
+ghost use Rattle.leaf_search.specs.Sets.{cut};
+
+use crate::NoMemory;
+use block_bits::BitSet;
+use segment::{LiveBits, Segment, scopes_are_of_documents};
+use std::alloc::Global;
+
+/// Keeps the live documents of a scope: word by word, two passes over the set.
+pub(crate) fn keep_live(set: &mut BitSet, segment: &Segment, live: &LiveBits, scope: u32)
+    requires long { length set.old ≡ segment.now.documents }
+    requires live { IsLiveOver segment.now live.now }
+    ensures { set.new ≡ cut scope set.old live.now.docs (flats_of segment.now) }
+{
+    scopes_are_of_documents(segment);
+    let _documents = segment.docs();
+    set.and(live.documents());
+    let scopes = segment.scopes().as_slice();
+    if (scope as usize) < scopes.len() {
+        set.and(&scopes[scope as usize]);
+    } else {
+        let len = set.len();
+        set.clear_range(0, len);
+    }
+}

@@ -1,0 +1,107 @@
+//! The documents that have terms of a field.
+
+ghost use Rattle.std.specs.Prelude.{◌≡◌, ℕ, ◌<◌, ◌≤◌, ◌||◌, false, length, slice_index_or, drop, take};
+ghost use Rattle.std.specs.List.{All, list_any};
+ghost use Rattle.std.specs.Str.{bytes_eq};
+ghost use Rattle.postings.specs.Marks.{has_document};
+ghost use Rattle.segment.specs.Lists.{terms_of, postings_of};
+ghost use Rattle.leaf_search.specs.Keys.{FitsKey, EndFits, key_of, is_within, lies_within, begins, has_one_of};
+ghost use Rattle.leaf_search.specs.Sets.{Gains};
+ghost use Rattle.segment.specs.Shows.{has_term};
+
+use crate::key::{Key, edge};
+use block_bits::BitSet;
+use query_ast::RangeEnd;
+use segment::{Segment, terms_are_of_documents};
+use term_table::Edge;
+use tree_objects::FieldValue;
+
+/// Adds the documents of the terms with these ordinals, list by list.
+fn mark_lists(segment: &Segment, first: u64, end: u64, set: &mut BitSet)
+    requires long { length set.old ≡ segment.now.documents }
+    requires ordered { first ≤ end }
+    requires within { end ≤ length (terms_of segment.now) }
+    ensures long { length set.new ≡ length set.old }
+    ensures marked { (doc : ℕ) → doc < length set.old → slice_index_or set.new doc false
+        ≡ (slice_index_or set.old doc false || list_any (has_document doc) (drop first (take end (postings_of segment.now)))) }
+{
+    terms_are_of_documents(segment);
+    let postings = segment.postings();
+    'lists: for ordinal in first..end {
+        postings.mark(ordinal, set);
+    }
+}
+
+/// Adds the documents that have a term of a field between two edges.
+pub(crate) fn mark_range(segment: &Segment, field: u32, low: Edge, high: Edge, set: &mut BitSet)
+    requires { length set.old ≡ segment.now.documents }
+    ensures { Gains segment.now (has_term field (is_within low.entry high.entry)) set.old set.new }
+{
+    terms_are_of_documents(segment);
+    let (first, end) = segment.terms().range(field, low, high);
+    mark_lists(segment, first, end, set);
+}
+
+/// Adds the documents that have a term of a field that begins with these bytes.
+pub(crate) fn mark_prefix(segment: &Segment, field: u32, start: &[u8], set: &mut BitSet)
+    requires { length set.old ≡ segment.now.documents }
+    ensures { Gains segment.now (has_term field (begins start.now)) set.old set.new }
+{
+    terms_are_of_documents(segment);
+    let (first, end) = segment.terms().prefix(field, start);
+    mark_lists(segment, first, end, set);
+}
+
+/// Adds the documents that have a term.
+pub(crate) fn mark_term(segment: &Segment, field: u32, bytes: &[u8], set: &mut BitSet)
+    requires { length set.old ≡ segment.now.documents }
+    ensures { Gains segment.now (has_term field (bytes_eq bytes.now)) set.old set.new }
+{
+    mark_range(
+        segment,
+        field,
+        Edge::Closed(bytes),
+        Edge::Closed(bytes),
+        set,
+    );
+}
+
+/// Adds the documents that have the term that a value stands for.
+pub(crate) fn mark_value(segment: &Segment, field: u32, value: &FieldValue, set: &mut BitSet)
+    requires { length set.old ≡ segment.now.documents }
+    ensures gains { Gains segment.now (has_term field (bytes_eq (key_of value.now))) set.old set.new }
+    ensures fits { FitsKey value.now }
+{
+    let key = Key::of(value);
+    mark_term(segment, field, key.as_slice(), set);
+}
+
+/// Adds the documents that have a term that one of some values stands for.
+pub(crate) fn mark_values(segment: &Segment, field: u32, values: &[FieldValue], set: &mut BitSet)
+    requires { length set.old ≡ segment.now.documents }
+    ensures gains { Gains segment.now (has_one_of field values.now) set.old set.new }
+    ensures fit { All FitsKey values.now }
+{
+    'values: for value in values {
+        mark_value(segment, field, value, set);
+    }
+}
+
+/// Adds the documents that have a term between the ends of a range.
+pub(crate) fn mark_between(
+    segment: &Segment,
+    field: u32,
+    low: &RangeEnd,
+    high: &RangeEnd,
+    set: &mut BitSet,
+)
+    requires { length set.old ≡ segment.now.documents }
+    ensures gains { Gains segment.now (has_term field (lies_within low.now high.now)) set.old set.new }
+    ensures fit { EndFits low.now × EndFits high.now }
+{
+    let from = Key::of_end(low);
+    let to = Key::of_end(high);
+    let first = edge(low, from.as_slice());
+    let last = edge(high, to.as_slice());
+    mark_range(segment, field, first, last, set);
+}

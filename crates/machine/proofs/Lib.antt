@@ -1,0 +1,2 @@
+-- The layout keeps the live trees, whatever is asked.
+pub mod Laid

@@ -1,0 +1,59 @@
+-- The states of the machine, in four parts: what searches and writes see, the points in time, how the trees are laid out
+-- in segments, and what a store keeps.
+use Rattle.std.specs.Prelude.{◌≡◌, ℕ, List, [], Option, None}
+use Rattle.index_core.specs.Layout.{Layout, empty_layout, live_items, sealed}
+use Rattle.mapping.specs.Mapping.{Mapping}
+use Rattle.tree_objects.specs.Tree.{Tree}
+
+-- the mapping, where there is one, the live trees, and the next sequence number
+pub record Content : Type 0 where
+  pub mapping : Option Mapping
+  pub live : List Tree
+  pub next : ℕ
+
+-- a point in time: its id, and the trees that were live when it was opened
+pub record PointInTime : Type 0 where
+  pub id : ℕ
+  pub live : List Tree
+
+-- the points in time that are open, and how many were opened
+pub record PointsInTime : Type 0 where
+  pub points : List PointInTime
+  pub opened : ℕ
+
+-- an extent of the store file, in bytes
+pub record Extent : Type 0 where
+  pub offset : ℕ
+  pub bytes : ℕ
+
+-- a segment that the last acknowledged commit names, and its extent
+pub record KeptSegment : Type 0 where
+  pub segment : ℕ
+  pub extent : Extent
+
+-- what the last acknowledged commit names, and the greatest commit generation that was tried
+pub record Kept : Type 0 where
+  pub segments : List KeptSegment
+  pub generation : ℕ
+
+pub record State : Type 0 where
+  pub content : Content
+  pub points : PointsInTime
+  pub layout : Layout Tree
+  pub kept : Kept
+
+abbrev pub empty_state : State
+empty_state = record {
+  content = record { mapping = None; live = []; next = 0 };
+  points = record { points = []; opened = 0 };
+  layout = empty_layout;
+  kept = record { segments = []; generation = 0 };
+}
+
+-- the state with its buffer sealed
+abbrev pub sealed_state : State → State
+sealed_state state = record state { layout = sealed state.layout }
+
+-- the trees that the layout has live are the live trees
+abbrev pub IsLaid : State → Type 0
+IsLaid state = live_items state.layout ≡ state.content.live

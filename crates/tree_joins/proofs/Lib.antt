@@ -1,0 +1,5 @@
+pub mod Each
+pub mod Blocks
+pub mod Up
+pub mod Down
+pub mod Trees

@@ -1,0 +1,23 @@
+//! Laws of joins on trees, as the contract of a function that does nothing.
+ghost use Rattle.std.specs.Prelude.{◌≡◌, ◌<◌, ℕ, List, [], length, map, zip, Option, None};
+ghost use Rattle.std.specs.Option.{option_to_list};
+ghost use Rattle.block_join.specs.Joins.{joined, spread};
+ghost use Rattle.flattener.specs.StandsFor.{Marked};
+ghost use Rattle.mapping.specs.IsMapping.{IsMapping};
+ghost use Rattle.mapping.specs.Mapping.{Mapping, IsAbove};
+ghost use Rattle.tree_joins.specs.Seen.{scopes_of, seen, at_scope, gathered, handed};
+ghost use Rattle.tree_objects.specs.Object.{Object};
+ghost use Rattle.tree_objects.specs.Tree.{Tree};
+
+use mapping::scopes_form_chains;
+use tree_objects::objects_nest;
+
+/// Scores that go up in blocks, from a scope to one above it, are at each object those of the objects below it, put together
+/// by the mode; a dead block has none. Scores that go down are at each object that of the object around it.
+pub fn joins_are_of_trees()
+    ensures up { (m : Mapping) (to from : ℕ) (score : Object → Option ℕ) (mode : List ℕ → Option ℕ) (trees : List (Marked Tree)) → IsMapping m → IsAbove m to from → mode [] ≡ None → joined mode None to [] (zip (scopes_of m trees) (map option_to_list (seen m (at_scope from score) trees))) ≡ seen m (at_scope to (gathered m mode from score)) trees }
+    ensures down { (m : Mapping) (from to : ℕ) (score : Object → Option ℕ) (trees : List (Marked Tree)) → IsMapping m → IsAbove m from to → spread from to (zip (scopes_of m trees) (seen m (at_scope from score) trees)) ≡ seen m (at_scope to (handed from score)) trees }
+{
+    scopes_form_chains();
+    objects_nest();
+}
