@@ -159,15 +159,19 @@ module _ (m : Mapping) (f : ℕ) where
 
   match_test : (inner : Bool) (v : JsonValue) → has_form inner MatchField v ≡ true → AreTexts v → (may_ask Match kind && asked_taken kind Match v) ≡ true → IsTestOf m f (test_of (Some kind) Match v)
   match_test inner v formed t h =
-      let parts = and_parts (may_ask Match kind) (asked_taken kind Match v) h in
-      (valued_is kind parts.0, given_is kind (asked_value (codes "query") v) (words_there inner v formed) parts.1,
-      value_text kind (asked_value (codes "query") v) (asked_texts (codes "query") v t))
+      let parts = and_parts (may_ask Match kind) (asked_taken kind Match v) h in (
+        valued_is kind parts.0,
+        given_is kind (asked_value (codes "query") v) (words_there inner v formed) parts.1,
+        value_text kind (asked_value (codes "query") v) (asked_texts (codes "query") v t),
+      )
 
   phrase_test : (inner : Bool) (v : JsonValue) → has_form inner PhraseField v ≡ true → AreTexts v → (may_ask MatchPhrase kind && asked_taken kind MatchPhrase v) ≡ true → IsTestOf m f (test_of (Some kind) MatchPhrase v)
   phrase_test inner v formed t h =
-      let parts = and_parts (may_ask MatchPhrase kind) (asked_taken kind MatchPhrase v) h in
-      (valued_is kind parts.0, given_is kind (asked_value (codes "query") v) (phrase_there inner v formed) parts.1,
-      value_text kind (asked_value (codes "query") v) (asked_texts (codes "query") v t))
+      let parts = and_parts (may_ask MatchPhrase kind) (asked_taken kind MatchPhrase v) h in (
+        valued_is kind parts.0,
+        given_is kind (asked_value (codes "query") v) (phrase_there inner v formed) parts.1,
+        value_text kind (asked_value (codes "query") v) (asked_texts (codes "query") v t),
+      )
 
 -- ---- leaves
 

@@ -189,5 +189,5 @@ module _ (m : Mapping) where
     search_is null h t e = absurd (false≢true h)
     search_is (bool b) h t e = absurd (false≢true h)
     search_is (whole z) h t e = absurd (false≢true h)
-    search_is (text t) h e = absurd (false≢true h)
+    search_is (text s) h t e = absurd (false≢true h)
     search_is (list ds) h t e = absurd (false≢true h)
