@@ -17,8 +17,9 @@ use Rattle.mapping_growth.specs.Relations.{relations_of}
 use Rattle.mapping_body.proofs.Ascending.{not_itself}
 use Rattle.mapping_body.proofs.Closed.{has_name}
 use Rattle.mapping_growth.proofs.Fitting.{fit}
-use Rattle.mapping_growth.proofs.Founding.{not_itself as not_own_ancestor, parent_within}
-use Rattle.mapping_body.proofs.Merges.{AreAscending-in_byte_order, put_all-after}
+use Rattle.mapping_growth.proofs.Climbs.{not_itself as not_own_ancestor}
+use Rattle.mapping_growth.proofs.Founding.{parent_within}
+use Rattle.mapping_body.proofs.Puts.{AreAscending-in_byte_order, put_all-after}
 use Rattle.mapping_body.proofs.Ordered.{is_order, order_permutes, place_is}
 use Rattle.mapping_body.proofs.Ranks.{AllAfter}
 use Rattle.mapping_body.proofs.Walks.{split}

@@ -20,7 +20,8 @@ use Rattle.mapping_body.proofs.Walks.{split}
 use Rattle.mapping.specs.Growth.{GoesOn, HasFurtherBodies}
 use Rattle.mapping.specs.Mapping.{Field, Scope, Mapping, mapping_of, field_by, fields_by, nested_among, root_scope, scope_by, scope_paths, scopes_by}
 use Rattle.mapping.proofs.Above.{both, joint}
-use Rattle.mapping.proofs.InTurn.{AllOf, AreInTurn, added_of, founded}
+use Rattle.mapping.proofs.InTurn.{AreInTurn, founded}
+use Rattle.mapping_growth.proofs.Generations.{AllOf, added_of}
 use Rattle.mapping.proofs.Keeps.{AreBefore, before_news, fields_more, scopes_more, paths_more}
 
 -- ---- numbers below a bound, among those put in byte order of names

@@ -12,8 +12,9 @@ use Rattle.mapping_growth.specs.Fields.{Draft, draft_of, draft_paths, drafts_add
 use Rattle.mapping_body.specs.Names.{AreAscending, in_byte_order, is_among, lies_above, put, put_all}
 use Rattle.mapping_body.proofs.Ascending.{not_back, not_itself}
 use Rattle.mapping_body.proofs.Closed.{IsClosed, closed_body, has_name}
+use Rattle.mapping_growth.proofs.Generations.{AllOf, added_of, filter_all}
 use Rattle.mapping_growth.proofs.Distinct.{AreOutside, added_ascend, added_outside}
-use Rattle.mapping_body.proofs.Merges.{same_name}
+use Rattle.mapping_body.proofs.Ranks.{same_name}
 use Rattle.mapping_body.proofs.Ranks.{AllAfter, by_ordering, compared}
 use Rattle.mapping_body.proofs.Walks.{split}
 use Rattle.mapping.proofs.Above.{above_less, both}
@@ -115,13 +116,6 @@ put_all_have : (names : List (List ℕ)) (ys xs : List Draft) → HaveAbove name
 put_all_have names ys [] one two = one
 put_all_have names ys (x ∷ xs) one two = put_all_have names (put (λ d. d.path) x ys) xs (put_have names x ys (two.0, one)) two.1
 
-filter_all : {A : Type 0} (P : A → Type 0) (t : A → Bool) (xs : List A) → AllByRecursion P xs → AllByRecursion P (filter t xs)
-filter_all P t [] all = tt
-filter_all P t (x ∷ xs) all =
-    split (t x)
-    (λ held. rw held (all.0, filter_all P t xs all.1))
-    (λ failed. rw failed (filter_all P t xs all.1))
-
 wider : (names more : List (List ℕ)) (ds : List Draft) → ((a : List ℕ) → has_name names a ≡ true → has_name more a ≡ true) → HaveAbove names ds → HaveAbove more ds
 wider names more [] grows all = tt
 wider names more (d ∷ ds) grows all = ((all.0.0, λ a some h. grows a (all.0.1 a some h)), wider names more ds grows all.1)
@@ -168,31 +162,6 @@ added_have g known v is =
     ap (λ (ns : List (List ℕ)). has_name ns a) (map-append (λ d. d.path) known (drafts_added g (draft_paths known) v))
     ∙ list_any-append (λ other. bytes_eq other a) (draft_paths known) (draft_paths (drafts_added g (draft_paths known) v)) ∙ has_filter (draft_paths known) a all there)
     (filter_all (λ (d : Draft). (lies_above [] d.path ≡ true) × ((a : List ℕ) → lies_above [] a ≡ true → lies_above a d.path ≡ true → has_name (map (λ p. p.path) (properties_of v)) a ≡ true)) (λ d. not (is_among (draft_paths known) d.path)) all sorted)
-
--- ---- generations
-
-abbrev pub AllOf : ℕ → List Draft → Type 0
-AllOf g ds = AllByRecursion (λ (d : Draft). d.since ≡ g) ds
-
-map_of : (g : ℕ) (ps : List Property) → AllOf g (map (draft_of g) ps)
-map_of g [] = tt
-map_of g (p ∷ ps) = (refl, map_of g ps)
-
-put_of : (g : ℕ) (x : Draft) (ys : List Draft) → x.since ≡ g → AllOf g ys → AllOf g (put (λ d. d.path) x ys)
-put_of g x [] first all = (first, tt)
-put_of g x (y ∷ ys) first all =
-    by_ordering (compared y.path x.path)
-    (λ less. rw less (all.0, put_of g x ys first all.1))
-    (λ equal. rw equal all)
-    (λ greater. rw greater (first, all))
-
-put_all_of : (g : ℕ) (ys xs : List Draft) → AllOf g ys → AllOf g xs → AllOf g (put_all (λ d. d.path) ys xs)
-put_all_of g ys [] one two = one
-put_all_of g ys (x ∷ xs) one two = put_all_of g (put (λ d. d.path) x ys) xs (put_of g x ys two.0 one) two.1
-
-pub added_of : (g : ℕ) (known : List (List ℕ)) (v : JsonValue) → AllOf g (drafts_added g known v)
-added_of g known v =
-    filter_all (λ (d : Draft). d.since ≡ g) (λ d. not (is_among known d.path)) (in_byte_order (λ d. d.path) (map (draft_of g) (properties_of v))) (put_all_of g [] (map (draft_of g) (properties_of v)) tt (map_of g (properties_of v)))
 
 -- ---- in turn
 

@@ -7,3 +7,4 @@ pub mod InTurn
 pub mod Founded
 pub mod Keeps
 pub mod Further
+pub mod Generations

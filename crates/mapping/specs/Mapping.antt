@@ -1,5 +1,5 @@
 -- A mapping: what bodies say together, as numbered fields with their homes, scopes and relations.
-use Rattle.std.specs.Prelude.{ℕ, zero, suc, ◌+◌, ◌≡◌, ◌==◌, Bool, true, false, ◌&&◌, ◌||◌, if◌then◌else◌, nat_le, nat_lt, List, [], ◌∷◌, length, map, filter, Option, Some, None, option_and_then, get_or}
+use Rattle.std.specs.Prelude.{ℕ, zero, suc, ◌+◌, ◌≡◌, ◌==◌, Bool, true, false, ◌&&◌, ◌||◌, if◌then◌else◌, nat_le, nat_lt, List, [], ◌∷◌, length, take, map, filter, Option, Some, None, option_and_then, get_or}
 use Rattle.std.specs.List.{list_any}
 use Rattle.tree_json.specs.Value.{JsonValue, null}
 use Rattle.mapping_body.specs.declared.kind.Kind.{Kind}
@@ -157,6 +157,10 @@ is_parent m r = list_any (λ other. is_number r other.parent) m.relations
 -- the last generation
 abbrev pub generation_of : Mapping → ℕ
 generation_of m = length m.bodies
+
+-- the mapping of a generation, which is that of the bodies up to it
+abbrev pub mapping_at : Mapping → ℕ → Mapping
+mapping_at m g = mapping_of (take g m.bodies) m.dynamic
 
 abbrev pub knows : Mapping → ℕ → ℕ → Bool
 knows m g f = nat_le (field_at m f).since g

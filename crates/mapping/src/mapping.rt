@@ -9,7 +9,7 @@ ghost use Rattle.mapping_growth.specs.Kept.{relation_of};
 ghost use Rattle.mapping_body.specs.Names.{joined};
 ghost use Rattle.mapping_body.specs.declared.refusal.Limit.{Limit};
 ghost use Rattle.mapping.specs.IsMapping.{IsMapping};
-ghost use Rattle.mapping.specs.Mapping.{Mapping, mapping_of, field_at, scope_at, relation_at, kind_at, home_of, around_of, field_named, field_below, scope_named, relation_named, relation_known, scope_field_of, reaches, included, knows, knows_relation, is_above, is_parent, generation_of};
+ghost use Rattle.mapping.specs.Mapping.{Mapping, mapping_of, field_at, scope_at, relation_at, kind_at, home_of, around_of, field_named, field_below, scope_named, relation_named, relation_known, scope_field_of, reaches, included, knows, knows_relation, is_above, is_parent, generation_of, mapping_at};
 ghost use Rattle.mapping.specs.Growth.{IsGrown};
 ghost use Rattle.mapping.specs.Stored.{scope_seen, part_at, reaches_among};
 
@@ -290,6 +290,21 @@ impl Mapping {
         ensures is_mapping { IsMapping self.now }
     {
         self.paths.len() as u32
+    }
+
+    /// How many scopes the mapping of a generation has, the root among them. They are the first by number.
+    pub fn scopes(&self, generation: u32) -> u32
+        ensures { result ≡ length (mapping_at self.now generation).scopes }
+    {
+        let nested = self.scopes.as_slice().split_at(1).1;
+        nested.partition_point(|scope| scope.since <= generation) as u32 + 1
+    }
+
+    /// How many relations the mapping of a generation has. They are the first by number.
+    pub fn relations(&self, generation: u32) -> u32
+        ensures { result ≡ length (mapping_at self.now generation).relations }
+    {
+        self.bodies.relations_in(generation)
     }
 
     /// The number of a relation, by its name.

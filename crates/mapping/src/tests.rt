@@ -71,6 +71,8 @@ fn growth(rt: HostRuntime) -> Result<(), Fail> {
     assert!(rt; !grown.knows(1, boxes));
     assert!(rt; grown.knows(2, boxes));
     assert_eq!(rt; grown.scope(b"boxes"), Some(3));
+    assert_eq!(rt; (grown.scopes(1), grown.scopes(2)), (3, 4));
+    assert_eq!(rt; (grown.relations(1), grown.relations(2)), (2, 2));
     assert!(rt; grown.order() == [3, 1, 2].as_slice());
     assert!(rt; grown.is_above(1, 2));
     assert!(rt; !grown.is_above(3, 9));

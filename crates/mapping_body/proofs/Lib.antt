@@ -1,8 +1,10 @@
 pub mod Booleans
+pub mod Members
 pub mod Orders
 pub mod Ranks
 pub mod Puts
-pub mod Merges
+pub mod Firsts
+pub mod Sorts
 pub mod Parents
 pub mod Walks
 pub mod Ascending

@@ -9,7 +9,8 @@ use Rattle.std.proofs.lemmas.List.Elements.{recursion_from_All}
 use Rattle.std.proofs.lemmas.List.FromFn.{length-range_with_len, get_or-range_with_len}
 use Rattle.mapping_body.specs.Names.{AreAscending, in_byte_order, place_of, put, put_all}
 use Rattle.mapping_body.specs.Order.{AreDistinct, IsOrderFrom, name_at, order_from}
-use Rattle.mapping_body.proofs.Merges.{same_name, AreAscending-in_byte_order, map-put_all}
+use Rattle.mapping_body.proofs.Puts.{AreAscending-in_byte_order, map-put_all}
+use Rattle.mapping_body.proofs.Ranks.{same_name}
 use Rattle.mapping_body.proofs.Ranks.{by_ordering, compared}
 use Rattle.mapping_body.proofs.Walks.{split}
 

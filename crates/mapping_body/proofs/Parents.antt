@@ -9,53 +9,9 @@ use Rattle.mapping_body.specs.declared.pair.Pair.{Pair as Lent}
 use Rattle.mapping_body.specs.Names.{AreAscending, in_byte_order, put, put_all}
 use Rattle.mapping_body.specs.Pairs.{Pair, parent_among, is_other}
 use Rattle.mapping_body.specs.Kept.{pair_of}
-use Rattle.mapping_body.proofs.Merges.{same_name, map-put_all}
-use Rattle.mapping_body.proofs.Puts.{AreAscending-put, ascending_none, all_beyond}
-use Rattle.mapping_body.proofs.Ranks.{by_ordering, is_eq_from, reversed, AllAfter, compared}
+use Rattle.mapping_body.proofs.Firsts.{first-put_all}
+use Rattle.mapping_body.proofs.Puts.{ascending_none, map-put_all}
 use Rattle.mapping_body.proofs.Walks.{split}
-
--- ---- the first of a name stays the first
-
-abbrev first : {T : Type 0} → (T → List ℕ) → List ℕ → List T → Option T
-first name n xs = find (λ x. bytes_eq (name x) n) xs
-
-none_of : {T : Type 0} (name : T → List ℕ) (n : List ℕ) (xs : List T) → AllAfter n (map name xs) → first name n xs ≡ None
-none_of name n [] all = refl
-none_of name n (x ∷ xs) all = rw (is_eq_from (name x) n Greater (reversed n (name x) Less all.0)) (none_of name n xs all.1)
-
-first_beside : {T : Type 0} (name : T → List ℕ) (n : List ℕ) (x : T) (xs : List T) → bytes_eq (name x) n ≡ false → first name n (xs ++ (x ∷ [])) ≡ first name n xs
-first_beside name n x [] other = rw other refl
-first_beside {T} name n x (y ∷ xs) other = ap (λ (rest : Option T). cond (bytes_eq (name y) n) (Some y) rest) (first_beside name n x xs other)
-
-first-put : {T : Type 0} (name : T → List ℕ) (n : List ℕ) (x : T) (xs : List T) → AreAscending (map name xs) → first name n (put name x xs) ≡ first name n (xs ++ (x ∷ []))
-unfolding IsStrictlySortedBy
-first-put name n x [] up = refl
-first-put {T} name n x (y ∷ xs) up =
-    by_ordering (compared (name y) (name x))
-    (λ less. rw less (ap (λ (rest : Option T). cond (bytes_eq (name y) n) (Some y) rest) (first-put name n x xs up.1)))
-    (λ equal.
-    let one : name y ≡ name x = same_name (name y) (name x) equal in
-    rw equal (split (bytes_eq (name y) n)
-    (λ met. rw met refl)
-    (λ other. rw other (sym (first_beside name n x xs (subst (λ (k : List ℕ). bytes_eq k n ≡ false) one other))))))
-    (λ greater.
-    let before = reversed (name y) (name x) Greater greater in
-    rw greater (split (bytes_eq (name x) n)
-    (λ met.
-    let one : name x ≡ n = (bytes_eq-Decides (name x) n).0 met in
-    let gone : first name n (y ∷ xs) ≡ None = subst (λ (k : List ℕ). first name k (y ∷ xs) ≡ None) one (none_of name (name x) (y ∷ xs) (before, all_beyond (name y) (name x) (map name xs) before up.0)) in
-    let last : first name n (x ∷ []) ≡ Some x = rw met refl in
-    rw met (sym (find-append (λ z. bytes_eq (name z) n) (y ∷ xs) (x ∷ []) ∙ ap (λ (o : Option T). option_or o (first name n (x ∷ []))) gone ∙ last)))
-    (λ other. rw other (sym (first_beside name n x (y ∷ xs) other)))))
-
-first-put_all : {T : Type 0} (name : T → List ℕ) (n : List ℕ) (ys xs : List T) → AreAscending (map name ys) → first name n (put_all name ys xs) ≡ first name n (ys ++ xs)
-first-put_all {T} name n ys [] up = ap (first name n) (sym (append-nil ys))
-first-put_all {T} name n ys (x ∷ xs) up =
-    first-put_all name n (put name x ys) xs (AreAscending-put name x ys up)
-    ∙ find-append (λ z. bytes_eq (name z) n) (put name x ys) xs
-    ∙ ap (λ (o : Option T). option_or o (first name n xs)) (first-put name n x ys up)
-    ∙ sym (find-append (λ z. bytes_eq (name z) n) (ys ++ (x ∷ [])) xs)
-    ∙ ap (first name n) (append_assoc ys (x ∷ []) xs)
 
 abbrev child : Pair → List ℕ
 child p = p.child

@@ -1,51 +1,9 @@
--- An element that is put at its place: the list with it inserted at its rank, or the list as it was.
-use Rattle.std.proofs.Common.{◌≡◌, ℕ, suc, ◌<◌, ◌≤◌, List, [], ◌∷◌, ◌++◌, map, length, take, drop, get_or, refl, sym, ap, subst, arith, true, false, Less, Equal, Greater, bytes_eq}
+-- Elements put at their places in byte order: what is seen of them, and that their names ascend.
+use Rattle.std.proofs.Common.{◌≡◌, ℕ, suc, ◌<◌, ◌≤◌, List, [], ◌∷◌, ◌++◌, map, length, take, drop, get_or, refl, sym, ap, ◌∙◌, subst, arith, true, false, Less, Equal, Greater, bytes_eq}
 use Rattle.std.proofs.lemmas.Cmp.{nat_list_cmp_total}
 use Rattle.std.specs.List.Sorted.{IsStrictlySortedBy}
-use Rattle.mapping_body.specs.Names.{AreAscending, rank, put, put_all}
+use Rattle.mapping_body.specs.Names.{AreAscending, in_byte_order, put, put_all}
 use Rattle.mapping_body.proofs.Ranks.{by_ordering, is_eq_from, reversed, AllAfter, compared}
-
--- a name that is there already
-pub put_there : {T : Type 0} (name : T → List ℕ) (items : List T) (x y : T)
-    → y ≡ get_or items (rank (name x) (map name items)) y → rank (name x) (map name items) < length items → bytes_eq (name y) (name x) ≡ true
-    → put name x items ≡ items
-put_there name [] x y e h same = absurd (omega arith)
-put_there {T} name (z ∷ items) x y e h same =
-    by_ordering (compared (name z) (name x))
-    (λ less.
-    let fewer : suc (rank (name x) (map name items)) < suc (length items) = rw less at h in
-    rw less (ap (λ (ys : List T). z ∷ ys) (put_there name items x y (rw less at e) (omega arith) same)))
-    (λ equal. rw equal refl)
-    (λ greater.
-    let one : y ≡ z = rw greater at e in
-    let met : bytes_eq (name z) (name x) ≡ true = subst (λ (w : T). bytes_eq (name w) (name x) ≡ true) one same in
-    let not_met = is_eq_from (name z) (name x) Greater greater in
-    cc)
-
--- one that isn't
-pub put_other : {T : Type 0} (name : T → List ℕ) (items : List T) (x y : T)
-    → y ≡ get_or items (rank (name x) (map name items)) y → bytes_eq (name y) (name x) ≡ false
-    → put name x items ≡ take (rank (name x) (map name items)) items ++ x ∷ drop (rank (name x) (map name items)) items
-put_other name [] x y e other = refl
-put_other {T} name (z ∷ items) x y e other =
-    by_ordering (compared (name z) (name x))
-    (λ less. rw less (ap (λ (ys : List T). z ∷ ys) (put_other name items x y (rw less at e) other)))
-    (λ equal.
-    let one : y ≡ z = rw equal at e in
-    let met : bytes_eq (name y) (name x) ≡ true = subst (λ (w : T). bytes_eq (name w) (name x) ≡ true) (sym one) (is_eq_from (name z) (name x) Equal equal) in
-    cc)
-    (λ greater. rw greater refl)
-
-pub put_last : {T : Type 0} (name : T → List ℕ) (items : List T) (x : T) → length items ≤ rank (name x) (map name items)
-    → put name x items ≡ take (rank (name x) (map name items)) items ++ x ∷ drop (rank (name x) (map name items)) items
-put_last name [] x h = refl
-put_last {T} name (z ∷ items) x h =
-    by_ordering (compared (name z) (name x))
-    (λ less.
-    let more : suc (length items) ≤ suc (rank (name x) (map name items)) = rw less at h in
-    rw less (ap (λ (ys : List T). z ∷ ys) (put_last name items x (omega arith))))
-    (λ equal. let none : suc (length items) ≤ 0 = rw equal at h in absurd (omega arith))
-    (λ greater. let none : suc (length items) ≤ 0 = rw greater at h in absurd (omega arith))
 
 -- what is seen of the elements goes with them
 pub map-put : {T U : Type 0} (f : T → U) (name : U → List ℕ) (x : T) (items : List T) → map f (put (λ t. name (f t)) x items) ≡ put name (f x) (map f items)
@@ -89,16 +47,18 @@ pub put_all-append : {T : Type 0} (name : T → List ℕ) (ys xs zs : List T) �
 put_all-append name ys [] zs = refl
 put_all-append name ys (x ∷ xs) zs = put_all-append name (put name x ys) xs zs
 
-pub rank_bound : (n : List ℕ) (names : List (List ℕ)) → rank n names ≤ length names
-rank_bound n [] = omega arith
-rank_bound n (y ∷ names) =
-    by_ordering (compared y n)
-    (λ less. rw less (let more = rank_bound n names in omega (arith, more)))
-    (λ equal. rw equal (omega arith))
-    (λ greater. rw greater (omega arith))
-
 pub ascending_none : {T : Type 0} (name : T → List ℕ) (items : List T) → items ≡ [] → AreAscending (map name items)
 unfolding IsStrictlySortedBy
 ascending_none name items e = rw e tt
 
-pub ruleset puts = (put_there, put_other)
+-- an item before all that are put in stays in front
+pub put_all-after : {T : Type 0} (name : T → List ℕ) (x : T) (ys xs : List T) → AllAfter (name x) (map name xs) → put_all name (x ∷ ys) xs ≡ x ∷ put_all name ys xs
+put_all-after name x ys [] all = refl
+put_all-after name x ys (z ∷ xs) all = rw (all.0) (put_all-after name x (put name z ys) xs all.1)
+
+pub AreAscending-in_byte_order : {T : Type 0} (name : T → List ℕ) (xs : List T) → AreAscending (map name (in_byte_order name xs))
+AreAscending-in_byte_order name xs = AreAscending-put_all name [] xs (ascending_none name [] refl)
+
+pub map-put_all : {T U : Type 0} (f : T → U) (name : U → List ℕ) (ys xs : List T) → map f (put_all (λ t. name (f t)) ys xs) ≡ put_all name (map f ys) (map f xs)
+map-put_all f name ys [] = refl
+map-put_all f name ys (x ∷ xs) = map-put_all f name (put (λ t. name (f t)) x ys) xs ∙ ap (λ zs. put_all name zs (map f xs)) (map-put f name x ys)

@@ -1,12 +1,15 @@
--- The rank of a name among names that ascend.
-use Rattle.std.proofs.Common.{◌≡◌, ℕ, zero, suc, ◌+◌, ◌<◌, ◌≤◌, List, [], ◌∷◌, map, length, take, drop, get_or, refl, sym, ap, ◌∙◌, subst, arith, true, false, ◌&&◌, ◌==◌, Option, Some, None, Ordering, Less, Equal, Greater, nat_cmp, is_eq, bytes_eq}
+-- Names compared, and the search for one among names that ascend.
+use Rattle.std.proofs.Common.{◌≡◌, ℕ, zero, suc, ◌+◌, ◌-◌, ◌<◌, ◌≤◌, inl, inr, List, [], ◌∷◌, ◌++◌, map, length, take, drop, get_or, refl, sym, ap, ◌∙◌, subst, arith, true, false, ◌&&◌, ◌==◌, Option, Some, None, Ordering, Less, Equal, Greater, nat_cmp, is_eq, bytes_eq, Result, Ok, Err}
+use Rattle.std.proofs.lemmas.Bool.{cases_lt}
 use Rattle.std.proofs.lemmas.Cmp.{nat_list_cmp_total}
 use Rattle.std.proofs.lemmas.Map.Text.{is_eq-slice_cmp}
+use Rattle.std.proofs.lemmas.Slice.Eq.{bytes_eq-Decides}
 use Rattle.std.specs.Cmp.Lexicographic.{slice_cmp}
 use Rattle.std.specs.List.{AllByRecursion, position_from}
-use Rattle.std.specs.List.Sorted.{IsStrictlySortedBy}
-use Rattle.std.specs.Ordering.{ordering_reverse, is_lt}
-use Rattle.mapping_body.specs.Names.{AreAscending, rank, goes_on}
+use Rattle.std.specs.List.Sorted.{IsBinarySearchResult, IsNonDecreasingBy, IsPartitionPoint, IsSearchInRange, IsStrictlySortedBy}
+use Rattle.std.specs.Result.{result_ok}
+use Rattle.std.specs.Ordering.{ordering_index, ordering_reverse}
+use Rattle.mapping_body.specs.Names.{AreAscending, goes_on, place_of, put}
 
 abbrev pub compared : List ℕ → List ℕ → Ordering
 compared = slice_cmp nat_cmp
@@ -15,56 +18,11 @@ compared = slice_cmp nat_cmp
 abbrev pub AllAfter : List ℕ → List (List ℕ) → Type 0
 AllAfter k names = AllByRecursion (λ y. compared k y ≡ Less) names
 
-after_at : (k : List ℕ) (names : List (List ℕ)) (i : ℕ) → AllAfter k names → i < length names → compared k (get_or names i []) ≡ Less
-after_at k [] i all h = absurd (omega arith)
-after_at k (x ∷ names) zero all h = all.0
-after_at k (x ∷ names) (suc i) all h = let more : i < length names = omega arith in after_at k names i all.1 more
-
-less_from : (o : Ordering) → is_lt o ≡ true → o ≡ Less
-less_from Less h = refl
-less_from Equal h = cc
-less_from Greater h = cc
-
-all_after-take : {T : Type 0} (name : T → List ℕ) (k : List ℕ) (items : List T) (i : ℕ) → AllAfter k (map name items) → AllAfter k (map name (take i items))
-all_after-take name k [] zero all = tt
-all_after-take name k [] (suc i) all = tt
-all_after-take name k (x ∷ items) zero all = tt
-all_after-take name k (x ∷ items) (suc i) all = (all.0, all_after-take name k items i all.1)
-
-item_after : {T : Type 0} (name : T → List ℕ) (k : List ℕ) (items : List T) (i : ℕ) (x : T) → AllAfter k (map name items) → i < length items → x ≡ get_or items i x → compared k (name x) ≡ Less
-item_after name k [] i x all h e = absurd (omega arith)
-item_after {T} name k (y ∷ items) zero x all h e = subst (λ (z : T). compared k (name z) ≡ Less) (sym e) all.0
-item_after name k (y ∷ items) (suc i) x all h e = let more : i < length items = omega arith in item_after name k items i x all.1 more e
-
--- where the name at place i comes before a name, so do those before it
-pub rank_right : {T : Type 0} (name : T → List ℕ) (items : List T) (i : ℕ) (x : T) (n : List ℕ) → AreAscending (map name items) → i < length items → x ≡ get_or items i x → is_lt (compared (name x) n) ≡ true
-    → AreAscending (map name (drop (i + 1) items)) × (rank n (map name items) ≡ i + 1 + rank n (map name (drop (i + 1) items)))
-unfolding IsStrictlySortedBy
-rank_right name [] i x n up h e less = absurd (omega arith)
-rank_right {T} name (y ∷ items) zero x n up h e less =
-    let first : is_lt (compared (name y) n) ≡ true = subst (λ (z : T). is_lt (compared (name z) n) ≡ true) e less in
-    (up.1, rw first (omega arith))
-rank_right name (y ∷ items) (suc i) x n up h e less =
-    let more : i < length items = omega arith in
-    let below = nat_list_cmp_total.trans (name y) (name x) n (item_after name (name y) items i x up.0 more e) (less_from _ less) in
-    let rest = rank_right name items i x n up.1 more e less in
-    let step : suc i + 1 ≡ suc (i + 1) = omega arith in
-    rw step (rest.0, rw (below, rest.1) (omega arith))
-
--- where it doesn't, no name from there on counts
-pub rank_left : {T : Type 0} (name : T → List ℕ) (items : List T) (i : ℕ) (x : T) (n : List ℕ) → AreAscending (map name items) → i < length items → x ≡ get_or items i x → is_lt (compared (name x) n) ≡ false
-    → AreAscending (map name (take i items)) × (rank n (map name items) ≡ rank n (map name (take i items)))
-unfolding IsStrictlySortedBy
-rank_left name [] i x n up h e less = absurd (omega arith)
-rank_left {T} name (y ∷ items) zero x n up h e less =
-    let first : is_lt (compared (name y) n) ≡ false = subst (λ (z : T). is_lt (compared (name z) n) ≡ false) e less in
-    (tt, rw first refl)
-rank_left name (y ∷ items) (suc i) x n up h e less =
-    let more : i < length items = omega arith in
-    let rest = rank_left name items i x n up.1 more e less in
-    ((all_after-take name (name y) items i up.0, rest.0), rw rest.1 refl)
-
--- ---- the place of a name is its rank, if the name there is the same
+-- the three answers of a comparison
+pub by_ordering : {G : Type 0} (o : Ordering) → (o ≡ Less → G) → (o ≡ Equal → G) → (o ≡ Greater → G) → G
+by_ordering Less less equal greater = less refl
+by_ordering Equal less equal greater = equal refl
+by_ordering Greater less equal greater = greater refl
 
 pub is_eq_from : (k n : List ℕ) (o : Ordering) → compared k n ≡ o → bytes_eq k n ≡ is_eq o
 is_eq_from k n o h = sym (is_eq-slice_cmp k n) ∙ ap is_eq h
@@ -72,62 +30,95 @@ is_eq_from k n o h = sym (is_eq-slice_cmp k n) ∙ ap is_eq h
 pub reversed : (x y : List ℕ) (o : Ordering) → compared x y ≡ o → compared y x ≡ ordering_reverse o
 reversed x y o h = nat_list_cmp_total.antisymm y x ∙ ap ordering_reverse h
 
-abbrev placed_from : ℕ → List ℕ → List (List ℕ) → Option ℕ
-placed_from at n names = position_from (λ other. bytes_eq other n) at names
+pub same_name : (x y : List ℕ) → compared x y ≡ Equal → x ≡ y
+same_name x y e = (bytes_eq-Decides x y).0 (is_eq_from x y Equal e)
 
-none_after : (at : ℕ) (n k : List ℕ) (names : List (List ℕ)) → compared n k ≡ Less → AllAfter k names → placed_from at n names ≡ None
-none_after at n k [] less all = refl
-none_after at n k (x ∷ names) less all =
-    let above = nat_list_cmp_total.trans n k x less all.0 in
-    rw (is_eq_from x n Greater (reversed n x Less above)) (none_after (at + 1) n k names less all.1)
+-- ---- names that ascend stand to a name first as less, then as equal, then as greater
 
--- the three answers of a comparison
-pub by_ordering : {G : Type 0} (o : Ordering) → (o ≡ Less → G) → (o ≡ Equal → G) → (o ≡ Greater → G) → G
-by_ordering Less less equal greater = less refl
-by_ordering Equal less equal greater = equal refl
-by_ordering Greater less equal greater = greater refl
+index_rises : (a b n : List ℕ) → compared a b ≡ Less → ordering_index (compared a n) ≤ ordering_index (compared b n)
+index_rises a b n less =
+    by_ordering (compared b n)
+    (λ near. rw (nat_list_cmp_total.trans a b n less near, near) (omega arith))
+    (λ equal. let far : compared a n ≡ Less = subst (λ (k : List ℕ). compared a k ≡ Less) (same_name b n equal) less in rw (far, equal) (omega arith))
+    (λ beyond. by_ordering (compared a n)
+    (λ e. rw (e, beyond) (omega arith))
+    (λ e. rw (e, beyond) (omega arith))
+    (λ e. rw (e, beyond) (omega arith)))
 
-pub place_found : {T : Type 0} (name : T → List ℕ) (items : List T) (x : T) (n : List ℕ) (at : ℕ) → AreAscending (map name items)
-    → rank n (map name items) < length items → x ≡ get_or items (rank n (map name items)) x → bytes_eq (name x) n ≡ true
-    → placed_from at n (map name items) ≡ Some (at + rank n (map name items))
+module _ {T : Type 0} (name : T → List ℕ) (n : List ℕ) where
+  item_after : (k : List ℕ) (items : List T) (i : ℕ) (d : T) → AllAfter k (map name items) → i < length items → compared k (name (get_or items i d)) ≡ Less
+  item_after k [] i d all h = absurd (omega arith)
+  item_after k (x ∷ items) zero d all h = all.0
+  item_after k (x ∷ items) (suc i) d all h = item_after k items i d all.1 (omega arith)
+
+  pub rises : (items : List T) → AreAscending (map name items) → IsNonDecreasingBy (λ y. ordering_index (compared (name y) n)) items
+  unfolding IsStrictlySortedBy
+  rises [] up i j d h less = absurd (omega arith)
+  rises (x ∷ items) up zero zero d h less = omega arith
+  rises (x ∷ items) up zero (suc j) d h less = index_rises (name x) (name (get_or items j d)) n (item_after (name x) items j d up.0 (omega arith))
+  rises (x ∷ items) up (suc i) zero d h less = absurd (omega arith)
+  rises (x ∷ items) up (suc i) (suc j) d h less = rises items up.1 i j d (omega arith) (omega arith)
+
+  -- ---- where the search comes to
+
+  abbrev IsHere : List T → ℕ → Type 0
+  IsHere items i = (d : T) → compared (name (get_or items i d)) n ≡ Equal
+
+  abbrev pub IsBetween : List T → ℕ → Type 0
+  IsBetween items i = IsPartitionPoint (λ y. compared (name y) n ≡ Less) (λ y. compared (name y) n ≡ Greater) items i
+
+  before : (y : T) (items : List T) (i : ℕ) → AreAscending (map name (y ∷ items)) → i < length items → IsHere items i → compared (name y) n ≡ Less
+  unfolding IsStrictlySortedBy
+  before y items i up h here = subst (λ (k : List ℕ). compared (name y) k ≡ Less) (same_name (name (get_or items i y)) n (here y)) (item_after (name y) items i y up.0 h)
+
+  found_from : (items : List T) (at i : ℕ) → AreAscending (map name items) → i < length items → IsHere items i → position_from (λ other. bytes_eq other n) at (map name items) ≡ Some (at + i)
+  unfolding IsStrictlySortedBy
+  found_from [] at i up h here = absurd (omega arith)
+  found_from (y ∷ items) at zero up h here = rw (is_eq_from (name y) n Equal (here y)) (ap Some (omega arith))
+  found_from (y ∷ items) at (suc i) up h here =
+      let less = before y items i up (omega arith) here in
+      let step : at + 1 + i ≡ at + suc i = omega arith in
+      rw (is_eq_from (name y) n Less less) (found_from items (at + 1) i up.1 (omega arith) here ∙ ap Some step)
+
+  pub found : (items : List T) (i : ℕ) → AreAscending (map name items) → i < length items → IsHere items i → place_of n (map name items) ≡ Some i
+  found items i up h here = let start : 0 + i ≡ i = omega arith in found_from items 0 i up h here ∙ ap Some start
+
+  absent_from : (items : List T) (at i : ℕ) → IsBetween items i → position_from (λ other. bytes_eq other n) at (map name items) ≡ None
+  absent_from [] at i point = refl
+  absent_from (y ∷ items) at zero point =
+      rw (is_eq_from (name y) n Greater (point.1 0 y (omega arith) (omega arith)))
+      (absent_from items (at + 1) 0 ((λ k d h less. absurd (omega arith)), (λ k d h less. point.1 (suc k) d (omega arith) (omega arith))))
+  absent_from (y ∷ items) at (suc i) point =
+      rw (is_eq_from (name y) n Less (point.0 0 y (omega arith) (omega arith)))
+      (absent_from items (at + 1) i ((λ k d h less. point.0 (suc k) d (omega arith) (omega arith)), (λ k d h less. point.1 (suc k) d (omega arith) (omega arith))))
+
+  pub absent : (items : List T) (i : ℕ) → IsBetween items i → place_of n (map name items) ≡ None
+  absent items i point = absent_from items 0 i point
+
+-- the answer of a binary search
+pub place_by : {T : Type 0} (name : T → List ℕ) (n : List ℕ) (items : List T) (r : Result ℕ ℕ) → AreAscending (map name items) → IsSearchInRange r (length items)
+    → IsBinarySearchResult (λ y. compared (name y) n) items r → result_ok r ≡ place_of n (map name items)
+place_by name n items (Ok i) up within is = sym (found name n items i up within is)
+place_by name n items (Err i) up within is = sym (absent name n items i (is (rises name n items up)))
+
+-- ---- what is put in stands there, or is there already
+
+pub put_there : {T : Type 0} (name : T → List ℕ) (x : T) (items : List T) (i : ℕ) → AreAscending (map name items) → i < length items → ((d : T) → compared (name (get_or items i d)) (name x) ≡ Equal) → put name x items ≡ items
 unfolding IsStrictlySortedBy
-place_found name [] x n at up h e same = absurd (omega arith)
-place_found {T} name (y ∷ items) x n at up h e same =
-    let at_head = λ (out : is_lt (compared (name y) n) ≡ false).
-    let first : bytes_eq (name y) n ≡ true = subst (λ (z : T). bytes_eq (name z) n ≡ true) (rw out at e) same in
-    let last : placed_from at n (map name (y ∷ items)) ≡ Some (at + rank n (map name (y ∷ items))) = rw (first, out) (ap Some (omega arith)) in last in
-    by_ordering (compared (name y) n)
-    (λ less.
-    let fewer : suc (rank n (map name items)) < suc (length items) = rw less at h in
-    let step : at + 1 + rank n (map name items) ≡ at + suc (rank n (map name items)) = omega arith in
-    rw (less, is_eq_from (name y) n Less less) (place_found name items x n (at + 1) up.1 (omega arith) (rw less at e) same ∙ ap Some step))
-    (λ equal. at_head (rw equal refl))
-    (λ greater. at_head (rw greater refl))
+put_there name x [] i up h here = absurd (omega arith)
+put_there name x (y ∷ items) zero up h here = rw (here y) refl
+put_there {T} name x (y ∷ items) (suc i) up h here =
+    let less : compared (name y) (name x) ≡ Less = subst (λ (k : List ℕ). compared (name y) k ≡ Less) (same_name (name (get_or items i y)) (name x) (here y)) (item_after name (name x) (name y) items i y up.0 (omega arith)) in
+    rw less (ap (λ (ys : List T). y ∷ ys) (put_there name x items i up.1 (omega arith) here))
 
-pub place_absent : {T : Type 0} (name : T → List ℕ) (items : List T) (x : T) (n : List ℕ) (at : ℕ) → AreAscending (map name items)
-    → x ≡ get_or items (rank n (map name items)) x → bytes_eq (name x) n ≡ false
-    → placed_from at n (map name items) ≡ None
-unfolding IsStrictlySortedBy
-place_absent name [] x n at up e other = refl
-place_absent {T} name (y ∷ items) x n at up e other =
-    by_ordering (compared (name y) n)
-    (λ less. rw (is_eq_from (name y) n Less less) (place_absent name items x n (at + 1) up.1 (rw less at e) other))
-    (λ equal.
-    let same : x ≡ y = rw equal at e in
-    let met : bytes_eq (name x) n ≡ true = subst (λ (z : T). bytes_eq (name z) n ≡ true) (sym same) (is_eq_from (name y) n Equal equal) in
-    cc)
-    (λ greater. rw (is_eq_from (name y) n Greater greater) (none_after (at + 1) n (name y) (map name items) (reversed (name y) n Greater greater) up.0))
-
-pub place_past : {T : Type 0} (name : T → List ℕ) (items : List T) (n : List ℕ) (at : ℕ) → length items ≤ rank n (map name items)
-    → placed_from at n (map name items) ≡ None
-place_past name [] n at h = refl
-place_past name (y ∷ items) n at h =
-    by_ordering (compared (name y) n)
-    (λ less.
-    let more : suc (length items) ≤ suc (rank n (map name items)) = rw less at h in
-    rw (is_eq_from (name y) n Less less) (place_past name items n (at + 1) (omega arith)))
-    (λ equal. let none : suc (length items) ≤ 0 = rw equal at h in absurd (omega arith))
-    (λ greater. let none : suc (length items) ≤ 0 = rw greater at h in absurd (omega arith))
+pub put_between : {T : Type 0} (name : T → List ℕ) (x : T) (items : List T) (i : ℕ) → IsPartitionPoint (λ y. compared (name y) (name x) ≡ Less) (λ y. compared (name y) (name x) ≡ Greater) items i → i ≤ length items
+    → put name x items ≡ take i items ++ x ∷ drop i items
+put_between name x [] zero point h = refl
+put_between name x [] (suc i) point h = absurd (omega arith)
+put_between name x (y ∷ items) zero point h = rw (point.1 0 y (omega arith) (omega arith)) refl
+put_between {T} name x (y ∷ items) (suc i) point h =
+    rw (point.0 0 y (omega arith) (omega arith))
+    (ap (λ (ys : List T). y ∷ ys) (put_between name x items i ((λ k d a less. point.0 (suc k) d (omega arith) (omega arith)), (λ k d a less. point.1 (suc k) d (omega arith) (omega arith))) (omega arith)))
 
 -- ---- a path that is too short doesn't go on
 pub goes_on_short : (above path : List ℕ) → length path ≤ length above → goes_on above path ≡ false
@@ -137,5 +128,3 @@ goes_on_short (a ∷ above) [] h = refl
 goes_on_short (a ∷ above) (b ∷ path) h = let e : goes_on above path ≡ false = goes_on_short above path (omega arith) in rw e (elim (a == b) as (λ t. (t && false) ≡ false) [ true ↦ refl | false ↦ refl ])
 
 pub ruleset paths = (goes_on_short)
-
-pub ruleset ranks = (rank_right, rank_left)

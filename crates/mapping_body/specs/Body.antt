@@ -14,14 +14,22 @@ is_flag v = false
 abbrev pub has : Members → List ℕ → Bool
 has ms name = is_some (member_of ms name)
 
+-- every element, and every member, passes a test
+abbrev pub each_element : (JsonValue → Bool) → Elements → Bool
+each_element test no_elements = true
+each_element test (element d ds) = test d && each_element test ds
+
+abbrev pub each_member : (List ℕ → JsonValue → Bool) → Members → Bool
+each_member test no_members = true
+each_member test (member k d ms) = test k d && each_member test ms
+
 -- a table of the names that a form takes, each with the test of its value
 abbrev pub Taken : Type 0
 Taken = List (List ℕ × (JsonValue → Bool))
 
 -- each member has a name of the table and passes its test
 abbrev pub are_taken : Taken → Members → Bool
-are_taken table no_members = true
-are_taken table (member k d ms) = list_any (λ t. bytes_eq k t.0 && t.1 d) table && are_taken table ms
+are_taken table ms = each_member (λ name value. list_any (λ t. bytes_eq name t.0 && t.1 value) table) ms
 
 -- ---- the form of a property
 
@@ -49,28 +57,19 @@ abbrev pub is_child : JsonValue → Bool
 is_child (text name) = is_name name
 is_child v = false
 
-abbrev pub are_children_in : Elements → Bool
-are_children_in no_elements = true
-are_children_in (element d ds) = is_child d && are_children_in ds
-
 abbrev pub are_children : JsonValue → Bool
 are_children (text name) = is_name name
 are_children (list no_elements) = false
-are_children (list (element d ds)) = is_child d && are_children_in ds
+are_children (list (element d ds)) = each_element is_child (element d ds)
 are_children v = false
 
-abbrev pub are_relations_in : Members → Bool
-are_relations_in no_members = true
-are_relations_in (member k d ms) = is_name k && are_children d && are_relations_in ms
-
 abbrev pub are_relations : JsonValue → Bool
-are_relations (object ms) = are_relations_in ms
+are_relations (object ms) = each_member (λ name children. is_name name && are_children children) ms
 are_relations v = false
 
 -- `properties` is an object whose names are names of properties
 abbrev pub are_property_names : Members → Bool
-are_property_names no_members = true
-are_property_names (member k d ms) = is_property_name k && are_property_names ms
+are_property_names ms = each_member (λ name _. is_property_name name) ms
 
 abbrev pub are_properties : JsonValue → Bool
 are_properties (object ms) = are_property_names ms

@@ -5,6 +5,7 @@ use Rattle.std.specs.List.Sorted.{IsStrictlySortedBy}
 use Rattle.std.specs.Ordering.{nat_cmp, is_lt}
 use Rattle.std.specs.Str.{bytes_eq}
 use Rattle.std.specs.Cmp.Lexicographic.{slice_cmp}
+use Rattle.mapping_body.specs.declared.refusal.TheConstants.{MOST_NAME_BYTES}
 use Rattle.std.specs.declared.cmp.Ordering.{Ordering}
 use Rattle.std.specs.declared.cmp.Ordering.TheVariants.{Less, Equal, Greater}
 
@@ -15,9 +16,9 @@ dot = 46
 abbrev pub has_dot : List ℕ → Bool
 has_dot name = list_any (λ byte. byte == dot) name
 
--- a name of a property or a relation has 1 to 255 bytes
+-- a name of a property or a relation has 1 to MOST_NAME_BYTES bytes
 abbrev pub is_name : List ℕ → Bool
-is_name name = nat_le 1 (length name) && nat_le (length name) 255
+is_name name = nat_le 1 (length name) && nat_le (length name) MOST_NAME_BYTES
 
 -- and that of a property has no dot, so that a path can be taken apart again
 abbrev pub is_property_name : List ℕ → Bool
@@ -99,8 +100,3 @@ is_among names name = is_some (place_of name names)
 
 abbrev pub AreAscending : List (List ℕ) → Type 0
 AreAscending names = IsStrictlySortedBy (slice_cmp nat_cmp) names
-
--- how many names at the front come before a name
-abbrev pub rank : List ℕ → List (List ℕ) → ℕ
-rank name [] = 0
-rank name (other ∷ names) = if is_lt (slice_cmp nat_cmp other name) then suc (rank name names) else 0

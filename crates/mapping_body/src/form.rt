@@ -1,10 +1,11 @@
 //! The form of a mapping body.
 ghost use Rattle.std.specs.Prelude.{◌≡◌, ◌&&◌, ℕ, List, codes, Option, option_map};
-ghost use Rattle.std.specs.List.{list_any};
+ghost use Rattle.std.specs.List.{list_all, list_any};
 ghost use Rattle.std.specs.Str.{bytes_eq};
 ghost use Rattle.tree_json.specs.Value.{members_of, elements_of, member_of};
 ghost use Rattle.tree_json.specs.View.{view, values, entries};
-ghost use Rattle.mapping_body.specs.Body.{kind_named, kind_in, kind_of, is_child, are_children_in, are_children, are_relations_in, are_relations, are_property_names, are_properties, property_takes, takes_type, are_taken, has, has_needed, is_property, is_flag, is_index_name, body_takes, is_body_alone, member_named, is_true, is_nested, is_join, index_of};
+ghost use Rattle.mapping_body.specs.Names.{is_name, is_property_name};
+ghost use Rattle.mapping_body.specs.Body.{kind_named, kind_in, kind_of, is_child, are_children, are_relations, are_properties, property_takes, takes_type, are_taken, has, has_needed, is_property, is_flag, is_index_name, body_takes, is_body_alone, member_named, is_true, is_nested, is_join, index_of};
 
 use crate::kind::Kind;
 use crate::names::{is_name, is_property_name};
@@ -14,30 +15,16 @@ use tree_json::{Json, JsonObject, JsonText};
 fn kind_named(word: &[u8]) -> Option<Kind>
     ensures { result ≡ kind_named word.now }
 {
-    if word == b"text".as_slice() {
-        Some(Kind::Text)
-    } else if word == b"keyword".as_slice() {
-        Some(Kind::Keyword)
-    } else if word == b"boolean".as_slice() {
-        Some(Kind::Boolean)
-    } else if word == b"date".as_slice() {
-        Some(Kind::Date)
-    } else if word == b"long".as_slice() {
-        Some(Kind::Long)
-    } else if word == b"integer".as_slice() {
-        Some(Kind::Long)
-    } else if word == b"short".as_slice() {
-        Some(Kind::Long)
-    } else if word == b"byte".as_slice() {
-        Some(Kind::Long)
-    } else if word == b"object".as_slice() {
-        Some(Kind::Object)
-    } else if word == b"nested".as_slice() {
-        Some(Kind::Nested)
-    } else if word == b"join".as_slice() {
-        Some(Kind::Join)
-    } else {
-        None
+    match word {
+        b"text" => Some(Kind::Text),
+        b"keyword" => Some(Kind::Keyword),
+        b"boolean" => Some(Kind::Boolean),
+        b"date" => Some(Kind::Date),
+        b"long" | b"integer" | b"short" | b"byte" => Some(Kind::Long),
+        b"object" => Some(Kind::Object),
+        b"nested" => Some(Kind::Nested),
+        b"join" => Some(Kind::Join),
+        _ => None,
     }
 }
 
@@ -71,62 +58,52 @@ fn is_child(value: &Json) -> bool
     }
 }
 
-fn are_children_in(elements: &[Json]) -> bool
-    ensures { result ≡ are_children_in (elements_of (values elements.now)) }
+fn are_child_names(elements: &[Json]) -> bool
+    ensures { result ≡ list_all (λ e. is_child (view e)) elements.now }
 {
-    'elements: for element in elements {
-        if !is_child(element) {
-            return false;
-        }
-    }
-    true
+    elements.iter().all(|element| is_child(element))
 }
 
 /// Whether a value is one name of a child, or a list of some.
+#[tactic(auto, using(crate::proofs::Members::each))]
 fn are_children(value: &Json) -> bool
     ensures { result ≡ are_children (view value.now) }
 {
     match value {
         Json::Text(name) => is_name(name.as_slice()),
-        Json::List(list) => match list.as_slice() {
-            [] => false,
-            [first, rest @ ..] => is_child(first) && are_children_in(rest),
-        },
+        Json::List(list) => {
+            let elements = list.as_slice();
+            !elements.is_empty() && are_child_names(elements)
+        }
         _ => false,
     }
 }
 
-fn are_relations_in(members: &[(JsonText, Json)]) -> bool
-    ensures { result ≡ are_relations_in (members_of (entries members.now)) }
+fn are_parents(members: &[(JsonText, Json)]) -> bool
+    ensures { result ≡ list_all (λ m. is_name m.0 && are_children (view m.1)) members.now }
 {
-    'members: for (name, value) in members {
-        if !is_name(name.as_slice()) || !are_children(value) {
-            return false;
-        }
-    }
-    true
+    members.iter().all(|(name, children)| is_name(name.as_slice()) && are_children(children))
 }
 
+#[tactic(auto, using(crate::proofs::Members::each))]
 fn are_relations(value: &Json) -> bool
     ensures { result ≡ are_relations (view value.now) }
 {
     match value {
-        Json::Object(object) => are_relations_in(object.as_slice()),
+        Json::Object(object) => are_parents(object.as_slice()),
         _ => false,
     }
 }
 
 fn are_property_names(members: &[(JsonText, Json)]) -> bool
-    ensures { result ≡ are_property_names (members_of (entries members.now)) }
+    ensures { result ≡ list_all (λ m. is_property_name m.0) members.now }
 {
-    'members: for (name, _) in members {
-        if !is_property_name(name.as_slice()) {
-            return false;
-        }
-    }
-    true
+    members
+        .iter()
+        .all(|(name, _)| is_property_name(name.as_slice()))
 }
 
+#[tactic(auto, using(crate::proofs::Members::each))]
 fn are_properties(value: &Json) -> bool
     ensures { result ≡ are_properties (view value.now) }
 {
@@ -171,14 +148,11 @@ fn takes(kind: Kind, name: &[u8], value: &Json) -> bool
 }
 
 fn each_taken(kind: Kind, members: &[(JsonText, Json)]) -> bool
-    ensures { result ≡ are_taken (takes_type (property_takes kind)) (members_of (entries members.now)) }
+    ensures { result ≡ list_all (λ m. list_any (λ t. bytes_eq m.0 t.0 && t.1 (view m.1)) (takes_type (property_takes kind))) members.now }
 {
-    'members: for (name, value) in members {
-        if !takes(kind, name.as_slice(), value) {
-            return false;
-        }
-    }
-    true
+    members
+        .iter()
+        .all(|(name, value)| takes(kind, name.as_slice(), value))
 }
 
 fn has(object: &JsonObject, name: &[u8]) -> bool
@@ -198,6 +172,7 @@ fn has_needed(kind: Kind, form: &JsonObject) -> bool
 }
 
 /// Whether a value has the form of a property, what stands below it left aside.
+#[tactic(auto, using(crate::proofs::Members::each))]
 pub fn is_property(form: &Json) -> bool
     ensures { result ≡ is_property (view form.now) }
 {
@@ -230,17 +205,15 @@ fn body_takes(name: &[u8], value: &Json) -> bool
 }
 
 fn each_taken_in_body(members: &[(JsonText, Json)]) -> bool
-    ensures { result ≡ are_taken body_takes (members_of (entries members.now)) }
+    ensures { result ≡ list_all (λ m. list_any (λ t. bytes_eq m.0 t.0 && t.1 (view m.1)) body_takes) members.now }
 {
-    'members: for (name, value) in members {
-        if !body_takes(name.as_slice(), value) {
-            return false;
-        }
-    }
-    true
+    members
+        .iter()
+        .all(|(name, value)| body_takes(name.as_slice(), value))
 }
 
 /// Whether a value has the form of a mapping body, its properties left aside.
+#[tactic(auto, using(crate::proofs::Members::each))]
 pub fn is_body_alone(body: &Json) -> bool
     ensures { result ≡ is_body_alone (view body.now) }
 {
@@ -283,17 +256,11 @@ pub fn index_of(body: &Json) -> &[u8]
 pub fn is_nested(kind: Kind) -> bool
     ensures { result ≡ is_nested kind }
 {
-    match kind {
-        Kind::Nested => true,
-        _ => false,
-    }
+    matches!(kind, Kind::Nested)
 }
 
 pub fn is_join(kind: Kind) -> bool
     ensures { result ≡ is_join kind }
 {
-    match kind {
-        Kind::Join => true,
-        _ => false,
-    }
+    matches!(kind, Kind::Join)
 }

@@ -21,11 +21,12 @@ pub use form::{
 };
 pub use kind::{Kind, is_same_kind};
 pub use names::{
-    Below, Named, Sought, Whole, dot_count, has_dot, joined, lies_above, number_among, place_of,
-    put,
+    Below, Named, Sought, Whole, dot_count, has_dot, is_name, is_property_name, joined, lies_above,
+    number_among, place_of, put,
 };
 pub use order::{in_byte_order, order_from};
 pub use pair::{Pair, has_two_parents, lacks_names, pairs_of_said, parent_in};
 pub use refusal::{
-    Limit, MOST_BODIES, MOST_BYTES, MOST_FIELDS, MOST_NAMES, MOST_NESTED, MappingRefusal, NoMemory,
+    Limit, MOST_BODIES, MOST_BYTES, MOST_FIELDS, MOST_NAME_BYTES, MOST_NAMES, MOST_NESTED,
+    MappingRefusal, NoMemory,
 };

@@ -4,9 +4,9 @@ ghost use Rattle.std.specs.Cmp.Lexicographic.{slice_cmp};
 ghost use Rattle.std.specs.Ordering.{nat_cmp};
 ghost use Rattle.std.specs.List.{All};
 ghost use Rattle.mapping_body.specs.Order.{IsOrderFrom, name_at};
-ghost use Rattle.mapping_body.specs.Names.{dot_count, AreAscending, rank, dot, joined, lies_above, goes_on, has_dot, is_name, is_property_name, place_of, put};
+ghost use Rattle.mapping_body.specs.Names.{dot_count, AreAscending, dot, joined, lies_above, goes_on, has_dot, is_name, is_property_name, place_of, put};
 
-use crate::refusal::NoMemory;
+use crate::refusal::{MOST_NAME_BYTES, NoMemory};
 use std::alloc::Global;
 use std::cmp::Ordering;
 
@@ -87,67 +87,25 @@ fn order_behind(rest: &[u8], name: &[u8]) -> Ordering
     }
 }
 
-/// How many items at the front have a name before the one looked for. It takes about log2 of their number comparisons.
-#[tactic(auto, using(crate::proofs::Ranks::ranks))]
-pub fn rank_of<T: Named, S: Sought>(items: &[T], sought: &S) -> usize
-    requires { AreAscending (map T.name items.now) }
-    ensures { result ≡ rank (S.sought sought.now) (map T.name items.now) }
-{
-    let mut low = 0;
-    let mut left = items;
-    'halves: while !left.is_empty() {
-        let middle = left.len() / 2;
-        if sought.order_of(left[middle].name()).is_lt() {
-            low += middle + 1;
-            left = left.split_at(middle + 1).1;
-        } else {
-            left = left.split_at(middle).0;
-        }
-    }
-    low
-}
-
-/// The place of a name.
+/// The place of a name, found in about log2 of their number comparisons.
 pub fn place_of<T: Named, S: Sought>(items: &[T], sought: &S) -> Option<usize>
     requires { AreAscending (map T.name items.now) }
     ensures place { result ≡ place_of (S.sought sought.now) (map T.name items.now) }
     ensures bound { IfSome result (λ place. place < length items.now) }
 {
-    let place = rank_of(items, sought);
-    if place < items.len() && sought.order_of(items[place].name()).is_eq() {
-        Some(place)
-    } else {
-        None
-    }
+    items
+        .binary_search_by(|item| sought.order_of(item.name()))
+        .ok()
 }
 
-/// The name of an item by its number.
+/// The name of an item by its number, and the empty name past the end.
 fn name_at<T: Named>(items: &[T], number: u32) -> &[u8]
-    requires { number < length items.now }
     ensures { result.now ≡ name_at (map T.name items.now) number }
 {
-    items[number as usize].name()
-}
-
-/// How many numbers in an order by names stand before the name looked for.
-#[tactic(auto, using(crate::proofs::Ranks::ranks))]
-fn rank_among<T: Named, S: Sought>(items: &[T], order: &[u32], sought: &S) -> usize
-    requires ascending { AreAscending (map (name_at (map T.name items.now)) order.now) }
-    requires in_range { All (λ (n : ℕ). n < length items.now) order.now }
-    ensures { result ≡ rank (S.sought sought.now) (map (name_at (map T.name items.now)) order.now) }
-{
-    let mut low = 0;
-    let mut left = order;
-    'halves: while !left.is_empty() {
-        let middle = left.len() / 2;
-        if sought.order_of(name_at(items, left[middle])).is_lt() {
-            low += middle + 1;
-            left = left.split_at(middle + 1).1;
-        } else {
-            left = left.split_at(middle).0;
-        }
+    match items.get(number as usize) {
+        Some(item) => item.name(),
+        None => b"",
     }
-    low
 }
 
 /// The number of a name among items, by their numbers in byte order of the names.
@@ -156,11 +114,9 @@ pub fn number_among<T: Named, S: Sought>(items: &[T], order: &[u32], sought: &S)
     ensures place { result ≡ place_of (S.sought sought.now) (map T.name items.now) }
     ensures bound { IfSome result (λ number. number < length items.now) }
 {
-    let rank = rank_among(items, order, sought);
-    if rank < order.len() && sought.order_of(name_at(items, order[rank])).is_eq() {
-        Some(order[rank])
-    } else {
-        None
+    match order.binary_search_by(|number| sought.order_of(name_at(items, *number))) {
+        Ok(place) => Some(order[place]),
+        Err(_) => None,
     }
 }
 
@@ -170,12 +126,13 @@ pub fn put<T: Named + Drop>(items: &mut Vec<T>, item: T) -> Result<(), NoMemory>
     ensures put { OnOk result (items.new.items ≡ put T.name item items.old.items) }
     ensures ascending { OnOk result (AreAscending (map T.name items.new.items)) }
 {
-    let place = rank_of(items.as_slice(), &Whole { name: item.name() });
-    if place < items.len() && items[place].name() == item.name() {
-        return Ok(());
+    match items.binary_search_by(|other| other.name().cmp(item.name())) {
+        Ok(_) => Ok(()),
+        Err(place) => {
+            items.insert(place, item)?;
+            Ok(())
+        }
     }
-    items.insert(place, item)?;
-    Ok(())
 }
 
 /// The path of a name below a path: a dot joins them, and the root's path is empty.
@@ -218,11 +175,11 @@ fn goes_on(above: &[u8], path: &[u8]) -> bool
     path[above.len()] == DOT
 }
 
-/// Whether a name has 1 to 255 bytes.
+/// Whether a name has 1 to `MOST_NAME_BYTES` bytes.
 pub fn is_name(name: &[u8]) -> bool
     ensures { result ≡ is_name name.now }
 {
-    !name.is_empty() && name.len() <= 255
+    !name.is_empty() && name.len() <= MOST_NAME_BYTES
 }
 
 /// Whether a name has a dot.
@@ -239,7 +196,7 @@ pub fn dot_count(path: &[u8]) -> usize
     path.iter().filter(|byte| **byte == DOT).count()
 }
 
-/// Whether a name may be a property's: 1 to 255 bytes and no dot.
+/// Whether a name may be a property's: 1 to `MOST_NAME_BYTES` bytes and no dot.
 pub fn is_property_name(name: &[u8]) -> bool
     ensures { result ≡ is_property_name name.now }
 {

@@ -18,6 +18,9 @@ impl<T: Drop> From<AllocFailed<T>> for NoMemory {
     }
 }
 
+/// The most bytes of the name of a property or of a relation.
+pub const MOST_NAME_BYTES: usize = 255;
+
 /// The most properties that bodies may have together.
 pub const MOST_FIELDS: usize = 1_000;
 

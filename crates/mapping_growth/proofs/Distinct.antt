@@ -13,7 +13,7 @@ use Rattle.mapping_body.specs.Order.{AreDistinct, name_at}
 use Rattle.mapping_body.specs.Pairs.{Pair, pairs_of}
 use Rattle.mapping_growth.specs.Relations.{Relation, names_added, names_in_pairs, relation_by, relation_names, relations_added, relations_from, relations_of}
 use Rattle.mapping_body.proofs.Ascending.{ascend_filter, place_by_same}
-use Rattle.mapping_body.proofs.Merges.{AreAscending-in_byte_order}
+use Rattle.mapping_body.proofs.Puts.{AreAscending-in_byte_order}
 use Rattle.mapping_body.proofs.Ordered.{none_at}
 use Rattle.mapping_growth.proofs.Pairs.{names_by}
 use Rattle.mapping_body.proofs.Walks.{split}

@@ -8,4 +8,5 @@ pub mod Distinct
 pub mod Keeping
 pub mod Conflicts
 pub mod Founding
+pub mod Generations
 mod Examples

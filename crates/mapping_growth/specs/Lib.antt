@@ -5,4 +5,5 @@ pub mod Bodies
 -- What serves proofs alone.
 pub mod Outline
 pub mod Judged
+pub mod Lines
 pub mod Kept

@@ -1,98 +1,92 @@
 //! Whether a relation is its own ancestor.
-ghost use Rattle.std.specs.Prelude.{◌≡◌, ℕ, List, map, length, IfOk, Option, is_some, option_and_then};
-ghost use Rattle.std.specs.List.{list_any};
-ghost use Rattle.mapping_growth.specs.Kept.{relation_of, told};
-ghost use Rattle.mapping_growth.specs.Relations.{parent_of, climbed, turns_back};
+ghost use Rattle.std.specs.Prelude.{◌≡◌, ◌<◌, List, map, length, Bool, true, false, IfOk, Option, Some, option_and_then};
+ghost use Rattle.mapping_growth.specs.Kept.{relation_of};
+ghost use Rattle.mapping_growth.specs.Relations.{parent_of, turns_back};
+ghost use Rattle.mapping_growth.specs.Lines.{AllEnd, Ends, is_ended, marked};
 
 use crate::relation::Relation;
 use mapping_body::NoMemory;
 use std::alloc::Global;
 
-fn parent_of(relations: &[Relation], at: Option<u32>) -> Option<u32>
+fn parent_of(relations: &[Relation], at: Option<usize>) -> Option<usize>
     ensures { result ≡ parent_of (map relation_of relations.now) at }
 {
-    match relations.get(at? as usize) {
-        Some(relation) => relation.parent,
+    match relations.get(at?) {
+        Some(relation) => match relation.parent {
+            Some(parent) => Some(parent as usize),
+            None => None,
+        },
         None => None,
     }
 }
 
-fn parents(alloc: Global, relations: &[Relation]) -> Result<Vec<Option<u32>>, NoMemory>
-    ensures { IfOk result (λ table. table.items ≡ map (λ r. r.parent) relations.now) }
+/// Whether a line of parents ends here: at none, or at a relation that is marked.
+fn is_ended(marks: &[bool], at: Option<usize>) -> bool
+    ensures { result ≡ is_ended marks.now at }
 {
-    let mut table = Vec::with_capacity(alloc, relations.len())?;
-    'relations: for relation in relations {
-        table.push(relation.parent)?;
-    }
-    Ok(table)
-}
-
-/// What a table says of a relation.
-fn told(table: &[Option<u32>], at: Option<u32>) -> Option<u32>
-    ensures { result ≡ told table.now at }
-{
-    match table.get(at? as usize) {
-        Some(further) => *further,
-        None => None,
+    match at {
+        Some(number) => match marks.get(number) {
+            Some(mark) => *mark,
+            None => false,
+        },
+        None => true,
     }
 }
 
-/// The table of one step more than two times the steps of a table.
-fn twice(alloc: Global, table: &[Option<u32>]) -> Result<Vec<Option<u32>>, NoMemory>
-    ensures { IfOk result (λ further. further.items ≡ map (told table.now) table.now) }
+/// Whether the line of parents from a relation ends. One that is longer than there are relations doesn't.
+fn line_ends(relations: &[Relation], marks: &[bool], number: usize) -> bool
+    requires { AllEnd (map relation_of relations.now) marks.now }
+    ensures ends { result ≡ true → Ends (map relation_of relations.now) (Some number) }
+    ensures turns { result ≡ false → turns_back (map relation_of relations.now) ≡ true }
 {
-    let mut further = Vec::with_capacity(alloc, table.len())?;
-    'places: for at in table {
-        further.push(told(table, *at))?;
+    let mut at = Some(number);
+    let mut steps = 0;
+    'line: while steps <= relations.len() {
+        if is_ended(marks, at) {
+            return true;
+        }
+        at = parent_of(relations, at);
+        steps += 1;
     }
-    Ok(further)
+    at.is_none()
 }
 
-/// The table of one step more.
-fn one_more(
-    alloc: Global,
-    relations: &[Relation],
-    table: &[Option<u32>],
-) -> Result<Vec<Option<u32>>, NoMemory>
-    ensures { IfOk result (λ further. further.items ≡ map (parent_of (map relation_of relations.now)) table.now) }
+fn mark(marks: &mut [bool], at: Option<usize>)
+    ensures { marks.new ≡ marked marks.old at }
 {
-    let mut further = Vec::with_capacity(alloc, table.len())?;
-    'places: for at in table {
-        further.push(parent_of(relations, *at))?;
-    }
-    Ok(further)
-}
-
-/// For each relation the one that stands so many parents above its parent, found in about log2 of these steps tables.
-fn climbed(
-    alloc: Global,
-    relations: &[Relation],
-    steps: usize,
-) -> Result<Vec<Option<u32>>, NoMemory>
-    ensures { IfOk result (λ table. table.items ≡ map (λ r. climbed steps (map relation_of relations.now) r.parent) relations.now) }
-{
-    if steps == 0 {
-        return Ok(parents(alloc, relations)?);
-    }
-    let half = climbed(alloc, relations, (steps - 1) / 2)?;
-    let odd = twice(alloc, half.as_slice())?;
-    if steps % 2 == 1 {
-        Ok(odd)
-    } else {
-        Ok(one_more(alloc, relations, odd.as_slice())?)
+    if let Some(number) = at {
+        if number < marks.len() {
+            marks[number] = true;
+        }
     }
 }
 
-/// Whether some name is its own ancestor.
+/// Marks a relation whose line of parents ends, and those on the line, up to the first that is marked.
+fn mark_line(relations: &[Relation], marks: &mut [bool], number: usize)
+    requires known { AllEnd (map relation_of relations.now) marks.old }
+    requires ends { Ends (map relation_of relations.now) (Some number) }
+    ensures { AllEnd (map relation_of relations.now) marks.new }
+{
+    let mut at = Some(number);
+    'line: for _ in 0..relations.len() {
+        if is_ended(marks, at) {
+            return;
+        }
+        mark(marks, at);
+        at = parent_of(relations, at);
+    }
+}
+
+/// Whether some name is its own ancestor. Each relation is walked over about once, since a line stops at what is marked.
 pub(crate) fn turns_back(alloc: Global, relations: &[Relation]) -> Result<bool, NoMemory>
     ensures { IfOk result (λ turns. turns ≡ turns_back (map relation_of relations.now)) }
 {
-    let table = climbed(alloc, relations, relations.len())?;
-    Ok(tells_of_some(table.as_slice()))
-}
-
-fn tells_of_some(table: &[Option<u32>]) -> bool
-    ensures { result ≡ list_any is_some table.now }
-{
-    table.iter().any(|at| at.is_some())
+    let mut marks = vec![in alloc; false; relations.len()]?;
+    'relations: for number in 0..relations.len() {
+        if !line_ends(relations, marks.as_slice(), number) {
+            return Ok(true);
+        }
+        mark_line(relations, marks.as_mut_slice(), number);
+    }
+    Ok(false)
 }

@@ -1,5 +1,5 @@
 //! Lists of bodies that are mappings.
-ghost use Rattle.std.specs.Prelude.{◌≡◌, ◌<◌, ◌≤◌, ◌-◌, ◌^◌, ◌++◌, ◌∷◌, [], length, map, true, false, IfOk, IfSome, IsErrOf, None, Some, List, ℕ, get_or};
+ghost use Rattle.std.specs.Prelude.{◌≡◌, ◌<◌, ◌≤◌, ◌-◌, ◌^◌, ◌++◌, ◌∷◌, [], length, map, true, false, IfOk, IfSome, IsErrOf, None, Some, List, ℕ, get_or, take};
 ghost use Rattle.tree_json.specs.Value.{null};
 ghost use Rattle.tree_json.specs.View.{view};
 ghost use Rattle.mapping_growth.specs.Bodies.{AreBodies, adds, conflict_of, exceeded, relation_place};
@@ -114,6 +114,14 @@ impl Bodies {
         ensures bound { IfSome result (λ relation. relation < length (relations_of self.now)) }
     {
         self.said.relation(name)
+    }
+
+    /// How many relations the bodies up to a generation say. They are the first by number.
+    pub fn relations_in(&self, generation: u32) -> u32
+        ensures { result ≡ length (relations_of (take generation self.now)) }
+    {
+        self.relations()
+            .partition_point(|relation| relation.since <= generation) as u32
     }
 
     /// How many bodies there are, one at least. What `are_bodies` says holds of all that were read.

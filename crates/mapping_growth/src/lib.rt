@@ -11,6 +11,7 @@ mod bodies;
 mod candidate;
 mod conflict;
 mod draft;
+mod law;
 mod limit;
 mod property;
 mod relation;
@@ -21,4 +22,5 @@ mod tests;
 
 pub use bodies::Bodies;
 pub use draft::Draft;
+pub use law::lines_turn_back_at_ancestors;
 pub use relation::Relation;

@@ -3,7 +3,7 @@ use Rattle.std.proofs.lemmas.Grind.{common_steps}
 use Rattle.mapping_body.specs.Names.{in_byte_order}
 use Rattle.mapping_growth.specs.Relations.{names_in_pairs}
 use Rattle.mapping_body.specs.Kept.{pair_of}
-use Rattle.mapping_body.proofs.Merges.{map-put_all}
+use Rattle.mapping_body.proofs.Puts.{map-put_all}
 use Rattle.mapping_growth.proofs.addition.names_in.Goals as goal
 
 pub returns-clause-names : goal.returns-clause-names
