@@ -3,6 +3,8 @@
 -- it. Of a clause that names something unknown nothing is asked, for it hits nothing.
 use Rattle.std.specs.Prelude.{ℕ, ◌+◌, ◌<◌, ◌≤◌, ◌≡◌, ⊤, Bool, false, IsTrue, List, [], ◌∷◌, length, Option, Some, None, IsSome}
 use Rattle.std.specs.List.{AllByRecursion}
+use Rattle.std.specs.Str.{IsUtf8}
+use Rattle.tree_objects.specs.declared.field_value.FieldValue.{FieldValue}
 use Rattle.tree_objects.specs.declared.field_value.FieldValue.TheVariants.{Number, Written}
 use Rattle.mapping_body.specs.declared.kind.Kind.{Kind}
 use Rattle.mapping.specs.Mapping.{Mapping, IsAbove, kind_at, relation_at}
@@ -33,13 +35,18 @@ use Rattle.query_ast.specs.declared.sort.SortMode.TheVariants.{Min, Max, Sum, Av
 abbrev pub IsBoost : ℕ → Type 0
 IsBoost boost = (1 ≤ boost) × (boost ≤ 10_000)
 
+-- words are asked of a text, whose bytes are UTF-8
+abbrev pub IsText : FieldValue → Type 0
+IsText (Number z) = ⊤
+IsText (Written s) = IsUtf8 s
+
 abbrev pub IsTestOf : Mapping → ℕ → Test → Type 0
 IsTestOf m f (is_among given) = IsTrue (uses_at m f).valued × AllByRecursion (IsValueOf (kind_at m f)) given
 IsTestOf m f (is_between low high) = IsTrue (uses_at m f).ranged × IsEndOf (kind_at m f) low × IsEndOf (kind_at m f) high
 IsTestOf m f exists = ⊤
 IsTestOf m f (begins_with start) = IsTrue (uses_at m f).begun
-IsTestOf m f (has_words value all) = IsTrue (uses_at m f).valued × IsValueOf (kind_at m f) value
-IsTestOf m f (has_phrase value) = IsTrue (uses_at m f).valued × IsValueOf (kind_at m f) value
+IsTestOf m f (has_words value all) = IsTrue (uses_at m f).valued × IsValueOf (kind_at m f) value × IsText value
+IsTestOf m f (has_phrase value) = IsTrue (uses_at m f).valued × IsValueOf (kind_at m f) value × IsText value
 
 abbrev pub IsChildRelation : Mapping → ℕ → Type 0
 IsChildRelation m r = (r < length m.relations) × IsSome (relation_at m r).parent
@@ -205,10 +212,16 @@ abbrev mutual
   AreAggDefinitions m s no_definitions = ⊤
   AreAggDefinitions m s (with_definition d ds) = IsAggDefinition m s d × AreAggDefinitions m s ds
 
+-- the most clauses of a sort
+abbrev pub most_sorts : ℕ
+most_sorts = 16
+
 -- a search, which is judged at roots
 pub record IsSearch (m : Mapping) (body : SearchBody) : Type 0 where
   pub query : IsResolved m 0 body.query
   pub sorts : AreSorts m 0 body.sort
+  pub some_sort : 1 ≤ length body.sort
+  pub few_sorts : length body.sort ≤ most_sorts
   pub after : IsAfter m body.sort body.after
   pub window : body.from + body.size ≤ 10_000
   pub buckets : AreAggDefinitions m 0 (definitions_of body.aggs)

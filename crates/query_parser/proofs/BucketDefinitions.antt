@@ -20,14 +20,14 @@ use Rattle.search_form.specs.declared.form.Presence.{Presence}
 use Rattle.search_form.specs.declared.form.Presence.TheVariants.{Choice, Optional}
 use Rattle.search_form.specs.Table.{is_name, apart_in}
 use Rattle.search_form.specs.Form.{form_at, line_among, is_choice, chosen, has, are_apart, suits, has_form, each_has_form}
-use Rattle.search_walk.specs.Fault.{below_fault, above_fault, relation_fault, at_root, may_ask_if, bucket_fault, bucket_fault_in, first_fault}
+use Rattle.search_walk.specs.Fault.{below_fault, above_fault, relation_fault, at_root, may_ask_if, bucket_fault, bucket_fault_in}
 use Rattle.search_walk.specs.Kinds.{may_ask}
 use Rattle.search_walk.specs.Names.{text_under, kind_named, nested_under, child_under, path_or_root, bucket_scope, bucket_scope_in, buckets_in}
 use Rattle.search_walk.specs.Node.{nodes_at, nodes_among, level_under}
 use Rattle.search_walk.specs.declared.refusal.SearchRefusal.TheVariants.{UnknownPath, PathOutOfScope, UnknownRelation}
 use Rattle.query_parser.specs.Buckets.{or_root, field_under, join_form, form_in, form_of, buckets_name, buckets_at, buckets_among, bucket_at, buckets_under, buckets_inside}
 use Rattle.query_parser.proofs.Clauses.{at_is}
-use Rattle.query_parser.proofs.Faults.{none_of, clean_parts}
+use Rattle.query_parser.proofs.Faults.{Clean, node, none_of, clean_head, clean_parts}
 use Rattle.query_parser.proofs.Formed.{IsChosen, suits_parts, chosen_formed, member_formed, member_clean, number_within, count_taken, one_is_boost}
 use Rattle.query_parser.proofs.Found.{by_test, by_option, nested_found, field_found, child_found}
 use Rattle.query_parser.proofs.Leaves.{fine_if}
@@ -137,7 +137,7 @@ module _ (m : Mapping) where
 
   abbrev BucketIs : Bool → ℕ → ℕ → Seq ℕ → Definitions Agg → JsonValue → Presence × Form → Type 0
   BucketIs inner s level name ds v p =
-      is_choice p.0 ≡ true → has_form inner p.1 v ≡ true → bucket_fault_in m s p.1 v ≡ None → first_fault m (nodes_at m (bucket_scope_in m s p.1 v) level p.1 v) ≡ None
+      is_choice p.0 ≡ true → has_form inner p.1 v ≡ true → bucket_fault_in m s p.1 v ≡ None → Clean m (nodes_at m (bucket_scope_in m s p.1 v) level p.1 v)
       → IsGood s (bucket_scope_in m s p.1 v) (form_in m (Some s) (bucket_scope_in m s p.1 v) name p.1 v) ds
 
   filter_is : (inner : Bool) (s level : ℕ) (name : Seq ℕ) (ds : Definitions Agg) (v : JsonValue) → BucketIs inner s level name ds v (Choice, Query)
@@ -235,7 +235,7 @@ module _ (m : Mapping) where
   not_chosen inner s level name ds v form c h f e = absurd (false≢true c)
 
   chosen_is : (inner : Bool) (s level : ℕ) (ms : Members) (c : Seq ℕ × Form × JsonValue) → (inside : Option ℕ) → are_apart (apart_in Bucket) ms ≡ true → IsChosen inner Bucket ms c
-      → bucket_fault_in m s c.1 c.2 ≡ None → first_fault m (nodes_at m (bucket_scope_in m s c.1 c.2) level c.1 c.2) ≡ None
+      → bucket_fault_in m s c.1 c.2 ≡ None → Clean m (nodes_at m (bucket_scope_in m s c.1 c.2) level c.1 c.2)
       → IsGood s (bucket_scope_in m s c.1 c.2) (form_in m (Some s) (bucket_scope_in m s c.1 c.2) c.0 c.1 c.2) (definitions_of (buckets_under m inside (buckets_name ms) ms))
   chosen_is inner s level ms c inside apart is f e =
       subst (BucketIs inner s level c.0 inside_it c.2) is.line
@@ -289,17 +289,17 @@ module _ (m : Mapping) where
       alone h g = no_buckets inside ms h g
 
   bucket_good : (inner : Bool) (s level : ℕ) (ms : Members) → suits inner Bucket ms ≡ true → each_has_form inner Bucket ms ≡ true → bucket_fault m s (chosen Bucket ms) ≡ None
-      → first_fault m (nodes_among m (bucket_scope m s (chosen Bucket ms)) level Bucket ms) ≡ None
+      → Clean m (nodes_among m (bucket_scope m s (chosen Bucket ms)) level Bucket ms)
       → IsGood s (bucket_scope m s (chosen Bucket ms)) (form_of m (Some s) (bucket_scope m s (chosen Bucket ms)) (chosen Bucket ms)) (definitions_of (buckets_under m (bucket_scope m s (chosen Bucket ms)) (buckets_name ms) ms))
   bucket_good inner s level ms whole_object h f e =
-      by_option (λ o. chosen Bucket ms ≡ o → bucket_fault m s o ≡ None → first_fault m (nodes_among m (bucket_scope m s o) level Bucket ms) ≡ None → IsGood s (bucket_scope m s o) (form_of m (Some s) (bucket_scope m s o) o) (definitions_of (buckets_under m (bucket_scope m s o) (buckets_name ms) ms)))
+      by_option (λ o. chosen Bucket ms ≡ o → bucket_fault m s o ≡ None → Clean m (nodes_among m (bucket_scope m s o) level Bucket ms) → IsGood s (bucket_scope m s o) (form_of m (Some s) (bucket_scope m s o) o) (definitions_of (buckets_under m (bucket_scope m s o) (buckets_name ms) ms)))
       (chosen Bucket ms)
       (λ none is g clean. record { scope_is = refl; form_is = (tt, one_is_boost) })
       (λ c some is g clean.
       let choice = chosen_formed inner Bucket ms c h is in
       let line : form_at Bucket c.0 ≡ c.1 = ap (λ (p : Presence × Form). p.1) choice.line in
       chosen_is inner s (level_under Bucket (form_at Bucket c.0) level) ms c (bucket_scope m s (Some c)) (suits_parts inner Bucket bucket_lines ms whole_object).2 choice g
-      (subst (λ form. first_fault m (nodes_at m (bucket_scope m s (Some c)) (level_under Bucket (form_at Bucket c.0) level) form c.2) ≡ None) line
+      (subst (λ form. Clean m (nodes_at m (bucket_scope m s (Some c)) (level_under Bucket (form_at Bucket c.0) level) form c.2)) line
       (member_clean m (bucket_scope m s (Some c)) level Bucket c.0 ms c.2 clean choice.there)))
       refl f e
 
@@ -310,19 +310,19 @@ module _ (m : Mapping) where
   -- ---- all buckets
 
   object_is : (inner : Bool) (s level : ℕ) (name : Seq ℕ) (ms : Members)
-      → ((q : ℕ) → first_fault m (nodes_among m (Some q) level Bucket ms) ≡ None → AreAggDefinitions m q (definitions_of (buckets_under m (Some q) (buckets_name ms) ms)))
-      → suits inner Bucket ms ≡ true → each_has_form inner Bucket ms ≡ true → first_fault m (nodes_at m (Some s) level Bucket (object ms)) ≡ None → IsAggDefinition m s (bucket_at m (Some s) name (object ms))
+      → ((q : ℕ) → Clean m (nodes_among m (Some q) level Bucket ms) → AreAggDefinitions m q (definitions_of (buckets_under m (Some q) (buckets_name ms) ms)))
+      → suits inner Bucket ms ≡ true → each_has_form inner Bucket ms ≡ true → Clean m (nodes_at m (Some s) level Bucket (object ms)) → IsAggDefinition m s (bucket_at m (Some s) name (object ms))
   object_is inner s level name ms under whole_object h e =
-      let parts = none_of (bucket_fault m s (chosen Bucket ms)) (first_fault m (nodes_among m (bucket_scope m s (chosen Bucket ms)) level Bucket ms)) e in
+      let parts = clean_head m (node (Some s) level Bucket (object ms)) (nodes_among m (bucket_scope m s (chosen Bucket ms)) level Bucket ms) e in
       let good = bucket_good inner s level ms whole_object h parts.0 parts.1 in
       let form : AggForm = form_of m (Some s) (bucket_scope m s (chosen Bucket ms)) (chosen Bucket ms) in (
         good.form_is,
         subst (λ o. AreAggDefinitions m (scope_of_form s form) (definitions_of (buckets_under m o (buckets_name ms) ms))) (sym good.scope_is)
-            (under (scope_of_form s form) (subst (λ o. first_fault m (nodes_among m o level Bucket ms) ≡ None) good.scope_is parts.1)),
+            (under (scope_of_form s form) (subst (λ o. Clean m (nodes_among m o level Bucket ms)) good.scope_is parts.1)),
       )
 
   mutual
-    pub buckets_are : (inner : Bool) (s level : ℕ) (v : JsonValue) → has_form inner Buckets v ≡ true → first_fault m (nodes_at m (Some s) level Buckets v) ≡ None → AreAggDefinitions m s (definitions_of (buckets_at m (Some s) v))
+    pub buckets_are : (inner : Bool) (s level : ℕ) (v : JsonValue) → has_form inner Buckets v ≡ true → Clean m (nodes_at m (Some s) level Buckets v) → AreAggDefinitions m s (definitions_of (buckets_at m (Some s) v))
     buckets_are inner s level (object ms) h e = among_are inner s level ms (and_parts (suits inner Buckets ms) (each_has_form inner Buckets ms) h).1 e
     buckets_are inner s level null h e = tt
     buckets_are inner s level (bool b) h e = tt
@@ -330,18 +330,18 @@ module _ (m : Mapping) where
     buckets_are inner s level (text t) h e = tt
     buckets_are inner s level (list ds) h e = tt
 
-    among_are : (inner : Bool) (s level : ℕ) (ms : Members) → each_has_form inner Buckets ms ≡ true → first_fault m (nodes_among m (Some s) level Buckets ms) ≡ None → AreAggDefinitions m s (definitions_of (buckets_among m (Some s) ms))
+    among_are : (inner : Bool) (s level : ℕ) (ms : Members) → each_has_form inner Buckets ms ≡ true → Clean m (nodes_among m (Some s) level Buckets ms) → AreAggDefinitions m s (definitions_of (buckets_among m (Some s) ms))
     among_are inner s level no_members h e = tt
     among_are inner s level (member k v ms) h e =
         let formed = and_parts (has_form inner (form_at Buckets k) v) (each_has_form inner Buckets ms) h in
         let clean = clean_parts m (nodes_at m (Some s) (level_under Buckets (form_at Buckets k) level) (form_at Buckets k) v) (nodes_among m (Some s) level Buckets ms) e in
         let named : form_at Buckets k ≡ Bucket = bucket_named inner k v formed.0 in (
           bucket_is inner s (level_under Buckets (form_at Buckets k) level) k v (subst (λ f. has_form inner f v ≡ true) named formed.0)
-              (subst (λ f. first_fault m (nodes_at m (Some s) (level_under Buckets (form_at Buckets k) level) f v) ≡ None) named clean.0),
+              (subst (λ f. Clean m (nodes_at m (Some s) (level_under Buckets (form_at Buckets k) level) f v)) named clean.0),
           among_are inner s level ms formed.1 clean.1,
         )
 
-    bucket_is : (inner : Bool) (s level : ℕ) (name : Seq ℕ) (v : JsonValue) → has_form inner Bucket v ≡ true → first_fault m (nodes_at m (Some s) level Bucket v) ≡ None → IsAggDefinition m s (bucket_at m (Some s) name v)
+    bucket_is : (inner : Bool) (s level : ℕ) (name : Seq ℕ) (v : JsonValue) → has_form inner Bucket v ≡ true → Clean m (nodes_at m (Some s) level Bucket v) → IsAggDefinition m s (bucket_at m (Some s) name v)
     bucket_is inner s level name (object ms) h e =
         let formed = and_parts (suits inner Bucket ms) (each_has_form inner Bucket ms) h in
         object_is inner s level name ms (λ q clean. under_are inner q level Bucket (buckets_name ms) ms (name_line ms) formed.1 clean) formed.0 formed.1 e
@@ -351,7 +351,7 @@ module _ (m : Mapping) where
     bucket_is inner s level name (text t) h e = absurd (false≢true h)
     bucket_is inner s level name (list ds) h e = absurd (false≢true h)
 
-    under_are : (inner : Bool) (s level : ℕ) (form : Form) (name : Seq ℕ) (ms : Members) → form_at form name ≡ Buckets → each_has_form inner form ms ≡ true → first_fault m (nodes_among m (Some s) level form ms) ≡ None → AreAggDefinitions m s (definitions_of (buckets_under m (Some s) name ms))
+    under_are : (inner : Bool) (s level : ℕ) (form : Form) (name : Seq ℕ) (ms : Members) → form_at form name ≡ Buckets → each_has_form inner form ms ≡ true → Clean m (nodes_among m (Some s) level form ms) → AreAggDefinitions m s (definitions_of (buckets_under m (Some s) name ms))
     under_are inner s level form name no_members line h e = tt
     under_are inner s level form name (member k v ms) line h e =
         let formed = and_parts (has_form inner (form_at form k) v) (each_has_form inner form ms) h in
@@ -361,11 +361,11 @@ module _ (m : Mapping) where
         let is : form_at form k ≡ Buckets = ap (form_at form) ((bytes_eq-Decides k name).0 same) ∙ line in
         rw same (buckets_are inner s (level_under form (form_at form k) level) v
         (subst (λ f. has_form inner f v ≡ true) is formed.0)
-        (subst (λ f. first_fault m (nodes_at m (Some s) (level_under form (form_at form k) level) f v) ≡ None) is clean.0)))
+        (subst (λ f. Clean m (nodes_at m (Some s) (level_under form (form_at form k) level) f v)) is clean.0)))
         (λ other. rw other (under_are inner s level form name ms line formed.1 clean.1))
 
   -- the buckets of a body
-  pub body_buckets : (body : Members) → ((d : JsonValue) → buckets_in body ≡ Some d → has_form true Buckets d ≡ true) → ((d : JsonValue) → buckets_in body ≡ Some d → first_fault m (nodes_at m (Some 0) 1 Buckets d) ≡ None) → AreAggDefinitions m 0 (definitions_of (buckets_inside m (Some 0) body))
+  pub body_buckets : (body : Members) → ((d : JsonValue) → buckets_in body ≡ Some d → has_form true Buckets d ≡ true) → ((d : JsonValue) → buckets_in body ≡ Some d → Clean m (nodes_at m (Some 0) 1 Buckets d)) → AreAggDefinitions m 0 (definitions_of (buckets_inside m (Some 0) body))
   unfolding buckets_name
   body_buckets body h e =
       by_option (λ o. buckets_in body ≡ o → member_of body (buckets_name body) ≡ o → AreAggDefinitions m 0 (definitions_of (buckets_under m (Some 0) (buckets_name body) body))) (buckets_in body)

@@ -15,12 +15,12 @@ use Rattle.search_form.specs.declared.form.Form.TheVariants.{Query, MatchAll, Ma
 use Rattle.search_form.specs.declared.form.Presence.{Presence}
 use Rattle.search_form.specs.declared.form.Presence.TheVariants.{Required, Optional, Choice}
 use Rattle.search_form.specs.Form.{form_at, chosen, line_among, suits, suits_list, allows_inner, has_form, all_have_form, each_has_form}
-use Rattle.search_walk.specs.Fault.{below_fault, above_fault, relation_fault, ignores, leaf_fault, first_fault}
+use Rattle.search_walk.specs.Fault.{below_fault, above_fault, relation_fault, ignores, fault_of}
 use Rattle.search_walk.specs.Names.{text_under, flag_under, nested_under, child_under, parent_under, root_if}
 use Rattle.search_walk.specs.Node.{Node, nodes_at, nodes_in, nodes_among, level_under}
 use Rattle.query_parser.specs.Queries.{least_of, clause_by, form_named, clause_at, clause_among, clause_named, clause_under, clauses_under, clauses_at, clauses_in}
 use Rattle.query_parser.specs.Readings.{natural_under, boost_in, mode_in}
-use Rattle.query_parser.proofs.Faults.{none_of, clean_parts}
+use Rattle.query_parser.proofs.Faults.{Clean, node, clean_head, clean_parts}
 use Rattle.query_parser.proofs.Formed.{suits_parts, boost_is, one_is_boost, children_are}
 use Rattle.query_parser.proofs.Found.{by_test, nested_found, child_found, parent_found}
 use Rattle.query_parser.proofs.Leaves.{match_all_is, ids_is, exists_is, parent_id_is, term_is, terms_is, range_is, prefix_is, match_is, phrase_is}
@@ -54,19 +54,16 @@ query_lines =
     ∷ (codes "parent_id", Choice, ParentId) ∷ []
 
 module _ (m : Mapping) where
-  abbrev Clean : Seq Node → Type 0
-  Clean nodes = first_fault m nodes ≡ None
-
   -- ---- the clauses that lead elsewhere
 
-  nested_is : (s level : ℕ) (ms : Members) → ((p : ℕ) → Clean (nodes_among m (Some p) level Nested ms) → IsResolved m p (clause_under m (Some p) (codes "query") ms))
-      → Clean (nodes_at m (Some s) level Nested (object ms)) → IsResolved m s (clause_named m (Some s) Nested (object ms))
+  nested_is : (s level : ℕ) (ms : Members) → ((p : ℕ) → Clean m (nodes_among m (Some p) level Nested ms) → IsResolved m p (clause_under m (Some p) (codes "query") ms))
+      → Clean m (nodes_at m (Some s) level Nested (object ms)) → IsResolved m s (clause_named m (Some s) Nested (object ms))
   unfolding clause_by
   nested_is s level ms under e =
-      let parts = none_of (below_fault m s (ignores ms) (nested_under m ms)) (first_fault m (nodes_among m (nested_under m ms) level Nested ms)) e in
+      let parts = clean_head m (node (Some s) level Nested (object ms)) (nodes_among m (nested_under m ms) level Nested ms) e in
       go (nested_under m ms) refl parts.0 parts.1
     where
-      go : (o : Option ℕ) → nested_under m ms ≡ o → below_fault m s (ignores ms) o ≡ None → Clean (nodes_among m o level Nested ms) → IsResolved m s (nested o (clause_under m o (codes "query") ms) (mode_in Avg ms))
+      go : (o : Option ℕ) → nested_under m ms ≡ o → below_fault m s (ignores ms) o ≡ None → Clean m (nodes_among m o level Nested ms) → IsResolved m s (nested o (clause_under m o (codes "query") ms) (mode_in Avg ms))
       go None is f clean = tt
       go (Some p) is f clean = (
         (
@@ -76,47 +73,47 @@ module _ (m : Mapping) where
         under p clean,
       )
 
-  to_child_is : (s level : ℕ) (ms : Members) → ((p : ℕ) → Clean (nodes_among m (Some p) level ToChild ms) → IsResolved m p (clause_under m (Some p) (codes "query") ms))
-      → Clean (nodes_at m (Some s) level ToChild (object ms)) → IsResolved m s (clause_named m (Some s) ToChild (object ms))
+  to_child_is : (s level : ℕ) (ms : Members) → ((p : ℕ) → Clean m (nodes_among m (Some p) level ToChild ms) → IsResolved m p (clause_under m (Some p) (codes "query") ms))
+      → Clean m (nodes_at m (Some s) level ToChild (object ms)) → IsResolved m s (clause_named m (Some s) ToChild (object ms))
   unfolding clause_by
   to_child_is s level ms under e =
-      let parts = none_of (above_fault m s (scope_named m (text_under ms (codes "path")))) (first_fault m (nodes_among m (scope_named m (text_under ms (codes "path"))) level ToChild ms)) e in
+      let parts = clean_head m (node (Some s) level ToChild (object ms)) (nodes_among m (scope_named m (text_under ms (codes "path"))) level ToChild ms) e in
       go (scope_named m (text_under ms (codes "path"))) parts.0 parts.1
     where
-      go : (o : Option ℕ) → above_fault m s o ≡ None → Clean (nodes_among m o level ToChild ms) → IsResolved m s (to_child o (clause_under m o (codes "query") ms))
+      go : (o : Option ℕ) → above_fault m s o ≡ None → Clean m (nodes_among m o level ToChild ms) → IsResolved m s (to_child o (clause_under m o (codes "query") ms))
       go None f clean = tt
       go (Some p) f clean = (
         by_test (is_above m p s) (λ held. held) (λ failed. let none : Some PathOutOfScope ≡ None = rw failed at f in cc),
         under p clean,
       )
 
-  has_child_is : (inner : Bool) (s level : ℕ) (ms : Members) → (Clean (nodes_among m (Some 0) level HasChild ms) → IsResolved m 0 (clause_under m (Some 0) (codes "query") ms))
-      → has_form inner HasChild (object ms) ≡ true → Clean (nodes_at m (Some s) level HasChild (object ms)) → IsResolved m s (clause_named m (Some s) HasChild (object ms))
+  has_child_is : (inner : Bool) (s level : ℕ) (ms : Members) → (Clean m (nodes_among m (Some 0) level HasChild ms) → IsResolved m 0 (clause_under m (Some 0) (codes "query") ms))
+      → has_form inner HasChild (object ms) ≡ true → Clean m (nodes_at m (Some s) level HasChild (object ms)) → IsResolved m s (clause_named m (Some s) HasChild (object ms))
   unfolding clause_by
   has_child_is inner s level ms under h e =
       let formed = and_parts (suits inner HasChild ms) (each_has_form (allows_inner inner HasChild ms) HasChild ms) h in
       let whole_object = suits_parts inner HasChild lines ms formed.0 in
       let children = children_are (allows_inner inner HasChild ms) ms formed.1 whole_object.3 in
-      let parts = none_of (relation_fault (ignores ms) (child_under m ms)) (first_fault m (nodes_among m (root_if (child_under m ms)) level HasChild ms)) e in
+      let parts = clean_head m (node (Some s) level HasChild (object ms)) (nodes_among m (root_if (child_under m ms)) level HasChild ms) e in
       go (child_under m ms) refl children parts.1
     where
       lines : Seq (Seq ℕ × Presence × Form)
       lines = (codes "type", Required, Text) ∷ (codes "query", Required, Query) ∷ (codes "score_mode", Optional, ScoreMode) ∷ (codes "min_children", Optional, Positive) ∷ (codes "max_children", Optional, Positive) ∷ (codes "ignore_unmapped", Optional, Flag) ∷ (codes "inner_hits", Optional, InnerHits) ∷ []
 
       go : (o : Option ℕ) → child_under m ms ≡ o → (1 ≤ least_of (natural_under ms (codes "min_children"))) × IsUpTo (least_of (natural_under ms (codes "min_children"))) (natural_under ms (codes "max_children"))
-          → Clean (nodes_among m (root_if o) level HasChild ms)
+          → Clean m (nodes_among m (root_if o) level HasChild ms)
           → IsResolved m s (has_child o (clause_under m (root_if o) (codes "query") ms) (mode_in Zero ms) (least_of (natural_under ms (codes "min_children"))) (natural_under ms (codes "max_children")))
       go None is children clean = tt
       go (Some r) is children clean = (child_found m (text_under ms (codes "type")) r is, children.0, children.1, under clean)
 
-  has_parent_is : (inner : Bool) (s level : ℕ) (ms : Members) → (Clean (nodes_among m (Some 0) level HasParent ms) → IsResolved m 0 (clause_under m (Some 0) (codes "query") ms))
-      → each_has_form inner HasParent ms ≡ true → Clean (nodes_at m (Some s) level HasParent (object ms)) → IsResolved m s (clause_named m (Some s) HasParent (object ms))
+  has_parent_is : (inner : Bool) (s level : ℕ) (ms : Members) → (Clean m (nodes_among m (Some 0) level HasParent ms) → IsResolved m 0 (clause_under m (Some 0) (codes "query") ms))
+      → each_has_form inner HasParent ms ≡ true → Clean m (nodes_at m (Some s) level HasParent (object ms)) → IsResolved m s (clause_named m (Some s) HasParent (object ms))
   unfolding clause_by
   has_parent_is inner s level ms under h e =
-      let parts = none_of (relation_fault (ignores ms) (parent_under m ms)) (first_fault m (nodes_among m (root_if (parent_under m ms)) level HasParent ms)) e in
+      let parts = clean_head m (node (Some s) level HasParent (object ms)) (nodes_among m (root_if (parent_under m ms)) level HasParent ms) e in
       go (parent_under m ms) refl parts.1
     where
-      go : (o : Option ℕ) → parent_under m ms ≡ o → Clean (nodes_among m (root_if o) level HasParent ms)
+      go : (o : Option ℕ) → parent_under m ms ≡ o → Clean m (nodes_among m (root_if o) level HasParent ms)
           → IsResolved m s (has_parent o (clause_under m (root_if o) (codes "query") ms) (flag_under ms (codes "score")) (boost_in ms))
       go None is clean = tt
       go (Some r) is clean = (parent_found m (text_under ms (codes "parent_type")) r is, boost_is inner HasParent ms refl h, under clean)
@@ -125,33 +122,33 @@ module _ (m : Mapping) where
 
   -- what is proved of a form that stands under a query's name
   abbrev NamedIs : Bool → ℕ → ℕ → Members → Form → Type 0
-  NamedIs inner s level ms form = has_form inner form (object ms) ≡ true → Clean (nodes_at m (Some s) level form (object ms)) → IsResolved m s (clause_named m (Some s) form (object ms))
+  NamedIs inner s level ms form = has_form inner form (object ms) ≡ true → Clean m (nodes_at m (Some s) level form (object ms)) → IsResolved m s (clause_named m (Some s) form (object ms))
 
   inside : (inner : Bool) (form : Form) (ms : Members) → (suits inner form ms && each_has_form (allows_inner inner form ms) form ms) ≡ true → each_has_form (allows_inner inner form ms) form ms ≡ true
   inside inner form ms h = (and_parts (suits inner form ms) (each_has_form (allows_inner inner form ms) form ms) h).1
 
-  leaf_clean : (form : Form) (level s : ℕ) (ms : Members) → option_or (leaf_fault m form (chosen form ms)) (first_fault m (nodes_among m (Some s) level form ms)) ≡ None → leaf_fault m form (chosen form ms) ≡ None
-  leaf_clean form level s ms e = (none_of (leaf_fault m form (chosen form ms)) (first_fault m (nodes_among m (Some s) level form ms)) e).0
+  leaf_clean : (form : Form) (level s : ℕ) (ms : Members) → Clean m (node (Some s) level form (object ms) ∷ nodes_among m (Some s) level form ms) → fault_of m (node (Some s) level form (object ms)) ≡ None
+  leaf_clean form level s ms e = (clean_head m (node (Some s) level form (object ms)) (nodes_among m (Some s) level form ms) e).0
 
   mutual
     unfolding clause_by form_named
 
-    pub at_is : (inner : Bool) (s level : ℕ) (v : JsonValue) → has_form inner Query v ≡ true → Clean (nodes_at m (Some s) level Query v) → IsResolved m s (clause_at m (Some s) v)
-    at_is inner s level (object ms) h e = among_is inner s level ms (inside inner Query ms h) e
+    pub at_is : (inner : Bool) (s level : ℕ) (v : JsonValue) → has_form inner Query v ≡ true → Clean m (nodes_at m (Some s) level Query v) → IsResolved m s (clause_at m (Some s) v)
+    at_is inner s level (object ms) h e = among_is inner s level ms (inside inner Query ms h) (clean_head m (node (Some s) level Query (object ms)) (nodes_among m (Some s) level Query ms) e).1
     at_is inner s level null h e = (tt, one_is_boost)
     at_is inner s level (bool b) h e = (tt, one_is_boost)
     at_is inner s level (whole z) h e = (tt, one_is_boost)
     at_is inner s level (text t) h e = (tt, one_is_boost)
     at_is inner s level (list ds) h e = (tt, one_is_boost)
 
-    among_is : (inner : Bool) (s level : ℕ) (ms : Members) → each_has_form inner Query ms ≡ true → Clean (nodes_among m (Some s) level Query ms) → IsResolved m s (clause_among m (Some s) ms)
+    among_is : (inner : Bool) (s level : ℕ) (ms : Members) → each_has_form inner Query ms ≡ true → Clean m (nodes_among m (Some s) level Query ms) → IsResolved m s (clause_among m (Some s) ms)
     among_is inner s level no_members h e = (tt, one_is_boost)
     among_is inner s level (member k v ms) h e =
         named_is inner s (level_under Query (form_at Query k) level) v k
         (and_parts (has_form inner (form_at Query k) v) (each_has_form inner Query ms) h).0
         (clean_parts m (nodes_at m (Some s) (level_under Query (form_at Query k) level) (form_at Query k) v) (nodes_among m (Some s) level Query ms) e).0
 
-    named_is : (inner : Bool) (s level : ℕ) (v : JsonValue) (k : Seq ℕ) → has_form inner (form_at Query k) v ≡ true → Clean (nodes_at m (Some s) level (form_at Query k) v) → IsResolved m s (clause_named m (Some s) (form_named k) v)
+    named_is : (inner : Bool) (s level : ℕ) (v : JsonValue) (k : Seq ℕ) → has_form inner (form_at Query k) v ≡ true → Clean m (nodes_at m (Some s) level (form_at Query k) v) → IsResolved m s (clause_named m (Some s) (form_named k) v)
     named_is inner s level null k h e = (tt, one_is_boost)
     named_is inner s level (bool b) k h e = (tt, one_is_boost)
     named_is inner s level (whole z) k h e = (tt, one_is_boost)
@@ -173,9 +170,9 @@ module _ (m : Mapping) where
                     (
                       (λ f c. prefix_is m s level inner ms (inside inner Prefix ms f) (leaf_clean Prefix level s ms c)),
                       (
-                        (λ f c. match_is m s level inner ms (inside inner Match ms f) (leaf_clean Match level s ms c)),
+                        (λ f c. match_is m s level inner ms (inside inner Match ms f) c.texts.0 (leaf_clean Match level s ms c)),
                         (
-                          (λ f c. phrase_is m s level inner ms (inside inner MatchPhrase ms f) (leaf_clean MatchPhrase level s ms c)),
+                          (λ f c. phrase_is m s level inner ms (inside inner MatchPhrase ms f) c.texts.0 (leaf_clean MatchPhrase level s ms c)),
                           (
                             (λ f c. ids_is m s level inner ms (inside inner Ids ms f)),
                             (
@@ -221,7 +218,7 @@ module _ (m : Mapping) where
         (λ f c. absurd (false≢true f))
         h e
 
-    pub under_is : (inner : Bool) (s level : ℕ) (form : Form) (name : Seq ℕ) (ms : Members) → form_at form name ≡ Query → each_has_form inner form ms ≡ true → Clean (nodes_among m (Some s) level form ms) → IsResolved m s (clause_under m (Some s) name ms)
+    pub under_is : (inner : Bool) (s level : ℕ) (form : Form) (name : Seq ℕ) (ms : Members) → form_at form name ≡ Query → each_has_form inner form ms ≡ true → Clean m (nodes_among m (Some s) level form ms) → IsResolved m s (clause_under m (Some s) name ms)
     under_is inner s level form name no_members is h e = (tt, one_is_boost)
     under_is inner s level form name (member k v ms) is h e =
         let formed = and_parts (has_form inner (form_at form k) v) (each_has_form inner form ms) h in
@@ -231,10 +228,10 @@ module _ (m : Mapping) where
         let query : form_at form k ≡ Query = ap (form_at form) ((bytes_eq-Decides k name).0 same) ∙ is in
         rw same (at_is inner s (level_under form (form_at form k) level) v
         (subst (λ f. has_form inner f v ≡ true) query formed.0)
-        (subst (λ f. Clean (nodes_at m (Some s) (level_under form (form_at form k) level) f v)) query clean.0)))
+        (subst (λ f. Clean m (nodes_at m (Some s) (level_under form (form_at form k) level) f v)) query clean.0)))
         (λ other. rw other (under_is inner s level form name ms is formed.1 clean.1))
 
-    list_under_is : (inner : Bool) (s level : ℕ) (form : Form) (name : Seq ℕ) (ms : Members) → form_at form name ≡ Queries → each_has_form inner form ms ≡ true → Clean (nodes_among m (Some s) level form ms) → AreResolved m s (clauses_of (clauses_under m (Some s) name ms))
+    list_under_is : (inner : Bool) (s level : ℕ) (form : Form) (name : Seq ℕ) (ms : Members) → form_at form name ≡ Queries → each_has_form inner form ms ≡ true → Clean m (nodes_among m (Some s) level form ms) → AreResolved m s (clauses_of (clauses_under m (Some s) name ms))
     list_under_is inner s level form name no_members is h e = tt
     list_under_is inner s level form name (member k v ms) is h e =
         let formed = and_parts (has_form inner (form_at form k) v) (each_has_form inner form ms) h in
@@ -244,18 +241,18 @@ module _ (m : Mapping) where
         let queries : form_at form k ≡ Queries = ap (form_at form) ((bytes_eq-Decides k name).0 same) ∙ is in
         rw same (list_at_is inner s (level_under form (form_at form k) level) v
         (subst (λ f. has_form inner f v ≡ true) queries formed.0)
-        (subst (λ f. Clean (nodes_at m (Some s) (level_under form (form_at form k) level) f v)) queries clean.0)))
+        (subst (λ f. Clean m (nodes_at m (Some s) (level_under form (form_at form k) level) f v)) queries clean.0)))
         (λ other. rw other (list_under_is inner s level form name ms is formed.1 clean.1))
 
-    list_at_is : (inner : Bool) (s level : ℕ) (v : JsonValue) → has_form inner Queries v ≡ true → Clean (nodes_at m (Some s) level Queries v) → AreResolved m s (clauses_of (clauses_at m (Some s) v))
+    list_at_is : (inner : Bool) (s level : ℕ) (v : JsonValue) → has_form inner Queries v ≡ true → Clean m (nodes_at m (Some s) level Queries v) → AreResolved m s (clauses_of (clauses_at m (Some s) v))
     list_at_is inner s level (list ds) h e = in_is inner s level ds (and_parts (suits_list Queries ds) (all_have_form inner Query ds) h).1 e
-    list_at_is inner s level (object ms) h e = (among_is inner s level ms (inside inner Query ms h) e, tt)
+    list_at_is inner s level (object ms) h e = (among_is inner s level ms (inside inner Query ms h) (clean_head m (node (Some s) level Query (object ms)) (nodes_among m (Some s) level Query ms) e).1, tt)
     list_at_is inner s level null h e = ((tt, one_is_boost), tt)
     list_at_is inner s level (bool b) h e = ((tt, one_is_boost), tt)
     list_at_is inner s level (whole z) h e = ((tt, one_is_boost), tt)
     list_at_is inner s level (text t) h e = ((tt, one_is_boost), tt)
 
-    dis_under_is : (inner : Bool) (s level : ℕ) (ms : Members) → each_has_form inner DisMax ms ≡ true → Clean (nodes_among m (Some s) level DisMax ms) → AreResolved m s (clauses_of (clauses_under m (Some s) (codes "queries") ms))
+    dis_under_is : (inner : Bool) (s level : ℕ) (ms : Members) → each_has_form inner DisMax ms ≡ true → Clean m (nodes_among m (Some s) level DisMax ms) → AreResolved m s (clauses_of (clauses_under m (Some s) (codes "queries") ms))
     dis_under_is inner s level no_members h e = tt
     dis_under_is inner s level (member k v ms) h e =
         let formed = and_parts (has_form inner (form_at DisMax k) v) (each_has_form inner DisMax ms) h in
@@ -265,10 +262,10 @@ module _ (m : Mapping) where
         let queries : form_at DisMax k ≡ QueryList = ap (form_at DisMax) ((bytes_eq-Decides k (codes "queries")).0 same) in
         rw same (dis_at_is inner s (level_under DisMax (form_at DisMax k) level) v
         (subst (λ f. has_form inner f v ≡ true) queries formed.0)
-        (subst (λ f. Clean (nodes_at m (Some s) (level_under DisMax (form_at DisMax k) level) f v)) queries clean.0)))
+        (subst (λ f. Clean m (nodes_at m (Some s) (level_under DisMax (form_at DisMax k) level) f v)) queries clean.0)))
         (λ other. rw other (dis_under_is inner s level ms formed.1 clean.1))
 
-    dis_at_is : (inner : Bool) (s level : ℕ) (v : JsonValue) → has_form inner QueryList v ≡ true → Clean (nodes_at m (Some s) level QueryList v) → AreResolved m s (clauses_of (clauses_at m (Some s) v))
+    dis_at_is : (inner : Bool) (s level : ℕ) (v : JsonValue) → has_form inner QueryList v ≡ true → Clean m (nodes_at m (Some s) level QueryList v) → AreResolved m s (clauses_of (clauses_at m (Some s) v))
     dis_at_is inner s level (list ds) h e = in_is inner s level ds (and_parts (suits_list QueryList ds) (all_have_form inner Query ds) h).1 e
     dis_at_is inner s level (object ms) h e = absurd (false≢true h)
     dis_at_is inner s level null h e = ((tt, one_is_boost), tt)
@@ -276,7 +273,7 @@ module _ (m : Mapping) where
     dis_at_is inner s level (whole z) h e = ((tt, one_is_boost), tt)
     dis_at_is inner s level (text t) h e = ((tt, one_is_boost), tt)
 
-    in_is : (inner : Bool) (s level : ℕ) (ds : Elements) → all_have_form inner Query ds ≡ true → Clean (nodes_in m (Some s) level Query ds) → AreResolved m s (clauses_of (clauses_in m (Some s) ds))
+    in_is : (inner : Bool) (s level : ℕ) (ds : Elements) → all_have_form inner Query ds ≡ true → Clean m (nodes_in m (Some s) level Query ds) → AreResolved m s (clauses_of (clauses_in m (Some s) ds))
     in_is inner s level no_elements h e = tt
     in_is inner s level (element d ds) h e =
         let formed = and_parts (has_form inner Query d) (all_have_form inner Query ds) h in

@@ -11,11 +11,10 @@ use Rattle.search_form.specs.declared.form.Presence.TheVariants.{Choice, Require
 use Rattle.search_form.specs.Table.{apart_in, single_of, is_between, is_from}
 use Rattle.search_form.specs.Form.{line_at, form_at, has, is_choice, chosen, has_required, has_its_choice, are_apart, fits, suits_by, suits, allows_inner, has_form, each_has_form, children_fit}
 use Rattle.mapping.specs.Mapping.{Mapping}
-use Rattle.search_walk.specs.Fault.{first_fault}
 use Rattle.search_walk.specs.Node.{nodes_at, nodes_among, level_under}
 use Rattle.query_parser.specs.Queries.{least_of}
 use Rattle.query_parser.specs.Readings.{natural_of, natural_under, up_to, boost_in, boost_of}
-use Rattle.query_parser.proofs.Faults.{clean_parts}
+use Rattle.query_parser.proofs.Faults.{Clean, clean_parts}
 use Rattle.query_parser.proofs.Found.{by_test}
 
 pub member_formed : (inner : Bool) (form : Form) (name : Seq ℕ) (ms : Members) (d : JsonValue) → each_has_form inner form ms ≡ true → member_of ms name ≡ Some d → has_form inner (form_at form name) d ≡ true
@@ -166,8 +165,8 @@ children_are inner ms h fit = (
 
 -- ---- parts that aren't refused
 
-pub member_clean : (m : Mapping) (scope : Option ℕ) (level : ℕ) (form : Form) (name : Seq ℕ) (ms : Members) (d : JsonValue) → first_fault m (nodes_among m scope level form ms) ≡ None → member_of ms name ≡ Some d
-    → first_fault m (nodes_at m scope (level_under form (form_at form name) level) (form_at form name) d) ≡ None
+pub member_clean : (m : Mapping) (scope : Option ℕ) (level : ℕ) (form : Form) (name : Seq ℕ) (ms : Members) (d : JsonValue) → Clean m (nodes_among m scope level form ms) → member_of ms name ≡ Some d
+    → Clean m (nodes_at m scope (level_under form (form_at form name) level) (form_at form name) d)
 member_clean m scope level form name no_members d h e = cc
 member_clean m scope level form name (member k v ms) d h e =
     let parts = clean_parts m (nodes_at m scope (level_under form (form_at form k) level) (form_at form k) v) (nodes_among m scope level form ms) h in
@@ -176,6 +175,6 @@ member_clean m scope level form name (member k v ms) d h e =
     let one : Some v ≡ Some d = rw same at e in
     let is : v ≡ d = cc in
     let named : k ≡ name = (bytes_eq-Decides k name).0 same in
-    subst (λ n. first_fault m (nodes_at m scope (level_under form (form_at form n) level) (form_at form n) d) ≡ None) named
-    (subst (λ x. first_fault m (nodes_at m scope (level_under form (form_at form k) level) (form_at form k) x) ≡ None) is parts.0))
+    subst (λ n. Clean m (nodes_at m scope (level_under form (form_at form n) level) (form_at form n) d)) named
+    (subst (λ x. Clean m (nodes_at m scope (level_under form (form_at form k) level) (form_at form k) x)) is parts.0))
     (λ other. member_clean m scope level form name ms d parts.1 (rw other at e))

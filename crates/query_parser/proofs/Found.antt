@@ -115,7 +115,7 @@ text_is kind (text s) (Written t) written e = written
 text_is kind (list ds) x written e = cc
 text_is kind (object ms) x written e = cc
 
-converted : (kind : Kind) (v : JsonValue) (x : FieldValue) → convert kind v ≡ Some x → IsValueOf kind x
+pub converted : (kind : Kind) (v : JsonValue) (x : FieldValue) → convert kind v ≡ Some x → IsValueOf kind x
 unfolding convert
 converted Text v x e = text_is Text v x refl e
 converted Keyword v x e = text_is Keyword v x refl e

@@ -18,7 +18,7 @@ use Rattle.search_form.specs.declared.form.Presence.{Presence}
 use Rattle.search_form.specs.declared.form.Presence.TheVariants.{Optional}
 use Rattle.search_form.specs.Table.{lines_of, other_of, element_of, single_of}
 use Rattle.search_form.specs.Form.{form_at, line_in, line_among, chosen, has, suits, suits_list, allows_inner, has_form, all_have_form, each_has_form}
-use Rattle.search_walk.specs.Fault.{below_fault, ignores, first_fault}
+use Rattle.search_walk.specs.Fault.{below_fault, ignores}
 use Rattle.search_walk.specs.Names.{text_of, text_under, nested_scope, nested_under, child_under, parent_under, root_if, path_or_root, bucket_scope, bucket_scope_in, scope_inside}
 use Rattle.search_walk.specs.Node.{Node, node_here, nodes_at, nodes_in, nodes_among, level_under}
 use Rattle.search_walk.specs.Refusal.{natural_or, window, has_large_window}
@@ -28,7 +28,7 @@ use Rattle.query_parser.specs.Queries.{clause_under}
 use Rattle.query_parser.specs.Readings.{natural_of, up_to, number_under, child_in, parent_in}
 use Rattle.query_parser.specs.Sorts.{sorts_under}
 use Rattle.query_parser.proofs.Clauses.{under_is}
-use Rattle.query_parser.proofs.Faults.{none_of, clean_parts}
+use Rattle.query_parser.proofs.Faults.{Clean, node, clean_head, clean_parts}
 use Rattle.query_parser.proofs.Formed.{suits_parts, member_formed, member_clean}
 use Rattle.query_parser.proofs.Found.{by_test, by_option, nested_found, child_found, parent_found}
 use Rattle.query_parser.proofs.SortClauses.{sorts_under_are}
@@ -65,7 +65,7 @@ above_trans m a b c h g =
 -- ---- parts that pass: not refused, with no large window of inner hits
 
 pub record Passes (m : Mapping) (nodes : Seq Node) : Type 0 where
-  pub clean : first_fault m nodes ≡ None
+  pub clean : Clean m nodes
   pub small : list_any has_large_window nodes ≡ false
 
 small_parts : (xs ys : Seq Node) → list_any has_large_window (xs ++ ys) ≡ false → (list_any has_large_window xs ≡ false) × (list_any has_large_window ys ≡ false)
@@ -289,16 +289,18 @@ module _ (m : Mapping) (root : (n : ℕ) → 0 < n → n < length m.scopes → I
       hit_formed : (suits inner InnerHits hits ≡ true) × (each_has_form inner InnerHits hits ≡ true)
       hit_formed = and_parts (suits inner InnerHits hits) (each_has_form inner InnerHits hits) formed
 
-      sorted : (q : ℕ) → first_fault m (nodes_among m (Some q) level form ms) ≡ None → each_has_form inner InnerHits hits ≡ true → AreSorts m q (sorts_under m (Some q) hits)
+      sorted : (q : ℕ) → Clean m (nodes_among m (Some q) level form ms) → each_has_form inner InnerHits hits ≡ true → AreSorts m q (sorts_under m (Some q) hits)
       sorted q clean f =
-          let hit_clean = subst (λ g. first_fault m (nodes_at m (Some q) (level_under form (form_at form (codes "inner_hits")) level) g (object hits)) ≡ None) line
+          let hit_clean = subst (λ g. Clean m (nodes_at m (Some q) (level_under form (form_at form (codes "inner_hits")) level) g (object hits))) line
           (member_clean m (Some q) level form (codes "inner_hits") ms (object hits) clean e) in
-          sorts_under_are m inner q (level_under form (form_at form (codes "inner_hits")) level) InnerHits hits refl f hit_clean
+          sorts_under_are m inner q (level_under form (form_at form (codes "inner_hits")) level) InnerHits hits refl f
+          (clean_head m (node (Some q) (level_under form (form_at form (codes "inner_hits")) level) InnerHits (object hits))
+          (nodes_among m (Some q) (level_under form (form_at form (codes "inner_hits")) level) InnerHits hits) hit_clean).1
 
-      asked : (q : ℕ) → first_fault m (nodes_among m (Some q) level form ms) ≡ None → IsResolved m q (clause_under m (Some q) (codes "query") ms)
+      asked : (q : ℕ) → Clean m (nodes_among m (Some q) level form ms) → IsResolved m q (clause_under m (Some q) (codes "query") ms)
       asked q clean = under_is m inner q level form (codes "query") ms query h clean
 
-      go : (o : InnerOver) → IsOver s o → first_fault m (nodes_among m (inside_of o) level form ms) ≡ None → each_has_form inner InnerHits hits ≡ true → IsInner m s o (inner_of m (inside_of o) o default ms hits)
+      go : (o : InnerOver) → IsOver s o → Clean m (nodes_among m (inside_of o) level form ms) → each_has_form inner InnerHits hits ≡ true → IsInner m s o (inner_of m (inside_of o) o default ms hits)
       go (Below q) below clean f = (below, asked q clean, sorted q clean f)
       go (Children r) child clean f = (child, asked 0 clean, sorted 0 clean f)
       go (Parents r) parent clean f = (parent, asked 0 clean, sorted 0 clean f)
@@ -367,7 +369,7 @@ module _ (m : Mapping) (root : (n : ℕ) → 0 < n → n < length m.scopes → I
   nested_object : (inner : Bool) (s p level : ℕ) (ms : Members) → Reaches s (Some p) → each_has_form inner Nested ms ≡ true → ObjectPasses (Some p) level Nested ms → InsideAre Nested (nested_under m ms) ms
       → AreInnerDefinitions m s (definitions_of (owned_by m (Some p) Nested ms (inner_among m (nested_under m ms) Nested ms)))
   nested_object inner s p level ms r h passes under =
-      let parts = none_of (below_fault m p (ignores ms) (nested_under m ms)) (first_fault m (nodes_among m (nested_under m ms) level Nested ms)) passes.clean in
+      let parts = clean_head m (node (Some p) level Nested (object ms)) (nodes_among m (nested_under m ms) level Nested ms) passes.clean in
       go (nested_under m ms) refl parts.0 (rest_passes (Some p) level Nested ms passes) under
     where
       go : (o : Option ℕ) → nested_under m ms ≡ o → below_fault m p (ignores ms) o ≡ None → Passes m (nodes_among m o level Nested ms) → InsideAre Nested o ms
@@ -419,7 +421,7 @@ module _ (m : Mapping) (root : (n : ℕ) → 0 < n → n < length m.scopes → I
       subst (λ (ds : Seq (Definition Inner)). AreInnerDefinitions m s (definitions_of ds)) (sym (none_among m (scope_inside m scope ToChild ms) ToChild ms h)) tt
   object_is SortNested inner s None level ms b r h p under = under s b tt
   object_is SortNested inner s (Some q) level ms b r h p under =
-      under s b (down_reaches s q false (nested_under m ms) r (none_of (below_fault m q false (nested_under m ms)) (first_fault m (nodes_among m (nested_under m ms) level SortNested ms)) p.clean).0)
+      under s b (down_reaches s q false (nested_under m ms) r (clean_head m (node (Some q) level SortNested (object ms)) (nodes_among m (nested_under m ms) level SortNested ms) p.clean).0)
   object_is Bucket inner s None level ms b r h p under = under s b tt
   object_is Bucket inner s (Some q) level ms b r h p under = under s b (bucket_reaches s q ms (b refl) r)
   object_is form inner s None level ms b r h p under = under s b tt

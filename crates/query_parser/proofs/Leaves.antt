@@ -13,12 +13,14 @@ use Rattle.search_form.specs.declared.form.Form.{Form}
 use Rattle.search_form.specs.declared.form.Form.TheVariants.{MatchAll, Term, TermField, Terms, Range, RangeField, Exists, Prefix, PrefixField, Match, MatchField, MatchPhrase, PhraseField, Ids, ParentId, Boost, Operator, Value}
 use Rattle.search_form.specs.declared.form.Presence.TheVariants.{Optional, Required}
 use Rattle.search_form.specs.Form.{chosen, suits, allows_inner, has_form, each_has_form}
+use Rattle.search_form.specs.Texts.{AreTexts, EachAreTexts}
 use Rattle.search_walk.specs.Fault.{asked_value, asked_taken, all_taken, elements_taken, bound_taken, bounds_taken, fits_field, leaf_fault, bad_value_unless}
 use Rattle.search_walk.specs.Kinds.{is_valued, may_ask, is_taken}
 use Rattle.search_walk.specs.Names.{kind_named, child_under, text_under}
 use Rattle.query_parser.specs.Queries.{closed_of, end_of, range_of, test_of, field_leaf, leaf_named}
 use Rattle.query_parser.specs.Readings.{value_by_if, values_by, values_of}
 use Rattle.query_parser.proofs.Formed.{suits_parts, first_required, boost_is, boost_under, one_is_boost}
+use Rattle.query_parser.proofs.Texts.{asked_texts, value_text}
 use Rattle.query_parser.proofs.Found.{by_option, field_found, child_found, value_taken}
 
 -- ---- what may be asked of a kind
@@ -155,15 +157,21 @@ module _ (m : Mapping) (f : ℕ) where
   prefix_test : (v : JsonValue) → (may_ask Prefix kind && asked_taken kind Prefix v) ≡ true → IsTestOf m f (test_of (Some kind) Prefix v)
   prefix_test v h = begun_is kind (and_parts (may_ask Prefix kind) (asked_taken kind Prefix v) h).0
 
-  match_test : (inner : Bool) (v : JsonValue) → has_form inner MatchField v ≡ true → (may_ask Match kind && asked_taken kind Match v) ≡ true → IsTestOf m f (test_of (Some kind) Match v)
-  match_test inner v formed h =
-      let parts = and_parts (may_ask Match kind) (asked_taken kind Match v) h in
-      (valued_is kind parts.0, given_is kind (asked_value (codes "query") v) (words_there inner v formed) parts.1)
+  match_test : (inner : Bool) (v : JsonValue) → has_form inner MatchField v ≡ true → AreTexts v → (may_ask Match kind && asked_taken kind Match v) ≡ true → IsTestOf m f (test_of (Some kind) Match v)
+  match_test inner v formed t h =
+      let parts = and_parts (may_ask Match kind) (asked_taken kind Match v) h in (
+        valued_is kind parts.0,
+        given_is kind (asked_value (codes "query") v) (words_there inner v formed) parts.1,
+        value_text kind (asked_value (codes "query") v) (asked_texts (codes "query") v t),
+      )
 
-  phrase_test : (inner : Bool) (v : JsonValue) → has_form inner PhraseField v ≡ true → (may_ask MatchPhrase kind && asked_taken kind MatchPhrase v) ≡ true → IsTestOf m f (test_of (Some kind) MatchPhrase v)
-  phrase_test inner v formed h =
-      let parts = and_parts (may_ask MatchPhrase kind) (asked_taken kind MatchPhrase v) h in
-      (valued_is kind parts.0, given_is kind (asked_value (codes "query") v) (phrase_there inner v formed) parts.1)
+  phrase_test : (inner : Bool) (v : JsonValue) → has_form inner PhraseField v ≡ true → AreTexts v → (may_ask MatchPhrase kind && asked_taken kind MatchPhrase v) ≡ true → IsTestOf m f (test_of (Some kind) MatchPhrase v)
+  phrase_test inner v formed t h =
+      let parts = and_parts (may_ask MatchPhrase kind) (asked_taken kind MatchPhrase v) h in (
+        valued_is kind parts.0,
+        given_is kind (asked_value (codes "query") v) (phrase_there inner v formed) parts.1,
+        value_text kind (asked_value (codes "query") v) (asked_texts (codes "query") v t),
+      )
 
 -- ---- leaves
 
@@ -221,14 +229,14 @@ module _ (m : Mapping) (s level : ℕ) (inner : Bool) where
       let formed = (and_parts (has_form inner PrefixField v) (each_has_form inner Prefix ms) h).0 in
       (asked_is Prefix v (λ f. prefix_test m f v) k (fine_if (fits_field (kind_named m k) Prefix v) e), boost_under inner PrefixField v refl refl formed)
 
-  pub match_is : (ms : Members) → each_has_form inner Match ms ≡ true → leaf_fault m Match (chosen Match ms) ≡ None → IsResolved m s (leaf_named m (Some s) Match ms)
-  match_is no_members h e = (tt, one_is_boost)
-  match_is (member k v ms) h e =
+  pub match_is : (ms : Members) → each_has_form inner Match ms ≡ true → EachAreTexts ms → leaf_fault m Match (chosen Match ms) ≡ None → IsResolved m s (leaf_named m (Some s) Match ms)
+  match_is no_members h t e = (tt, one_is_boost)
+  match_is (member k v ms) h t e =
       let formed = (and_parts (has_form inner MatchField v) (each_has_form inner Match ms) h).0 in
-      (asked_is Match v (λ f. match_test m f inner v formed) k (fine_if (fits_field (kind_named m k) Match v) e), boost_under inner MatchField v refl refl formed)
+      (asked_is Match v (λ f. match_test m f inner v formed t.0) k (fine_if (fits_field (kind_named m k) Match v) e), boost_under inner MatchField v refl refl formed)
 
-  pub phrase_is : (ms : Members) → each_has_form inner MatchPhrase ms ≡ true → leaf_fault m MatchPhrase (chosen MatchPhrase ms) ≡ None → IsResolved m s (leaf_named m (Some s) MatchPhrase ms)
-  phrase_is no_members h e = (tt, one_is_boost)
-  phrase_is (member k v ms) h e =
+  pub phrase_is : (ms : Members) → each_has_form inner MatchPhrase ms ≡ true → EachAreTexts ms → leaf_fault m MatchPhrase (chosen MatchPhrase ms) ≡ None → IsResolved m s (leaf_named m (Some s) MatchPhrase ms)
+  phrase_is no_members h t e = (tt, one_is_boost)
+  phrase_is (member k v ms) h t e =
       let formed = (and_parts (has_form inner PhraseField v) (each_has_form inner MatchPhrase ms) h).0 in
-      (asked_is MatchPhrase v (λ f. phrase_test m f inner v formed) k (fine_if (fits_field (kind_named m k) MatchPhrase v) e), boost_under inner PhraseField v refl refl formed)
+      (asked_is MatchPhrase v (λ f. phrase_test m f inner v formed t.0) k (fine_if (fits_field (kind_named m k) MatchPhrase v) e), boost_under inner PhraseField v refl refl formed)

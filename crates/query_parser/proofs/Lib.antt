@@ -3,6 +3,7 @@ pub mod Keys
 pub mod Faults
 pub mod Found
 pub mod Formed
+pub mod Texts
 pub mod Leaves
 pub mod Clauses
 pub mod SortClauses

@@ -12,6 +12,7 @@ use Rattle.search_form.specs.declared.form.Form.TheVariants.{Body, Query, Sort, 
 use Rattle.search_form.specs.declared.form.Presence.{Presence}
 use Rattle.search_form.specs.declared.form.Presence.TheVariants.{Optional}
 use Rattle.search_form.specs.Form.{suits, suits_list, clause_count, elements_length, starts_at_0, after_fits, has_form, all_have_form, each_has_form, is_search_body}
+use Rattle.search_form.specs.Texts.{AreTexts, EachAreTexts}
 use Rattle.search_walk.specs.After.{keys_are_taken}
 use Rattle.search_walk.specs.Fault.{bad_value_unless, first_fault}
 use Rattle.search_walk.specs.Names.{buckets_in}
@@ -27,13 +28,14 @@ use Rattle.query_parser.specs.Sorts.{sorts_under}
 use Rattle.query_parser.proofs.AfterKeys.{AreFine, AreFineIf, keys_are}
 use Rattle.query_parser.proofs.BucketDefinitions.{body_buckets}
 use Rattle.query_parser.proofs.Clauses.{at_is}
-use Rattle.query_parser.proofs.Faults.{none_of, clean_parts}
+use Rattle.query_parser.proofs.Faults.{Clean, node, none_of, clean_head, clean_parts}
 use Rattle.query_parser.proofs.Formed.{suits_parts, member_formed, one_is_boost}
 use Rattle.query_parser.proofs.Found.{by_option}
 use Rattle.query_parser.proofs.InnerDefinitions.{Passes, passes_parts, no_more, at_inner, append_are}
 use Rattle.query_parser.proofs.Leaves.{fine_if}
 use Rattle.query_parser.proofs.Members.{clause_there, clause_absent}
-use Rattle.query_parser.proofs.SortClauses.{sorts_are, clause_fault_free}
+use Rattle.query_parser.proofs.Texts.{body_texts}
+use Rattle.query_parser.proofs.SortClauses.{sort_count, sorts_are, clause_fault_free}
 
 -- ---- the limits that a body which isn't refused keeps
 
@@ -91,14 +93,14 @@ module _ (m : Mapping) where
 
   -- ---- search_after
 
-  all_fine : (cs : Elements) → all_have_form true SortClause cs ≡ true → first_fault m (nodes_in m (Some 0) 1 SortClause cs) ≡ None → AreFine m cs
+  all_fine : (cs : Elements) → all_have_form true SortClause cs ≡ true → Clean m (nodes_in m (Some 0) 1 SortClause cs) → AreFine m cs
   all_fine no_elements h e = tt
   all_fine (element c cs) h e =
       let formed = and_parts (has_form true SortClause c) (all_have_form true SortClause cs) h in
       let clean = clean_parts m (nodes_at m (Some 0) 1 SortClause c) (nodes_in m (Some 0) 1 SortClause cs) e in
       (clause_fault_free m 0 1 c true formed.0 clean.0, all_fine cs formed.1 clean.1)
 
-  sort_fine : (d : JsonValue) → has_form true Sort d ≡ true → first_fault m (nodes_at m (Some 0) 1 Sort d) ≡ None → AreFineIf m (Some d)
+  sort_fine : (d : JsonValue) → has_form true Sort d ≡ true → Clean m (nodes_at m (Some 0) 1 Sort d) → AreFineIf m (Some d)
   sort_fine (list cs) h e = all_fine cs (and_parts (suits_list Sort cs) (all_have_form true SortClause cs) h).1 e
   sort_fine (object ms) h e = clause_fault_free m 0 1 (object ms) true h e
   sort_fine (text t) h e = clause_fault_free m 0 1 (text t) true h e
@@ -106,7 +108,7 @@ module _ (m : Mapping) where
   sort_fine (bool b) h e = absurd (false≢true h)
   sort_fine (whole z) h e = absurd (false≢true h)
 
-  after_is : (body : Members) → each_has_form true Body body ≡ true → Passes m (nodes_under m Sort (codes "sort") body) → first_fault m (after_nodes body) ≡ None
+  after_is : (body : Members) → each_has_form true Body body ≡ true → Passes m (nodes_under m Sort (codes "sort") body) → Clean m (after_nodes body)
       → after_fits (member_of body (codes "search_after")) (member_of body (codes "sort")) (member_of body (codes "from")) ≡ true
       → IsAfter m (sorts_under m (Some 0) body) (after_of (member_of body (codes "search_after")))
   after_is body h p e fit =
@@ -122,10 +124,10 @@ module _ (m : Mapping) where
 
       go : (d : JsonValue) → member_of body (codes "search_after") ≡ Some d → IsAfter m (sorts_under m (Some 0) body) (after_of (Some d))
       go (list ds) is =
-          let judged = subst (λ o. first_fault m (after_nodes_if body o) ≡ None) is e in
+          let judged = subst (λ o. Clean m (after_nodes_if body o)) is e in
           let taken : keys_are_taken m (member_of body (codes "sort")) (member_of body (codes "search_after")) ≡ true =
           fine_if (keys_are_taken m (member_of body (codes "sort")) (member_of body (codes "search_after")))
-          (none_of (bad_value_unless (keys_are_taken m (member_of body (codes "sort")) (member_of body (codes "search_after")))) None judged).0 in
+          (clean_head m (node (Some 0) 1 SearchAfter (object body)) [] judged).0 in
           let fits = subst (λ o. after_fits o (member_of body (codes "sort")) (member_of body (codes "from")) ≡ true) is fit in
           let long = and_parts (elements_length ds == clause_count (member_of body (codes "sort")) + 1) (starts_at_0 (member_of body (codes "from"))) fits in
           keys_are m (member_of body (codes "sort")) ds fine (subst (λ o. keys_are_taken m (member_of body (codes "sort")) o ≡ true) is taken)
@@ -150,20 +152,23 @@ module _ (m : Mapping) where
     part_inner form None p h = tt
     part_inner form (Some d) p h = at_inner m root true 0 (Some 0) 1 form d (λ e. refl) (inl refl) (h d refl) p
 
-    pub body_is : (body : Members) → has_form true Body (object body) ≡ true → first_refusal m (object body) ≡ None → IsSearch m (search_by m body)
+    pub body_is : (body : Members) → has_form true Body (object body) ≡ true → EachAreTexts body → first_refusal m (object body) ≡ None → IsSearch m (search_by m body)
     unfolding first_refusal nodes_of
-    body_is body h e =
+    body_is body h texts e =
         let formed = and_parts (suits true Body body) (each_has_form true Body body) h in
         let whole_object = suits_parts true Body body_lines body formed.0 in
         let none = none_of (first_fault m (nodes_of m body)) (limit_refusal body (nodes_of m body)) e in
         let kept = keeps_limits body (nodes_of m body) none.1 in
-        let all : Passes m (nodes_of m body) = record { clean = none.0; small = kept.small } in
+        let all : Passes m (nodes_of m body) = record { clean = record { free = none.0; texts = body_texts m body texts }; small = kept.small } in
         let halves = passes_parts m (hit_nodes m body) (bucket_nodes m body) all in
         let first = passes_parts m (nodes_under m Query (codes "query") body) (nodes_under m Sort (codes "sort") body ++ after_nodes body) halves.0 in
         let second = passes_parts m (nodes_under m Sort (codes "sort") body) (after_nodes body) first.1 in
+        let counted = sort_count m true 0 (member_of body (codes "sort")) (λ d is. member_formed true Body (codes "sort") body d formed.1 is) in
         record {
           query = query_is body formed.1 first.0;
           sorts = body_sorts body formed.1 second.0;
+          some_sort = counted.0;
+          few_sorts = counted.1;
           after = after_is body formed.1 second.0 second.1.clean whole_object.3;
           window = window_is body kept.window;
           buckets = body_buckets m body (buckets_formed body formed.1) (λ d is. (part_clean Buckets (buckets_in body) d halves.1 is).clean);
@@ -178,11 +183,11 @@ module _ (m : Mapping) where
         window_is : (body : Members) → window 10 body ≤ 10_000 → number_under 10_000 0 body (codes "from") + number_under 10_000 10 body (codes "size") ≤ 10_000
         window_is body kept = omega (arith, kept, no_more 10_000 0 (member_of body (codes "from")) (omega arith), no_more 10_000 10 (member_of body (codes "size")) (omega arith))
 
-    pub search_is : (body : JsonValue) → is_search_body body ≡ true → first_refusal m body ≡ None → IsSearch m (search_of m body)
+    pub search_is : (body : JsonValue) → is_search_body body ≡ true → AreTexts body → first_refusal m body ≡ None → IsSearch m (search_of m body)
     unfolding is_search_body search_of
-    search_is (object body) h e = body_is body h e
-    search_is null h e = absurd (false≢true h)
-    search_is (bool b) h e = absurd (false≢true h)
-    search_is (whole z) h e = absurd (false≢true h)
-    search_is (text t) h e = absurd (false≢true h)
-    search_is (list ds) h e = absurd (false≢true h)
+    search_is (object body) h t e = body_is body h t e
+    search_is null h t e = absurd (false≢true h)
+    search_is (bool b) h t e = absurd (false≢true h)
+    search_is (whole z) h t e = absurd (false≢true h)
+    search_is (text s) h t e = absurd (false≢true h)
+    search_is (list ds) h t e = absurd (false≢true h)

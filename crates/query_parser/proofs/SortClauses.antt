@@ -1,6 +1,6 @@
 -- A sort that is read and not refused is resolved in the scope in which it stands, and so are the keys of `search_after`.
-use Rattle.std.proofs.Common.{◌≡◌, ℕ, List as Seq, Bool, true, false, ◌&&◌, ◌||◌, not, if◌then◌else◌, Option, Some, None, option_map, refl, sym, ap, ◌∙◌, subst, bytes_eq, codes}
-use Rattle.std.proofs.lemmas.Bool.{and_parts, false≢true}
+use Rattle.std.proofs.Common.{◌≡◌, ℕ, List as Seq, Bool, true, false, ◌&&◌, ◌||◌, not, if◌then◌else◌, Option, Some, None, option_map, refl, sym, ap, ◌∙◌, subst, bytes_eq, codes, ◌≤◌, ◌<◌, ◌+◌, length, [], ◌∷◌, arith, ◌++◌}
+use Rattle.std.proofs.lemmas.Bool.{and_parts, false≢true, leb-true}
 use Rattle.std.proofs.lemmas.Slice.Eq.{bytes_eq-Decides}
 use Rattle.tree_json.specs.Value.{JsonValue, null, bool, whole, text, list, object, Elements, no_elements, element, Members, no_members, member, member_of}
 use Rattle.mapping_body.specs.declared.kind.Kind.{Kind}
@@ -15,8 +15,8 @@ use Rattle.search_form.specs.declared.form.Form.{Form}
 use Rattle.search_form.specs.declared.form.Form.TheVariants.{SortClause, ScoreSort, FieldSort, SortNested, Sort as SortForm}
 use Rattle.search_form.specs.declared.form.Presence.{Presence}
 use Rattle.search_form.specs.declared.form.Presence.TheVariants.{Choice}
-use Rattle.search_form.specs.Form.{form_at, chosen, suits, suits_list, has_form, all_have_form, each_has_form}
-use Rattle.search_walk.specs.Fault.{below_fault, sort_fault, field_sort_fault, mode_fault, first_fault}
+use Rattle.search_form.specs.Form.{elements_length, form_at, chosen, suits, suits_list, has_form, all_have_form, each_has_form}
+use Rattle.search_walk.specs.Fault.{below_fault, sort_fault, field_sort_fault, mode_fault}
 use Rattle.search_walk.specs.Kinds.{is_keyword, is_sortable, is_taken}
 use Rattle.search_walk.specs.Names.{text_of, text_under, nested_under, kind_named}
 use Rattle.search_walk.specs.Node.{nodes_at, nodes_in, nodes_among, level_under}
@@ -24,7 +24,7 @@ use Rattle.search_walk.specs.Sorts.{sort_name, sort_part, part_if, part_of, name
 use Rattle.search_walk.specs.declared.refusal.SearchRefusal.TheVariants.{PathOutOfScope, SortFieldUnmapped, BadSort}
 use Rattle.query_parser.specs.Sorts.{filter_if, with_step, chain_at, chain_under, chain_if, descends, mode_named, missing_by, missing_word, missing_of, by_score_in, field_sort, sort_at, sorts_in, sorts_of, sorts_under}
 use Rattle.query_parser.proofs.Clauses.{at_is}
-use Rattle.query_parser.proofs.Faults.{none_of, clean_parts}
+use Rattle.query_parser.proofs.Faults.{Clean, node, clean_head, clean_parts}
 use Rattle.query_parser.proofs.Formed.{member_formed, member_clean, chosen_formed}
 use Rattle.query_parser.proofs.Found.{by_test, by_option, nested_found, field_found, value_taken}
 
@@ -45,19 +45,19 @@ field_line name apart =
 -- ---- chains
 
 module _ (m : Mapping) where
-  filter_is : (inner : Bool) (p level : ℕ) (ms : Members) → each_has_form inner SortNested ms ≡ true → first_fault m (nodes_among m (Some p) level SortNested ms) ≡ None → IsFilter m p (filter_if m p (member_of ms (codes "filter")))
+  filter_is : (inner : Bool) (p level : ℕ) (ms : Members) → each_has_form inner SortNested ms ≡ true → Clean m (nodes_among m (Some p) level SortNested ms) → IsFilter m p (filter_if m p (member_of ms (codes "filter")))
   filter_is inner p level ms h e =
       by_option (λ o. IsFilter m p (filter_if m p o)) (member_of ms (codes "filter"))
       (λ is. tt)
       (λ d is. at_is m inner p 1 d (member_formed inner SortNested (codes "filter") ms d h is) (member_clean m (Some p) level SortNested (codes "filter") ms d e is))
 
-  step_is : (inner : Bool) (s level : ℕ) (ms : Members) → ((p : ℕ) → first_fault m (nodes_among m (Some p) level SortNested ms) ≡ None → IsChain m p (chain_under m (Some p) ms))
-      → each_has_form inner SortNested ms ≡ true → first_fault m (nodes_at m (Some s) level SortNested (object ms)) ≡ None → IsChain m s (chain_at m (Some s) (object ms))
+  step_is : (inner : Bool) (s level : ℕ) (ms : Members) → ((p : ℕ) → Clean m (nodes_among m (Some p) level SortNested ms) → IsChain m p (chain_under m (Some p) ms))
+      → each_has_form inner SortNested ms ≡ true → Clean m (nodes_at m (Some s) level SortNested (object ms)) → IsChain m s (chain_at m (Some s) (object ms))
   step_is inner s level ms under h e =
-      let parts = none_of (below_fault m s false (nested_under m ms)) (first_fault m (nodes_among m (nested_under m ms) level SortNested ms)) e in
+      let parts = clean_head m (node (Some s) level SortNested (object ms)) (nodes_among m (nested_under m ms) level SortNested ms) e in
       go (nested_under m ms) refl parts.0 parts.1
     where
-      go : (o : Option ℕ) → nested_under m ms ≡ o → below_fault m s false o ≡ None → first_fault m (nodes_among m o level SortNested ms) ≡ None → IsChain m s (with_step m o ms (chain_under m o ms))
+      go : (o : Option ℕ) → nested_under m ms ≡ o → below_fault m s false o ≡ None → Clean m (nodes_among m o level SortNested ms) → IsChain m s (with_step m o ms (chain_under m o ms))
       go None is f clean = tt
       go (Some p) is f clean = (
         (
@@ -69,7 +69,7 @@ module _ (m : Mapping) where
       )
 
   mutual
-    pub chain_is : (inner : Bool) (s level : ℕ) (v : JsonValue) → has_form inner SortNested v ≡ true → first_fault m (nodes_at m (Some s) level SortNested v) ≡ None → IsChain m s (chain_at m (Some s) v)
+    pub chain_is : (inner : Bool) (s level : ℕ) (v : JsonValue) → has_form inner SortNested v ≡ true → Clean m (nodes_at m (Some s) level SortNested v) → IsChain m s (chain_at m (Some s) v)
     chain_is inner s level (object ms) h e =
         let formed = and_parts (suits inner SortNested ms) (each_has_form inner SortNested ms) h in
         step_is inner s level ms (λ p clean. chain_under_is inner p level ms formed.1 clean) formed.1 e
@@ -79,7 +79,7 @@ module _ (m : Mapping) where
     chain_is inner s level (text t) h e = tt
     chain_is inner s level (list ds) h e = tt
 
-    chain_under_is : (inner : Bool) (s level : ℕ) (ms : Members) → each_has_form inner SortNested ms ≡ true → first_fault m (nodes_among m (Some s) level SortNested ms) ≡ None → IsChain m s (chain_under m (Some s) ms)
+    chain_under_is : (inner : Bool) (s level : ℕ) (ms : Members) → each_has_form inner SortNested ms ≡ true → Clean m (nodes_among m (Some s) level SortNested ms) → IsChain m s (chain_under m (Some s) ms)
     chain_under_is inner s level no_members h e = tt
     chain_under_is inner s level (member k v ms) h e =
         let formed = and_parts (has_form inner (form_at SortNested k) v) (each_has_form inner SortNested ms) h in
@@ -89,7 +89,7 @@ module _ (m : Mapping) where
         let chain : form_at SortNested k ≡ SortNested = ap (form_at SortNested) ((bytes_eq-Decides k (codes "nested")).0 same) in
         rw same (chain_is inner s (level_under SortNested (form_at SortNested k) level) v
         (subst (λ f. has_form inner f v ≡ true) chain formed.0)
-        (subst (λ f. first_fault m (nodes_at m (Some s) (level_under SortNested (form_at SortNested k) level) f v) ≡ None) chain clean.0)))
+        (subst (λ f. Clean m (nodes_at m (Some s) (level_under SortNested (form_at SortNested k) level) f v)) chain clean.0)))
         (λ other. rw other (chain_under_is inner s level ms formed.1 clean.1))
 
   -- ---- a clause on a field
@@ -165,7 +165,7 @@ module _ (m : Mapping) where
   sorted_is Join h = h
 
   -- the chain of a clause on a field
-  part_chain : (inner : Bool) (s level : ℕ) (v : JsonValue) → has_form inner FieldSort v ≡ true → first_fault m (nodes_at m (Some s) level FieldSort v) ≡ None → IsChain m s (chain_if m (Some s) (part_of v (codes "nested")))
+  part_chain : (inner : Bool) (s level : ℕ) (v : JsonValue) → has_form inner FieldSort v ≡ true → Clean m (nodes_at m (Some s) level FieldSort v) → IsChain m s (chain_if m (Some s) (part_of v (codes "nested")))
   part_chain inner s level (object cs) h e =
       let formed = (and_parts (suits inner FieldSort cs) (each_has_form inner FieldSort cs) h).1 in
       by_option (λ o. IsChain m s (chain_if m (Some s) o)) (member_of cs (codes "nested"))
@@ -177,7 +177,7 @@ module _ (m : Mapping) where
   part_chain inner s level (text t) h e = tt
   part_chain inner s level (list ds) h e = tt
 
-  clause_chain : (inner : Bool) (s level : ℕ) (ms : Members) → is_score (sort_name (object ms)) ≡ false → each_has_form inner SortClause ms ≡ true → first_fault m (nodes_among m (Some s) level SortClause ms) ≡ None
+  clause_chain : (inner : Bool) (s level : ℕ) (ms : Members) → is_score (sort_name (object ms)) ≡ false → each_has_form inner SortClause ms ≡ true → Clean m (nodes_among m (Some s) level SortClause ms)
       → IsChain m s (chain_if m (Some s) (sort_part (object ms) (codes "nested")))
   clause_chain inner s level ms apart h e =
       by_option (λ o. chosen SortClause ms ≡ o → is_score (name_if o) ≡ false → IsChain m s (chain_if m (Some s) (part_if o (codes "nested")))) (chosen SortClause ms)
@@ -187,7 +187,7 @@ module _ (m : Mapping) where
       let line : form_at SortClause c.0 ≡ FieldSort = field_line c.0 no in
       part_chain inner s level c.2
       (subst (λ f. has_form inner f c.2 ≡ true) line (member_formed inner SortClause c.0 ms c.2 h choice.there))
-      (subst (λ f. first_fault m (nodes_at m (Some s) level f c.2) ≡ None) line (member_clean m (Some s) level SortClause c.0 ms c.2 e choice.there)))
+      (subst (λ f. Clean m (nodes_at m (Some s) level f c.2)) line (member_clean m (Some s) level SortClause c.0 ms c.2 e choice.there)))
       refl apart
 
   -- ---- clauses
@@ -212,17 +212,17 @@ module _ (m : Mapping) where
       (λ held. refl)
       (λ apart. field_sort_is s v apart e (chain apart))
 
-  pub clause_fault_free : (s level : ℕ) (v : JsonValue) (inner : Bool) → has_form inner SortClause v ≡ true → first_fault m (nodes_at m (Some s) level SortClause v) ≡ None → sort_fault m v ≡ None
-  clause_fault_free s level (object ms) inner h e = (none_of (sort_fault m (object ms)) (first_fault m (nodes_among m (Some s) level SortClause ms)) e).0
-  clause_fault_free s level (text t) inner h e = (none_of (sort_fault m (text t)) None e).0
+  pub clause_fault_free : (s level : ℕ) (v : JsonValue) (inner : Bool) → has_form inner SortClause v ≡ true → Clean m (nodes_at m (Some s) level SortClause v) → sort_fault m v ≡ None
+  clause_fault_free s level (object ms) inner h e = (clean_head m (node (Some s) level SortClause (object ms)) (nodes_among m (Some s) level SortClause ms) e).0
+  clause_fault_free s level (text t) inner h e = (clean_head m (node (Some s) level SortClause (text t)) [] e).0
   clause_fault_free s level null inner h e = absurd (false≢true h)
   clause_fault_free s level (bool b) inner h e = absurd (false≢true h)
   clause_fault_free s level (whole z) inner h e = absurd (false≢true h)
   clause_fault_free s level (list ds) inner h e = absurd (false≢true h)
 
-  pub sort_clause_is : (inner : Bool) (s level : ℕ) (v : JsonValue) → has_form inner SortClause v ≡ true → first_fault m (nodes_at m (Some s) level SortClause v) ≡ None → IsSortOf s (sort_at m (Some s) v)
+  pub sort_clause_is : (inner : Bool) (s level : ℕ) (v : JsonValue) → has_form inner SortClause v ≡ true → Clean m (nodes_at m (Some s) level SortClause v) → IsSortOf s (sort_at m (Some s) v)
   sort_clause_is inner s level (object ms) h e =
-      let parts = none_of (sort_fault m (object ms)) (first_fault m (nodes_among m (Some s) level SortClause ms)) e in
+      let parts = clean_head m (node (Some s) level SortClause (object ms)) (nodes_among m (Some s) level SortClause ms) e in
       sort_is s (object ms) parts.0 (λ apart. clause_chain inner s level ms apart (and_parts (suits inner SortClause ms) (each_has_form inner SortClause ms) h).1 parts.1)
   sort_clause_is inner s level (text t) h e = sort_is s (text t) (clause_fault_free s level (text t) inner h e) (λ apart. tt)
   sort_clause_is inner s level null h e = absurd (false≢true h)
@@ -230,14 +230,14 @@ module _ (m : Mapping) where
   sort_clause_is inner s level (whole z) h e = absurd (false≢true h)
   sort_clause_is inner s level (list ds) h e = absurd (false≢true h)
 
-  sorts_in_is : (inner : Bool) (s level : ℕ) (ds : Elements) → all_have_form inner SortClause ds ≡ true → first_fault m (nodes_in m (Some s) level SortClause ds) ≡ None → AreSorts m s (sorts_in m (Some s) ds)
+  sorts_in_is : (inner : Bool) (s level : ℕ) (ds : Elements) → all_have_form inner SortClause ds ≡ true → Clean m (nodes_in m (Some s) level SortClause ds) → AreSorts m s (sorts_in m (Some s) ds)
   sorts_in_is inner s level no_elements h e = tt
   sorts_in_is inner s level (element d ds) h e =
       let formed = and_parts (has_form inner SortClause d) (all_have_form inner SortClause ds) h in
       let clean = clean_parts m (nodes_at m (Some s) level SortClause d) (nodes_in m (Some s) level SortClause ds) e in
       (sort_clause_is inner s level d formed.0 clean.0, sorts_in_is inner s level ds formed.1 clean.1)
 
-  sorts_of_is : (inner : Bool) (s level : ℕ) (v : JsonValue) → has_form inner SortForm v ≡ true → first_fault m (nodes_at m (Some s) level SortForm v) ≡ None → AreSorts m s (sorts_of m (Some s) (Some v))
+  sorts_of_is : (inner : Bool) (s level : ℕ) (v : JsonValue) → has_form inner SortForm v ≡ true → Clean m (nodes_at m (Some s) level SortForm v) → AreSorts m s (sorts_of m (Some s) (Some v))
   sorts_of_is inner s level (list no_elements) h e = (refl, tt)
   sorts_of_is inner s level (list (element d ds)) h e =
       sorts_in_is inner s level (element d ds) (and_parts (suits_list SortForm (element d ds)) (all_have_form inner SortClause (element d ds)) h).1 e
@@ -248,14 +248,28 @@ module _ (m : Mapping) where
   sorts_of_is inner s level (whole z) h e = absurd (false≢true h)
 
   -- the sort of an object that has its form
-  pub sorts_under_are : (inner : Bool) (s level : ℕ) (form : Form) (ms : Members) → form_at form (codes "sort") ≡ SortForm → each_has_form inner form ms ≡ true → first_fault m (nodes_among m (Some s) level form ms) ≡ None → AreSorts m s (sorts_under m (Some s) ms)
+  pub sorts_under_are : (inner : Bool) (s level : ℕ) (form : Form) (ms : Members) → form_at form (codes "sort") ≡ SortForm → each_has_form inner form ms ≡ true → Clean m (nodes_among m (Some s) level form ms) → AreSorts m s (sorts_under m (Some s) ms)
   sorts_under_are inner s level form ms line h e =
       by_option (λ o. AreSorts m s (sorts_of m (Some s) o)) (member_of ms (codes "sort"))
       (λ is. (refl, tt))
       (λ d is. sorts_of_is inner s (level_under form (form_at form (codes "sort")) level) d
       (subst (λ f. has_form inner f d ≡ true) line (member_formed inner form (codes "sort") ms d h is))
-      (subst (λ f. first_fault m (nodes_at m (Some s) (level_under form (form_at form (codes "sort")) level) f d) ≡ None) line (member_clean m (Some s) level form (codes "sort") ms d e is)))
+      (subst (λ f. Clean m (nodes_at m (Some s) (level_under form (form_at form (codes "sort")) level) f d)) line (member_clean m (Some s) level form (codes "sort") ms d e is)))
 
-  pub sorts_are : (inner : Bool) (s level : ℕ) (o : Option JsonValue) → ((d : JsonValue) → o ≡ Some d → has_form inner SortForm d ≡ true) → ((d : JsonValue) → o ≡ Some d → first_fault m (nodes_at m (Some s) level SortForm d) ≡ None) → AreSorts m s (sorts_of m (Some s) o)
+  pub sorts_are : (inner : Bool) (s level : ℕ) (o : Option JsonValue) → ((d : JsonValue) → o ≡ Some d → has_form inner SortForm d ≡ true) → ((d : JsonValue) → o ≡ Some d → Clean m (nodes_at m (Some s) level SortForm d)) → AreSorts m s (sorts_of m (Some s) o)
   sorts_are inner s level None h e = (refl, tt)
   sorts_are inner s level (Some d) h e = sorts_of_is inner s level d (h d refl) (e d refl)
+
+-- ---- how many clauses there are
+
+sorts_in_count : (m : Mapping) (scope : Option ℕ) (ds : Elements) → length (sorts_in m scope ds) ≡ elements_length ds
+sorts_in_count m scope no_elements = refl
+sorts_in_count m scope (element d ds) = omega (arith, sorts_in_count m scope ds)
+
+pub sort_count : (m : Mapping) (inner : Bool) (s : ℕ) (o : Option JsonValue) → ((d : JsonValue) → o ≡ Some d → has_form inner SortForm d ≡ true) → (1 ≤ length (sorts_of m (Some s) o)) × (length (sorts_of m (Some s) o) ≤ 16)
+sort_count m inner s None h = (omega arith, omega arith)
+sort_count m inner s (Some (list no_elements)) h = (omega arith, omega arith)
+sort_count m inner s (Some (list (element d ds))) h =
+    let few : elements_length (element d ds) ≤ 16 = leb-true (elements_length (element d ds)) 16 (and_parts (suits_list SortForm (element d ds)) (all_have_form inner SortClause (element d ds)) (h (list (element d ds)) refl)).0 in
+    (omega (arith, sorts_in_count m (Some s) ds), omega (arith, few, sorts_in_count m (Some s) ds))
+sort_count m inner s (Some v) h = (omega arith, omega arith)

@@ -44,10 +44,12 @@ impl<'a> Shape<'a> {
     ghost use Rattle.tree_json.specs.Value.{object, members_of};
     ghost use Rattle.tree_json.specs.View.{view};
     ghost use Rattle.search_form.specs.Form.{is_search_body};
+    ghost use Rattle.search_form.specs.Texts.{AreTexts};
 
     /// The body.
     pub fn body(&self) -> &'a Json
         ensures body { view result.now ≡ self.now }
+        ensures texts { AreTexts self.now }
         ensures form { is_search_body self.now ≡ true }
     {
         self.body
@@ -56,6 +58,7 @@ impl<'a> Shape<'a> {
     /// The members of the body, which is an object.
     pub fn members(&self) -> &'a JsonObject
         ensures members { self.now ≡ object (members_of result.now) }
+        ensures texts { AreTexts self.now }
         ensures form { is_search_body self.now ≡ true }
     {
         self.members

@@ -1,5 +1,5 @@
 -- To be believed: the bytes of a segment part by part, which columns can be written, which agree, which bytes are a segment,
--- what the columns say of documents, roots and live bits, and what a document shows.
+-- today and before mappings grew, what the columns say of documents, roots and live bits, and what a document shows.
 pub mod Text
 pub mod Fields
 pub mod Parts
@@ -7,6 +7,7 @@ pub mod Lists
 pub mod Roots
 pub mod Agree
 pub mod Encoding
+pub mod Old
 pub mod Flat
 pub mod Shows
 pub mod Live
@@ -21,4 +22,5 @@ pub mod Tails
 pub mod Whole
 pub mod Kinds
 pub mod InPlace
+pub mod Renewals
 pub mod Segments

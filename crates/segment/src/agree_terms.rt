@@ -2,6 +2,8 @@
 
 ghost use Rattle.std.specs.Prelude.{◌≡◌, ◌<◌, ◌≤◌, ◌↔◌, ℕ, List, length, map, slice_get, slice_index_or, Some, [], All, Contains, IsTrue, FitsSigned};
 ghost use Rattle.std.specs.Int.{w64};
+ghost use Rattle.std.specs.List.Sorted.{IsSorted};
+ghost use Rattle.std.specs.Ordering.{nat_cmp, int_cmp};
 ghost use Rattle.term_table.specs.Keys.{number_key};
 ghost use Rattle.segment.specs.Fields.{column_of};
 ghost use Rattle.segment.specs.Lists.{terms_of, postings_of};
@@ -12,6 +14,7 @@ use crate::parts::Parts;
 use block_bits::BitSet;
 use doc_values::{NumberColumn, OrdinalColumn, Values};
 use postings::Cursor;
+use std::cmp::Ordering;
 use term_table::number_of;
 
 /// The greatest number of bytes of a term (Lucene's `IndexWriter.MAX_TERM_LENGTH`).
@@ -134,21 +137,28 @@ fn is_number(rows: &NumberColumn, key: &[u8], doc: u32, positions: u32) -> bool
     has_key(&rows.values(doc), key)
 }
 
-/// Whether an ordinal is one of these.
+/// Whether an ordinal is one of these, which ascend.
 fn has_ordinal(values: &Values<u64>, ordinal: u64) -> bool
+    requires { IsSorted nat_cmp values.now }
     ensures { IsTrue result ↔ Contains values.now ordinal }
 {
-    'values: for at in 0..values.len() {
-        if values.value(at) == ordinal {
-            return true;
+    let mut low = 0;
+    let mut high = values.len();
+    'halves: while low < high {
+        let middle = low + (high - low) / 2;
+        match values.value(middle).cmp(&ordinal) {
+            Ordering::Less => low = middle + 1,
+            Ordering::Equal => return true,
+            Ordering::Greater => high = middle,
         }
     }
     false
 }
 
-/// Whether one of these numbers has this key.
+/// Whether one of these numbers, which ascend, has this key.
 fn has_key(values: &Values<i64>, key: &[u8]) -> bool
-    requires { All (FitsSigned w64) values.now }
+    requires ascending { IsSorted int_cmp values.now }
+    requires fit { All (FitsSigned w64) values.now }
     ensures { IsTrue result ↔ Contains (map number_key values.now) key.now }
 {
     match number_of(key) {
@@ -157,13 +167,19 @@ fn has_key(values: &Values<i64>, key: &[u8]) -> bool
     }
 }
 
-/// Whether a number is one of these.
+/// Whether a number is one of these, which ascend.
 fn has_number(values: &Values<i64>, number: i64) -> bool
+    requires { IsSorted int_cmp values.now }
     ensures { IsTrue result ↔ Contains values.now number }
 {
-    'values: for at in 0..values.len() {
-        if values.value(at) == number {
-            return true;
+    let mut low = 0;
+    let mut high = values.len();
+    'halves: while low < high {
+        let middle = low + (high - low) / 2;
+        match values.value(middle).cmp(&number) {
+            Ordering::Less => low = middle + 1,
+            Ordering::Equal => return true,
+            Ordering::Greater => high = middle,
         }
     }
     false

@@ -30,14 +30,26 @@ pub(crate) fn segment_bytes(alloc: Global, columns: &Columns) -> Result<Vec<u8>,
 }
 
 /// Appends the number of documents, and the documents of each scope.
-#[tactic(auto, unfolding(crate::specs::Text::head_text))]
 fn put_head(columns: &Columns, into: &mut Vec<u8>) -> Result<(), NoMemory>
     requires { AreParts columns.now }
     ensures { OnOk result (into.new.items ≡ into.old.items ++ head_text columns.now.documents columns.now.scopes) }
 {
+    put_head_of(columns.documents, columns.scopes.as_slice(), into)
+}
+
+/// Appends a number of documents, and the documents of each of these scopes.
+#[tactic(auto, unfolding(crate::specs::Text::head_text))]
+pub(crate) fn put_head_of(
+    documents: u32,
+    scopes: &[BitSet],
+    into: &mut Vec<u8>,
+) -> Result<(), NoMemory>
+    requires { length scopes.now < 2 ^ 32 }
+    ensures { OnOk result (into.new.items ≡ into.old.items ++ head_text documents scopes.now) }
+{
     into.extend_from_slice(b"SEG2".as_slice())?;
-    put_u32(into, columns.documents)?;
-    put_scopes(columns.scopes.as_slice(), into)
+    put_u32(into, documents)?;
+    put_scopes(scopes, into)
 }
 
 /// Appends the documents of each scope behind the number of scopes.

@@ -1,8 +1,9 @@
 //! Segments to and from the bytes that a store keeps.
 //!
 //! A segment is its bytes, so the codec copies them out and takes them in (Lucene's codecs, package
-//! `org.apache.lucene.codecs`, in one format). The crate stands on `segment`. What others use is that `decode` gives a
-//! segment exactly where the bytes are an encoding, and that `encode` gives that encoding: each segment has one.
+//! `org.apache.lucene.codecs`). The crate stands on `segment`. What others use is that `decode` gives a segment exactly where
+//! the bytes are an encoding, that `encode` gives that encoding, each segment having one, and that `decode_old` reads the
+//! form of segments before mappings grew.
 #![tactic(auto)]
 
 #[cfg(test)]
@@ -10,9 +11,10 @@ mod tests;
 
 ghost use Rattle.std.specs.Prelude.{◌≡◌, IfOk, IsErrOf};
 ghost use Rattle.segment.specs.Encoding.{IsEncoding};
+ghost use Rattle.segment.specs.Old.{IsOldEncoding};
 ghost use Rattle.segment.specs.declared.columns.Columns.{Columns};
 
-use segment::{Bytes, Segment, SegmentRefusal};
+use segment::{Bytes, Segment, SegmentRefusal, renewed};
 use std::alloc::Global;
 
 /// Memory ran out.
@@ -34,6 +36,17 @@ pub enum CodecRefusal {
     NoMemory,
 }
 
+impl From<segment::NoMemory> for CodecRefusal {
+    ghost use Rattle.std.specs.Prelude.{◌≡◌};
+    ghost use Rattle.segment_codec.specs.declared.CodecRefusal.TheVariants.{NoMemory};
+
+    ghost from_gives = { λ _ e. e ≡ NoMemory };
+
+    fn from(_: segment::NoMemory) -> CodecRefusal {
+        CodecRefusal::NoMemory
+    }
+}
+
 /// The encoding of a segment, as a copy.
 pub fn encode(alloc: Global, segment: &Segment) -> Result<Bytes, NoMemory>
     ensures { IfOk result (λ bytes. IsEncoding segment.now bytes) }
@@ -51,4 +64,16 @@ pub fn decode(alloc: Global, bytes: Bytes) -> Result<Segment, CodecRefusal>
         Err(SegmentRefusal::NotASegment) => Err(CodecRefusal::NotASegment),
         Err(SegmentRefusal::NoMemory) => Err(CodecRefusal::NoMemory),
     }
+}
+
+/// The segment that these bytes are an encoding of in the form before mappings grew. Each of its roots was indexed under
+/// the first mapping, and it has as many scopes as have documents.
+pub fn decode_old(alloc: Global, bytes: Bytes) -> Result<Segment, CodecRefusal>
+    ensures segment { IfOk result (λ segment. IsOldEncoding segment bytes) }
+    ensures none { IsErrOf result CodecRefusal.NotASegment → (columns : Columns) → IsOldEncoding columns bytes → ⊥ }
+{
+    let Some(new) = renewed(alloc, bytes)? else {
+        return Err(CodecRefusal::NotASegment);
+    };
+    decode(alloc, new)
 }

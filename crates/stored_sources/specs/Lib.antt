@@ -6,3 +6,4 @@ pub mod Stands
 pub mod Reading
 pub mod Kept
 pub mod Lent
+pub mod Old

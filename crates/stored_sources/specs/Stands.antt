@@ -21,6 +21,11 @@ pub record IsRoot (root : Root) : Type 0 where
   pub source : length root.source < 2 ^ 32
   pub join : IsJoin root.join
 
+-- a root of the first mapping, as each is that was written without a mapping generation
+pub record IsOldRoot (root : Root) : Type 0 where
+  pub is : IsRoot root
+  pub generation : root.generation ≡ 1
+
 -- roots, numbered by u32
 pub record AreRoots (roots : List Root) : Type 0 where
   pub fewer : length roots < 2 ^ 32

@@ -16,5 +16,9 @@ join_text (Child relation parent) = 2 ∷ (u32_text relation ++ string_text pare
 abbrev pub root_text : Root → List ℕ
 root_text root = string_text root.id ++ (u64_text root.number ++ (u32_text root.generation ++ (string_text root.source ++ join_text root.join)))
 
+-- a root as it was written before mappings grew: without its mapping generation
+abbrev pub old_root_text : Root → List ℕ
+old_root_text root = string_text root.id ++ (u64_text root.number ++ (string_text root.source ++ join_text root.join))
+
 abbrev pub roots_text : List Root → List ℕ
 roots_text roots = flat_map root_text roots

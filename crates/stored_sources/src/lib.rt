@@ -7,6 +7,7 @@
 #![tactic(auto)]
 
 mod kept;
+mod old;
 mod placing;
 mod root;
 mod sources;
@@ -15,6 +16,7 @@ mod tests;
 mod walk;
 mod written;
 
+pub use old::{old_roots_have_one_text, renewed_root};
 pub use part_text::{NoMemory, PlaceList};
 pub use root::{Bytes, Join, JoinValue, Root, RowList, roots_have_one_text};
 pub use sources::StoredSources;

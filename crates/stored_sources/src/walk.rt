@@ -25,7 +25,7 @@ pub(crate) struct LentRoot<'a> {
 
 /// A join value.
 #[tactic(auto, unfolding(crate::specs::Reading::join_at))]
-fn join_at(bytes: &[u8]) -> Option<(JoinValue<'_>, &[u8])>
+pub(crate) fn join_at(bytes: &[u8]) -> Option<(JoinValue<'_>, &[u8])>
     ensures { Gives (λ x. (lent_join x.0, x.1.now)) result (join_at bytes.now) }
 {
     match bytes {

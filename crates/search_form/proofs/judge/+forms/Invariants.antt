@@ -2,6 +2,7 @@ use Rattle.std.proofs.Common.{◌≡◌, ◌*◌, drop}
 use Rattle.tree_json.specs.Value.{value_size, elements_size, elements_of, members_size, members_of}
 use Rattle.tree_json.specs.View.{view, values, entries}
 use Rattle.search_form.specs.Form.{all_have_form, each_has_form}
+use Rattle.search_form.specs.Texts.{AllAreTexts, EachAreTexts}
 use Rattle.search_form.proofs.judge.+forms.Given as goal
 
 abbrev pub decreases-has_form : goal.decreases-has_form
@@ -16,10 +17,12 @@ decreases-each_has_form l = 2 * members_size (members_of (entries l.members.now)
 -- what is left decides as the whole does
 abbrev pub invariant-all_have_form-elements : goal.invariant-all_have_form-elements
 invariant-all_have_form-elements l =
-    all_have_form l.inner l.form (elements_of (values (drop l.element-index l.elements)))
-    ≡ all_have_form l.inner l.form (elements_of (values l.elements))
+    (all_have_form l.inner l.form (elements_of (values (drop l.element-index l.elements)))
+    ≡ all_have_form l.inner l.form (elements_of (values l.elements)))
+    × (AllAreTexts (elements_of (values (drop l.element-index l.elements))) → AllAreTexts (elements_of (values l.elements)))
 
 abbrev pub invariant-each_has_form-members : goal.invariant-each_has_form-members
 invariant-each_has_form-members l =
-    each_has_form l.inner l.form (members_of (entries (drop l.name-index l.members)))
-    ≡ each_has_form l.inner l.form (members_of (entries l.members))
+    (each_has_form l.inner l.form (members_of (entries (drop l.name-index l.members)))
+    ≡ each_has_form l.inner l.form (members_of (entries l.members)))
+    × (EachAreTexts (members_of (entries (drop l.name-index l.members))) → EachAreTexts (members_of (entries l.members)))

@@ -9,7 +9,7 @@ returns-in-Some c =
     let numbers = c.args.values.now in
     let number = c.in-Some.number in
     let fits : FitsSigned w64 number = search rules in
-    let keyed = contains-key numbers number c.args.key.now c.in-Some.ensures.some fits (λ k inside. c.requires k number inside) in
+    let keyed = contains-key numbers number c.args.key.now c.in-Some.ensures.some fits (λ k inside. c.requires.fit k number inside) in
     let found = rw (to_z-of_z w64 number fits) at c.has_number.ensures in
     (λ yes. keyed.0 (found.0 yes), λ there. found.1 (keyed.1 there))
 

@@ -1,5 +1,9 @@
-use Rattle.std.proofs.Common.{◌≡◌, ℕ, ◌<◌, slice_get, Some}
+use Rattle.std.proofs.Common.{◌-◌}
+use Rattle.segment.proofs.Halves.{AreHalved}
 use Rattle.segment.proofs.agree_terms.has_ordinal.Given as goal
 
-abbrev pub invariant-values : goal.invariant-values
-invariant-values l = (k : ℕ) (x : ℕ) → k < l.at → slice_get l.values k ≡ Some x → x ≡ l.ordinal → ⊥
+abbrev pub invariant-halves : goal.invariant-halves
+invariant-halves l = AreHalved l.values l.ordinal l.low l.high
+
+abbrev pub decreases-halves : goal.decreases-halves
+decreases-halves l = l.high - l.low
