@@ -12,4 +12,4 @@ mod same;
 mod tests;
 
 pub use merge::{members_are_merged, merged, merged_values_nest_no_deeper};
-pub use same::is_same;
+pub use same::{is_same, same_values_are_equal};
