@@ -2,7 +2,7 @@
 use Rattle.std.proofs.Common.{◌≡◌, ℕ, zero, suc, ◌+◌, nat_le, Bool, true, false, not, cond, List, [], ◌∷◌, ◌++◌, length, map, filter, take, drop, Option, Some, None, refl, sym, ap, ◌∙◌, append_assoc, append-nil, take-append-drop, drop-drop}
 use Rattle.std.specs.List.{flat_map}
 use Rattle.std.proofs.lemmas.List.Concat.{flat_map-append}
-use Rattle.index_core.specs.Layout.{Marked, SegmentOf, Layout, is_live, item_in, live_in, live_items, alive, segment_of, live_of_range, merged_range, remade, is_spent, is_half_dead, each_remade, last_uneven, evened_at, evened, all_remade, all_evened, settled, with_buffer_last, sealed, staying, killed_if, killed_in, killed, buffer_size, with_room, with_change}
+use Rattle.layout.specs.Layout.{Marked, SegmentOf, Layout, is_live, item_in, live_in, live_items, alive, segment_of, live_of_range, merged_range, remade, is_spent, is_half_dead, each_remade, last_uneven, evened_at, evened, all_remade, all_evened, settled, with_buffer_last, sealed, staying, killed_if, killed_in, killed, buffer_size, with_room, with_change}
 
 all_live : {A : Type 0} (xs : List A) → map item_in (filter is_live (map alive xs)) ≡ xs
 all_live [] = refl
