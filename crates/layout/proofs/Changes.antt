@@ -12,9 +12,6 @@ use Rattle.layout.proofs.Goes.{split, counted, counted_both}
 use Rattle.layout.specs.Ascending.{Ascend}
 use Rattle.layout.specs.Layout.{Marked, SegmentOf, Layout, alive, segment_of, staying, killed_if, killed_in, with_buffer_last, sealed, with_room, buffer_size}
 
-some_same : {A : Type 0} (x : A) → Some x ≡ Some x
-some_same x = refl
-
 -- ---- numbers
 
 module _ {A : Type 0} (number : A → ℕ) where

@@ -71,6 +71,11 @@ module _ {A : Type 0} (goes : A → Bool) where
   dead zero (m ∷ ms) = record { item = m.item; live = false } ∷ ms
   dead (suc place) (m ∷ ms) = m ∷ dead place ms
 
+  pub dead_items : {B : Type 0} (f : A → B) (place : ℕ) (ms : List (Marked A)) → map (λ (m : Marked A). f m.item) (dead place ms) ≡ map (λ (m : Marked A). f m.item) ms
+  dead_items f place [] = refl
+  dead_items f zero (m ∷ ms) = refl
+  dead_items f (suc place) (m ∷ ms) = ap (λ rest. f m.item ∷ rest) (dead_items f place ms)
+
   -- a live item that goes is counted
   some_goes : (ms : List (Marked A)) (place : ℕ) (m : Marked A) → slice_get ms place ≡ Some m → m.live ≡ true → goes m.item ≡ true → 1 ≤ count_by goes (live ms)
   some_goes [] place m at is may = absurd (cc (at))
@@ -120,7 +125,7 @@ module _ {A : Type 0} (goes : A → Bool) where
   abbrev pub dead_in : ℕ → SegmentOf A → SegmentOf A
   dead_in place segment = record segment { items = dead place segment.items }
 
-  some_in : (segments : List (SegmentOf A)) (index place : ℕ) (s : SegmentOf A) (m : Marked A) → slice_get segments index ≡ Some s → slice_get s.items place ≡ Some m → m.live ≡ true → goes m.item ≡ true → 1 ≤ count_by goes (flat_map live_in segments)
+  pub some_in : (segments : List (SegmentOf A)) (index place : ℕ) (s : SegmentOf A) (m : Marked A) → slice_get segments index ≡ Some s → slice_get s.items place ≡ Some m → m.live ≡ true → goes m.item ≡ true → 1 ≤ count_by goes (flat_map live_in segments)
   some_in [] index place s m here at is may = absurd (cc (here))
   some_in (first ∷ segments) zero place s m here at is may =
       let same : first ≡ s = cc (here) in
@@ -145,7 +150,7 @@ module _ {A : Type 0} (goes : A → Bool) where
 
   -- ---- the buffer
 
-  some_at : (xs : List A) (place : ℕ) (x : A) → slice_get xs place ≡ Some x → goes x ≡ true → 1 ≤ count_by goes xs
+  pub some_at : (xs : List A) (place : ℕ) (x : A) → slice_get xs place ≡ Some x → goes x ≡ true → 1 ≤ count_by goes xs
   some_at [] place x at may = absurd (cc (at))
   some_at (first ∷ xs) zero x at may =
       let same : first ≡ x = cc (at) in
