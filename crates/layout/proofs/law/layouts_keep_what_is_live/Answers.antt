@@ -1,5 +1,5 @@
-use Rattle.index_core.proofs.Keeps.{remade_keeps, sealed_keeps, change_keeps}
-use Rattle.index_core.proofs.law.layouts_keep_what_is_live.Goals as goal
+use Rattle.layout.proofs.Keeps.{remade_keeps, sealed_keeps, change_keeps}
+use Rattle.layout.proofs.law.layouts_keep_what_is_live.Goals as goal
 
 pub returns-clause-remade : goal.returns-clause-remade
 returns-clause-remade g c = remade_keeps

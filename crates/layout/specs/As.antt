@@ -1,6 +1,6 @@
 -- Serves proofs alone: a layout in which each item gives way to what is kept of it.
 use Rattle.std.specs.Prelude.{map}
-use Rattle.index_core.specs.Layout.{Marked, SegmentOf, Layout}
+use Rattle.layout.specs.Layout.{Marked, SegmentOf, Layout}
 
 abbrev pub marked_as : {A B : Type 0} → (A → B) → Marked A → Marked B
 marked_as {A} {B} f marked = record { item = f marked.item; live = marked.live }

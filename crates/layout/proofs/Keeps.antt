@@ -2,7 +2,7 @@
 use Rattle.std.proofs.Common.{◌≡◌, ℕ, zero, suc, ◌+◌, nat_le, Bool, true, false, not, cond, List, [], ◌∷◌, ◌++◌, length, map, filter, take, drop, Option, Some, None, refl, sym, ap, ◌∙◌, append_assoc, append-nil, take-append-drop, drop-drop}
 use Rattle.std.specs.List.{flat_map}
 use Rattle.std.proofs.lemmas.List.Concat.{flat_map-append}
-use Rattle.index_core.specs.Layout.{Marked, SegmentOf, Layout, is_live, item_in, live_in, live_items, alive, segment_of, live_of_range, merged_range, remade, is_spent, is_half_dead, each_remade, last_uneven, evened_at, evened, all_remade, all_evened, settled, with_buffer_last, sealed, staying, killed_if, killed_in, killed, buffer_size, with_room, with_change}
+use Rattle.layout.specs.Layout.{Marked, SegmentOf, Layout, is_live, item_in, live_in, live_items, alive, segment_of, live_of_range, merged_range, remade, is_spent, is_half_dead, each_remade, last_uneven, evened_at, evened, all_remade, all_evened, settled, with_buffer_last, sealed, staying, killed_if, killed_in, killed, buffer_size, with_room, with_new, with_change}
 
 all_live : {A : Type 0} (xs : List A) → map item_in (filter is_live (map alive xs)) ≡ xs
 all_live [] = refl
@@ -113,16 +113,17 @@ killed_keeps goes layout =
     ap (λ xs. xs ++ filter (staying goes) layout.buffer) (killed_each goes layout.segments)
     ∙ sym (filter-append (staying goes) (flat_map live_in layout.segments) layout.buffer)
 
-with_room_keeps : {A : Type 0} (layout : Layout A) → live_items (with_room layout) ≡ live_items layout
+pub with_room_keeps : {A : Type 0} (layout : Layout A) → live_items (with_room layout) ≡ live_items layout
 with_room_keeps layout = elim (nat_le buffer_size (length layout.buffer)) as (λ b. live_items (cond b (sealed layout) layout) ≡ live_items layout) [
   | true ↦ sealed_keeps layout
   | false ↦ refl
 ]
 
+-- what goes is taken out, and what is new stands last
+pub changed_keeps : {A : Type 0} (goes : A → Bool) (new : List A) (layout : Layout A) → live_items (with_new new (killed goes layout)) ≡ filter (staying goes) (live_items layout) ++ new
+changed_keeps goes new layout = sym (append_assoc (flat_map live_in (killed goes layout).segments) (killed goes layout).buffer new) ∙ ap (λ xs. xs ++ new) (killed_keeps goes layout)
+
 -- a change takes out what goes, and puts what is new last
 pub change_keeps : {A : Type 0} (goes : A → Bool) (new : List A) (layout : Layout A) → live_items (with_change goes new layout) ≡ filter (staying goes) (live_items layout) ++ new
 unfolding with_change
-change_keeps goes new layout =
-    sym (append_assoc (flat_map live_in (killed goes (with_room layout)).segments) (killed goes (with_room layout)).buffer new)
-    ∙ ap (λ xs. xs ++ new) (killed_keeps goes (with_room layout))
-    ∙ ap (λ xs. filter (staying goes) xs ++ new) (with_room_keeps layout)
+change_keeps goes new layout = changed_keeps goes new (with_room layout) ∙ ap (λ xs. filter (staying goes) xs ++ new) (with_room_keeps layout)

@@ -2,8 +2,8 @@
 use Rattle.std.proofs.Common.{◌≡◌, ℕ, zero, suc, ◌+◌, ◌-◌, ◌*◌, ◌==◌, nat_le, nat_lt, Bool, true, false, not, ◌&&◌, cond, List, [], ◌∷◌, ◌++◌, length, map, filter, take, drop, get_or, Option, Some, None, refl, sym, ap, ◌∙◌}
 use Rattle.std.specs.List.{flat_map, take-map, drop-map}
 use Rattle.std.proofs.lemmas.List.{length-map, map-append}
-use Rattle.index_core.specs.Layout.{Marked, SegmentOf, Layout, is_live, item_in, live_in, live_items, live_count, dead_count, alive, segment_of, live_of_range, shifted, merged_range, remade, no_segment, segment_at, is_free, is_spent, is_half_dead, are_uneven, each_remade, last_below, last_uneven, evened_at, evened, all_remade, all_evened, settled, with_buffer_last, sealed, staying, killed_if, killed_in, killed, buffer_size, with_room, with_new, with_change}
-use Rattle.index_core.specs.As.{marked_as, segment_as, layout_as}
+use Rattle.layout.specs.Layout.{Marked, SegmentOf, Layout, is_live, item_in, live_in, live_items, live_count, dead_count, alive, segment_of, live_of_range, shifted, merged_range, remade, no_segment, segment_at, is_free, is_spent, is_half_dead, are_uneven, each_remade, last_below, last_uneven, evened_at, evened, all_remade, all_evened, settled, with_buffer_last, sealed, staying, killed_if, killed_in, killed, buffer_size, with_room, with_new, with_change}
+use Rattle.layout.specs.As.{marked_as, segment_as, layout_as}
 
 -- cases of a test
 by_test : (P : Bool → Type 0) (b : Bool) → P true → P false → P b

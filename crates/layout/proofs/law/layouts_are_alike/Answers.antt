@@ -1,5 +1,5 @@
-use Rattle.index_core.proofs.Images.{remade_as, sealed_as, change_as, live_items_as}
-use Rattle.index_core.proofs.law.layouts_are_alike.Goals as goal
+use Rattle.layout.proofs.Images.{remade_as, sealed_as, change_as, live_items_as}
+use Rattle.layout.proofs.law.layouts_are_alike.Goals as goal
 
 pub returns-clause-remade : goal.returns-clause-remade
 returns-clause-remade g c = remade_as

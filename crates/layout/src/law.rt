@@ -1,7 +1,7 @@
 //! Laws of layouts, as the contracts of functions that do nothing.
 ghost use Rattle.std.specs.Prelude.{◌≡◌, ◌∷◌, ◌++◌, [], ℕ, Bool, List, map, filter};
-ghost use Rattle.index_core.specs.As.{layout_as};
-ghost use Rattle.index_core.specs.Layout.{Layout, live_items, remade, sealed, staying, with_change};
+ghost use Rattle.layout.specs.As.{layout_as};
+ghost use Rattle.layout.specs.Layout.{Layout, live_items, remade, sealed, staying, with_change};
 
 /// Merging a range of segments and sealing leave what is live, in its order; a change takes out what goes, and puts what is
 /// new last.
