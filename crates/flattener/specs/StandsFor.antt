@@ -6,7 +6,7 @@ use Rattle.mapping.specs.IsMapping.{IsMapping}
 use Rattle.mapping.specs.Mapping.{Mapping}
 use Rattle.segment.specs.Flat.{FlatDocument, flats_of, roots_of}
 use Rattle.segment.specs.Live.{EntryState, LiveState}
-use Rattle.segment.specs.declared.columns.Columns.{Columns}
+use Rattle.segment_parts.specs.declared.columns.Columns.{Columns}
 use Rattle.tree_objects.specs.Object.{Object, block_objects}
 use Rattle.tree_objects.specs.Tree.{Tree}
 use Rattle.flattener.specs.Block.{root_of_tree}
