@@ -10,3 +10,4 @@ pub mod Walks
 pub mod Ascending
 pub mod Ordered
 pub mod Closed
+pub mod Above
