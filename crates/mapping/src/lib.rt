@@ -11,6 +11,8 @@ mod scope;
 #[cfg(test)]
 mod tests;
 
-pub use law::{further_bodies_stand_behind, growth_keeps_numbers, scopes_form_chains};
+pub use law::{
+    further_bodies_stand_behind, growth_keeps_numbers, inclusion_goes_by_flags, scopes_form_chains,
+};
 pub use mapping::{Growth, Mapping};
 pub use mapping_body::{Bytes, Kind, Limit, MappingRefusal, NoMemory};
