@@ -11,4 +11,4 @@ pub returns : goal.returns
 returns c =
     let few : c.said.inside.counts.bytes ≡ counted (compact_size c.args.said.now) = c.said.invariant.1.bytes_is ∙ ap (λ (bs : List JsonValue). counted (compact_size bs)) c.said.view_is in
     let sum = bytes_more (compact_size c.args.said.now) (length (compact (view c.args.candidate.now.body.now))) (compact_size (c.args.said.now ++ view c.args.candidate.now.body.now ∷ [])) (size_more c.args.said.now (view c.args.candidate.now.body.now)) in
-    (rw (few, c.compact_len-more.ensures) at c.saturating_add.ensures) ∙ sum
+    (rw (few, c.compact_len-more.ensures.length) at c.saturating_add.ensures) ∙ sum
