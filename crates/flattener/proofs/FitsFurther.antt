@@ -11,7 +11,7 @@ use Rattle.mapping.specs.Growth.{HasFurtherBodies}
 use Rattle.mapping.specs.IsMapping.{IsMapping}
 use Rattle.mapping.specs.Mapping.{Mapping, Field, Scope, home_of, included, outer, reaches, scope_at, shows}
 use Rattle.segment.specs.Flat.{FlatDocument, FlatRoot, roots_of}
-use Rattle.segment.specs.declared.columns.Columns.{Columns}
+use Rattle.segment_parts.specs.declared.columns.Columns.{Columns}
 use Rattle.stored_sources.specs.declared.root.Join.{Join}
 use Rattle.stored_sources.specs.declared.root.Join.TheVariants.{Unjoined, Named, Child}
 use Rattle.tree_objects.proofs.Further.{within, field_same, scope_same, outer_same, outer_within}

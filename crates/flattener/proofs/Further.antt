@@ -10,7 +10,7 @@ use Rattle.mapping.specs.IsMapping.{IsMapping}
 use Rattle.mapping.specs.Mapping.{Mapping, Field, field_at, kids, kind_at, no_field}
 use Rattle.segment.specs.Flat.{FlatDocument, has_some}
 use Rattle.segment.specs.Live.{LiveState}
-use Rattle.segment.specs.declared.columns.Columns.{Columns}
+use Rattle.segment_parts.specs.declared.columns.Columns.{Columns}
 use Rattle.tree_json.specs.Value.{JsonValue}
 use Rattle.tree_objects.specs.Fault.{first_fault}
 use Rattle.tree_objects.specs.Object.{Object, root, inside, scope, tree_of, block_objects, children, objects}

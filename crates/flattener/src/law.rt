@@ -6,7 +6,7 @@ ghost use Rattle.mapping.specs.Growth.{HasFurtherBodies};
 ghost use Rattle.mapping.specs.Mapping.{Mapping, generation_of};
 ghost use Rattle.mapping.specs.Reached.{AreReached};
 ghost use Rattle.segment.specs.Live.{LiveState};
-ghost use Rattle.segment.specs.declared.columns.Columns.{Columns};
+ghost use Rattle.segment_parts.specs.declared.columns.Columns.{Columns};
 ghost use Rattle.tree_objects.specs.Tree.{Tree};
 ghost use Rattle.flattener.specs.Block.{BlockState, block_of};
 ghost use Rattle.flattener.specs.Fits.{BlockFits, IsRootOf, SegmentFits};

@@ -9,3 +9,4 @@ pub mod Keeps
 pub mod Further
 pub mod Generations
 pub mod Reaching
+pub mod Including

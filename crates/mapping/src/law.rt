@@ -7,7 +7,7 @@ ghost use Rattle.mapping_body.specs.Body.{is_body};
 ghost use Rattle.mapping.specs.Growth.{HasFurtherBodies, KeepsNumbers};
 ghost use Rattle.mapping.specs.IsMapping.{IsMapping};
 ghost use Rattle.mapping.specs.Reached.{AreReached};
-ghost use Rattle.mapping.specs.Mapping.{Mapping, IsAbove, home_of, included, is_above, mapping_of, outer};
+ghost use Rattle.mapping.specs.Mapping.{Mapping, IsAbove, IsIncluded, home_of, included, is_above, mapping_of, outer};
 
 /// The scopes above a nested path form a chain that ends at the root: of two of them one is above the other, and those
 /// above a nested path are the scope around it and those above that one. A scope above another has a smaller number. Values
@@ -18,6 +18,12 @@ pub fn scopes_form_chains()
     ensures smaller { (m : Mapping) (a b : ℕ) → IsMapping m → IsAbove m a b → (a < b) × (b < length m.scopes) }
     ensures root { (m : Mapping) (n : ℕ) → IsMapping m → 0 < n → n < length m.scopes → IsAbove m 0 n }
     ensures included { (m : Mapping) (field scope : ℕ) → IsMapping m → field < length m.fields → included m field scope ≡ true → (home_of m field ≡ scope) ⊎ IsAbove m scope (home_of m field) }
+{}
+
+/// A field's values are included in a scope exactly where the flags of nested paths lead there from its home.
+pub fn inclusion_goes_by_flags()
+    ensures led { (m : Mapping) (field scope : ℕ) → IsMapping m → included m field scope ≡ true → IsIncluded m (home_of m field) scope }
+    ensures included { (m : Mapping) (field scope : ℕ) → IsMapping m → IsIncluded m (home_of m field) scope → included m field scope ≡ true }
 {}
 
 /// A further body leaves what stands under each number: the path, the kind, the home and the generation of a field, and

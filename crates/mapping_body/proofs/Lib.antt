@@ -12,3 +12,4 @@ pub mod Ordered
 pub mod Closed
 pub mod Spelled
 pub mod HaveNames
+pub mod Above
