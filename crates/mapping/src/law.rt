@@ -6,6 +6,7 @@ ghost use Rattle.mapping_growth.specs.Bodies.{AreBodies};
 ghost use Rattle.mapping_body.specs.Body.{is_body};
 ghost use Rattle.mapping.specs.Growth.{HasFurtherBodies, KeepsNumbers};
 ghost use Rattle.mapping.specs.IsMapping.{IsMapping};
+ghost use Rattle.mapping.specs.Reached.{AreReached};
 ghost use Rattle.mapping.specs.Mapping.{Mapping, IsAbove, IsIncluded, home_of, included, is_above, mapping_of, outer};
 
 /// The scopes above a nested path form a chain that ends at the root: of two of them one is above the other, and those
@@ -35,4 +36,9 @@ pub fn growth_keeps_numbers()
 /// generation. So what is said of a tree by what its generation knows stays the same.
 pub fn further_bodies_stand_behind()
     ensures { (bodies more : List JsonValue) (on later : Bool) → AreBodies bodies → list_all is_body more ≡ true → HasFurtherBodies (mapping_of bodies on) (mapping_of (bodies ++ more) later) }
+{}
+
+/// Names lead from the root of every mapping to each of its fields, by fields that were added no later.
+pub fn names_lead_to_fields()
+    ensures { (bodies : List JsonValue) (on : Bool) → AreBodies bodies → AreReached (mapping_of bodies on) }
 {}

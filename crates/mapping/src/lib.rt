@@ -12,7 +12,8 @@ mod scope;
 mod tests;
 
 pub use law::{
-    further_bodies_stand_behind, growth_keeps_numbers, inclusion_goes_by_flags, scopes_form_chains,
+    further_bodies_stand_behind, growth_keeps_numbers, inclusion_goes_by_flags,
+    names_lead_to_fields, scopes_form_chains,
 };
 pub use mapping::{Growth, Mapping};
 pub use mapping_body::{Bytes, Kind, Limit, MappingRefusal, NoMemory};
