@@ -20,7 +20,7 @@ use Rattle.mapping_body.specs.declared.kind.Kind.TheVariants.{Text, Keyword, Lon
 use Rattle.query_ast.specs.declared.query.RangeEnd.{RangeEnd}
 use Rattle.segment.specs.Flat.{FlatDocument, FlatRoot, flat_of as flat_at_doc, flats_of, roots_of}
 use Rattle.segment.specs.Live.{LiveState, IsLiveOver}
-use Rattle.segment.specs.declared.columns.Columns.{Columns}
+use Rattle.segment_parts.specs.declared.columns.Columns.{Columns}
 use Rattle.tree_objects.specs.Enclosing.{stands_at}
 use Rattle.tree_objects.specs.Object.{Object, root, block_objects, tree_of}
 use Rattle.tree_objects.specs.Tree.{Tree}

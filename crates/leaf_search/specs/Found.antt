@@ -6,7 +6,7 @@ use Rattle.query_ast.specs.Leaf.{leaf_holds}
 use Rattle.query_ast.specs.Resolved.{IsLeaf}
 use Rattle.mapping.specs.Mapping.{Mapping}
 use Rattle.segment.specs.Live.{LiveState}
-use Rattle.segment.specs.declared.columns.Columns.{Columns}
+use Rattle.segment_parts.specs.declared.columns.Columns.{Columns}
 use Rattle.tree_objects.specs.Object.{Object, scope}
 use Rattle.tree_objects.specs.Tree.{Tree}
 use Rattle.flattener.specs.StandsFor.{EntryStandsFor, Marked, by_document}
