@@ -1,22 +1,25 @@
 -- What the evaluation of each kind of clause gives is what the clause means.
-use Rattle.std.proofs.Common.{◌≡◌, ℕ, zero, suc, ◌+◌, ◌<◌, ◌≤◌, Bool, true, false, ◌&&◌, cond, List, [], ◌∷◌, length, map, filter_map, Option, Some, None, refl, sym, ap, subst, ◌∙◌, arith}
+use Rattle.std.proofs.Common.{◌≡◌, ◌≢◌, ℕ, zero, suc, ◌+◌, ◌<◌, ◌≤◌, Bool, true, false, ◌&&◌, cond, List, [], ◌∷◌, length, map, filter_map, Option, Some, None, refl, sym, ap, subst, ◌∙◌, arith}
 use Rattle.block_join.specs.Merge.{put_together}
 use Rattle.block_join.specs.declared.rule.Rule.{Rule}
 use Rattle.block_join.specs.declared.rule.Rule.TheVariants.{Both, Kept, Without, Plus, Either, Greatest, Counted, AtLeast}
 use Rattle.mapping.specs.Mapping.{Mapping}
 use Rattle.query_ast.specs.Clause.{Clause, Clauses, clause, no_clauses, clauses_of, clause_size, Leaf, match_all, match_none, leaf, bool, constant_score, dis_max, nested, to_child, has_child, has_parent}
-use Rattle.query_ast.specs.Hit.{hit, hit_each, scores, wanted, bool_score, boosted}
+use Rattle.query_ast.specs.Hit.{hit, hit_each, scores, wanted, bool_score, boosted, children_score, parent_score}
+use Rattle.query_ast.specs.Joined.{child_trees, parent_trees, roots}
 use Rattle.query_ast.specs.Leaf.{leaf_holds}
-use Rattle.score_math.specs.Scores.{greatest_of}
+use Rattle.score_math.specs.Scores.{mode_of}
 use Rattle.score_math.specs.declared.score.ScoreMode.{ScoreMode}
 use Rattle.score_math.specs.declared.score.TheConstants.{SCORE_CAP}
 use Rattle.segment.specs.Live.{EntryState}
-use Rattle.tree_objects.specs.Object.{Object, scope}
+use Rattle.tree_objects.specs.Object.{Object, inside, root, scope}
 use Rattle.tree_objects.specs.Tree.{Tree}
 use Rattle.query_eval.specs.Folds.{asked_by, asked_score, folded, folded_by, is_empty, leaf_score, paired_by, wanted_of, whatever}
 use Rattle.query_eval.specs.Found.{IsFound, IsSeen, score_by}
+use Rattle.query_eval.specs.Nested.{around_by, below_by}
 use Rattle.query_eval.proofs.Bools.{required, bool_asked, plus_asked, one_asked, many_asked, few_scores, fold_greatest}
 use Rattle.query_eval.proofs.Entries.{Scores}
+use Rattle.query_eval.proofs.Joined.{no_children}
 use Rattle.query_eval.proofs.Seen.{seen_alike}
 
 -- ---- sizes
@@ -84,6 +87,38 @@ module _ (m : Mapping) (view : List EntryState) (n : ℕ) where
   wanted_same None [] [] (c ∷ should) live o = refl
   wanted_same None [] (c ∷ filter) should live o = refl
   wanted_same None (c ∷ must) filter should live o = refl
+
+  -- ---- nested and to_child
+
+  pub found_up : (p : ℕ) (c : Clause) (mode : ScoreMode) (made : List Scores) → IsSeen m view n (below_by m (mode_of mode) p (score_by m c)) made → IsFound m view n (nested (Some p) c mode) made
+  found_up p c mode made is = seen_alike m view n (below_by m (mode_of mode) p (score_by m c)) (score_by m (nested (Some p) c mode)) made (λ live o here. refl) is
+
+  pub found_down : (p : ℕ) (c : Clause) (made : List Scores) → IsSeen m view n (around_by p (score_by m c)) made → IsFound m view n (to_child (Some p) c) made
+  found_down p c made is = seen_alike m view n (around_by p (score_by m c)) (score_by m (to_child (Some p) c)) made (λ live o here. refl) is
+
+  -- ---- joins of trees, of which no object inside a tree has any
+
+  childless : (live : List Tree) (r : ℕ) (o : Object) → scope o ≢ 0 → child_trees m live r o ≡ []
+  unfolding child_trees
+  childless live r (root t) apart = absurd (apart refl)
+  childless live r (inside outer k offset value) apart = refl
+
+  parentless : (live : List Tree) (p : ℕ) (o : Object) → scope o ≢ 0 → parent_trees m live p o ≡ []
+  unfolding parent_trees
+  parentless live p (root t) apart = absurd (apart refl)
+  parentless live p (inside outer k offset value) apart = refl
+
+  pub found_childless : (r : ℕ) (c : Clause) (mode : ScoreMode) (least : ℕ) (most : Option ℕ) (made : List Scores) → n ≢ 0 → IsSeen m view n (whatever (leaf_score m match_none 0)) made → IsFound m view n (has_child (Some r) c mode least most) made
+  found_childless r c mode least most made apart is =
+      found_none (has_child (Some r) c mode least most) made
+      (λ live o here.
+      ap (λ (l : List Tree). children_score mode least most (filter_map (hit m live c) (roots l))) (childless live r o (λ zero. apart (sym here ∙ zero)))
+      ∙ no_children mode least most) is
+
+  pub found_parentless : (p : ℕ) (c : Clause) (score : Bool) (boost : ℕ) (made : List Scores) → n ≢ 0 → IsSeen m view n (whatever (leaf_score m match_none 0)) made → IsFound m view n (has_parent (Some p) c score boost) made
+  found_parentless p c score boost made apart is =
+      found_none (has_parent (Some p) c score boost) made
+      (λ live o here. ap (λ (l : List Tree). parent_score score boost (filter_map (hit m live c) (roots l))) (parentless live p o (λ zero. apart (sym here ∙ zero)))) is
 
   -- ---- what is asked of some clauses
 

@@ -11,7 +11,7 @@ use Rattle.query_eval.specs.declared.tally.Answer.{Answer}
 use Rattle.query_eval.specs.declared.tally.Answer.TheVariants as answer
 use Rattle.query_eval.specs.declared.tally.Tally.{Tally}
 use Rattle.query_eval.proofs.Joined.{nothing_given}
-use Rattle.query_eval.proofs.Keys.{scores_append_to}
+use Rattle.query_eval.proofs.Keys.{scores_append}
 
 -- ---- one tally
 

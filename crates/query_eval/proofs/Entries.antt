@@ -1,5 +1,5 @@
 -- Scores of entries, one entry after the other.
-use Rattle.std.proofs.Common.{◌≡◌, ℕ, zero, suc, ◌+◌, ◌<◌, ◌≤◌, List, [], ◌∷◌, ◌++◌, length, map, take, get_or, slice_get, Option, Some, None, refl, sym, ap, subst, ◌∙◌, arith}
+use Rattle.std.proofs.Common.{◌≡◌, ℕ, zero, suc, ◌+◌, ◌<◌, ◌≤◌, List, [], ◌∷◌, ◌++◌, length, map, take, get_or, Option, Some, None, refl, sym, ap, subst, ◌∙◌, arith}
 use Rattle.flattener.specs.StandsFor.{Marked, EntryStandsFor, ViewStandsFor}
 use Rattle.mapping.specs.Mapping.{Mapping}
 use Rattle.segment.specs.Live.{EntryState}
@@ -17,10 +17,10 @@ Scores = List (Option ℕ)
 -- ---- lists
 
 module _ {A : Type 0} where
-  pub get_past : (xs : List A) (k : ℕ) → length xs ≤ k → slice_get xs k ≡ None
-  get_past [] k past = refl
-  get_past (x ∷ xs) zero past = absurd (omega (arith, past))
-  get_past (x ∷ xs) (suc k) past = get_past xs k (omega (arith, past))
+  pub or_past : (xs : List A) (k : ℕ) (d : A) → length xs ≤ k → get_or xs k d ≡ d
+  or_past [] k d past = refl
+  or_past (x ∷ xs) zero d past = absurd (omega (arith, past))
+  or_past (x ∷ xs) (suc k) d past = or_past xs k d (omega (arith, past))
 
   pub take_more : (xs : List A) (k : ℕ) (d : A) → k < length xs → take (k + 1) xs ≡ take k xs ++ get_or xs k d ∷ []
   take_more [] k d below = absurd (omega (arith, below))

@@ -25,9 +25,6 @@ use Rattle.query_eval.specs.Sides.{is_on, key_at, key_of, keys_at, ordinal_by, p
 use Rattle.query_eval.specs.declared.side.Side.{Side}
 use Rattle.query_eval.specs.declared.side.Side.TheVariants.{Parents, Children, ChildrenOf}
 
-Id : Type 0
-Id = Option (List ℕ)
-
 -- ---- the id by which a tree takes part
 
 abbrev pub relation_of : Option Joined → Option ℕ
@@ -160,15 +157,12 @@ module _ (view : List EntryState) (ordinals : Ordinals) (o : AreOrdinals view or
 
 -- ---- scores of one key
 
-scores_append : (key : ℕ) (pairs more : List (ℕ × ℕ)) → scores_of key (pairs ++ more) ≡ scores_of key pairs ++ scores_of key more
+pub scores_append : (key : ℕ) (pairs more : List (ℕ × ℕ)) → scores_of key (pairs ++ more) ≡ scores_of key pairs ++ scores_of key more
 scores_append key [] more = refl
 scores_append key (p ∷ pairs) more = elim (cases_Bool (p.0 == key)) [
   | inl here ↦ rw here (ap (λ (l : List ℕ). p.1 ∷ l) (scores_append key pairs more))
   | inr other ↦ rw other (scores_append key pairs more)
 ]
-
-pub scores_append_to : (key : ℕ) (pairs more : List (ℕ × ℕ)) → scores_of key (pairs ++ more) ≡ scores_of key pairs ++ scores_of key more
-scores_append_to key pairs more = scores_append key pairs more
 
 same_bools : (a b : Bool) → (a ≡ true → b ≡ true) → (b ≡ true → a ≡ true) → a ≡ b
 same_bools true b there back = sym (there refl)
@@ -229,7 +223,7 @@ root_score f t = cond t.live (f (root t.item)) None
 abbrev pub scores_among : (Object → Option ℕ) → (Tree → Bool) → List Tree → List ℕ
 scores_among f test trees = filter_map f (roots (filter test trees))
 
-among_append : (f : Object → Option ℕ) (test : Tree → Bool) (trees more : List Tree) → scores_among f test (trees ++ more) ≡ scores_among f test trees ++ scores_among f test more
+pub among_append : (f : Object → Option ℕ) (test : Tree → Bool) (trees more : List Tree) → scores_among f test (trees ++ more) ≡ scores_among f test trees ++ scores_among f test more
 among_append f test trees more =
     ap (λ (l : List Tree). filter_map f (roots l)) (filter-append test trees more)
     ∙ ap (filter_map f) (map-append root (filter test trees) (filter test more))
@@ -252,6 +246,3 @@ those_among m side id f (t ∷ trees) = elim (cases_Bool t.live) [
 pub told_among : (ids : List (List ℕ)) (k : ℕ) (id : List ℕ) (m : Mapping) (side : Side) (f : Object → Option ℕ) (trees : List (Marked Tree)) (keys : List (Option ℕ)) → StandOnce ids → slice_get ids k ≡ Some id
     → Number ids (map (side_id m side) trees) keys → scores_of k (told keys (map (root_score f) trees)) ≡ scores_among f (takes m side id) (live_in trees)
 told_among ids k id m side f trees keys once at is = told_those ids k id (side_id m side) (root_score f) trees keys once at is ∙ those_among m side id f trees
-
-pub among_more : (f : Object → Option ℕ) (test : Tree → Bool) (trees more : List Tree) → scores_among f test (trees ++ more) ≡ scores_among f test trees ++ scores_among f test more
-among_more f test trees more = among_append f test trees more

@@ -10,3 +10,4 @@ pub mod Sets
 pub mod Counting
 pub mod Walking
 pub mod Telling
+pub mod Relations

@@ -23,7 +23,7 @@ use Rattle.query_eval.specs.declared.tally.Answer.{Answer}
 use Rattle.query_eval.specs.declared.tally.Answer.TheVariants as answer
 use Rattle.query_eval.proofs.Entries.{Scores, Trees}
 use Rattle.query_eval.proofs.Joined.{Speaks, answers_are, children_of, no_children_of, no_children, no_parents_of, parents_of}
-use Rattle.query_eval.proofs.Keys.{Number, among_more, entry_numbers, id_on, root_score, scores_among, scores_append_to, side_id, takes, told_among}
+use Rattle.query_eval.proofs.Keys.{Number, among_append, entry_numbers, id_on, root_score, scores_among, scores_append, side_id, takes, told_among}
 use Rattle.query_eval.proofs.Scopes.{scopes_are}
 
 abbrev pub OneRoot : Type 0
@@ -133,11 +133,11 @@ module _ (one_root : OneRoot) (view : List EntryState) (ordinals : Ordinals) (o 
   told_view from f k id at place (e ∷ entries) (t ∷ trees) all stand =
       let keys = keys_at m ordinals from e.columns place in
       let rest = told_by m ordinals from (place + 1) entries (map (λ (own : Trees). seen m (at_scope 0 f) own) trees) in
-      scores_append_to k (told keys (of_roots (roots_in e) (seen m (at_scope 0 f) t))) rest
+      scores_append k (told keys (of_roots (roots_in e) (seen m (at_scope 0 f) t))) rest
       ∙ ap (λ (l : Scores). scores_of k (told keys l) ++ scores_of k rest) (roots_of_entry one_root m is e t f stand.0)
       ∙ ap (λ (l : List ℕ). l ++ scores_of k rest) (told_among o.ids k id m from f t keys o.once at (entry_numbers view ordinals o m from place e t (first_stands place e entries all) stand.0))
       ∙ ap (λ (l : List ℕ). scores_among f (takes m from id) (live_in t) ++ l) (told_view from f k id at (place + 1) entries trees (rest_stand place e entries all) stand.1)
-      ∙ sym (among_more f (takes m from id) (live_in t) (live_trees trees))
+      ∙ sym (among_append f (takes m from id) (live_in t) (live_trees trees))
 
   -- what they are given
   pub given_view : (from to : Side) (asked : Answer) (pairs : List (ℕ × ℕ)) (live : List Tree) (f given : Object → Option ℕ) → Speaks o.ids m from to asked pairs live f given → (place : ℕ) (entries : List EntryState) (trees : List Trees) → StandFrom place entries → ViewStandsFor m entries trees

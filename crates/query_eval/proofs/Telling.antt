@@ -13,7 +13,7 @@ use Rattle.query_eval.specs.declared.side.Side.TheVariants.{Parents, Children, C
 use Rattle.query_eval.specs.declared.tally.Answer.{Answer}
 use Rattle.query_eval.specs.declared.tally.Tally.{Tally}
 use Rattle.query_eval.proofs.Entries.{Scores, take_more, take_whole, nil_append}
-use Rattle.query_eval.proofs.Keys.{scores_append_to}
+use Rattle.query_eval.proofs.Keys.{scores_append}
 
 -- ---- pairs
 
@@ -58,12 +58,12 @@ tallies_more pairs ts k s new was below own = record {
     | inl here ↦
         let same : k ≡ j = eqb-true k j here in
         let all : scores_of j (pairs ++ (k, s) ∷ []) ≡ scores_of k pairs ++ s ∷ [] =
-        scores_append_to j pairs ((k, s) ∷ []) ∙ rw here (ap (λ n. scores_of n pairs ++ s ∷ []) (sym same)) in
+        scores_append j pairs ((k, s) ∷ []) ∙ rw here (ap (λ n. scores_of n pairs ++ s ∷ []) (sym same)) in
         subst (λ (l : List ℕ). TallyOf l (get_or (set ts k new) j d)) (sym all)
         (subst (TallyOf (scores_of k pairs ++ s ∷ [])) (sym (set_own ts k new d below) ∙ ap (λ n. get_or (set ts k new) n d) same) own)
     | inr other ↦
         let apart : k ≢ j = λ same. absurd (let yes : (k == j) ≡ true = eqb-same k j same in let no : true ≡ false = sym yes ∙ other in cc) in
-        let all : scores_of j (pairs ++ (k, s) ∷ []) ≡ scores_of j pairs = scores_append_to j pairs ((k, s) ∷ []) ∙ rw other (nil_append (scores_of j pairs)) in
+        let all : scores_of j (pairs ++ (k, s) ∷ []) ≡ scores_of j pairs = scores_append j pairs ((k, s) ∷ []) ∙ rw other (nil_append (scores_of j pairs)) in
         subst (λ (l : List ℕ). TallyOf l (get_or (set ts k new) j d)) (sym all)
         (subst (TallyOf (scores_of j pairs)) (sym (set_other ts k j new d apart)) (was.each j d (omega (arith, inside, set_long ts k new))))
   ];

@@ -45,7 +45,7 @@ pub fn matches<L: Ledger>(
     ensures found { IfOk result (IsFound mapping.now view.now scope (clause_of query.now)) }
     ensures steps { steps.new ≡ steps.old }
 {
-    found(alloc, view.entries(), mapping, joins, query, scope)
+    Ok(found(alloc, view.entries(), mapping, joins, query, scope)?)
 }
 
 /// What a query finds.
@@ -69,20 +69,20 @@ fn found(
             should,
             must_not,
             least,
-        } => bool_of(
+        } => Ok(bool_of(
             alloc, entries, mapping, joins, must, filter, should, must_not, *least, scope,
-        ),
+        )?),
         Query::ConstantScore { filter, boost } => {
-            constant(alloc, entries, mapping, joins, filter, *boost, scope)
+            Ok(constant(alloc, entries, mapping, joins, filter, *boost, scope)?)
         }
-        Query::DisMax { queries } => greatest(alloc, entries, mapping, joins, queries, scope),
+        Query::DisMax { queries } => Ok(greatest(alloc, entries, mapping, joins, queries, scope)?),
         Query::Nested {
             scope: path,
             query,
             mode,
-        } => nested(alloc, entries, mapping, joins, *path, query, *mode, scope),
+        } => Ok(nested(alloc, entries, mapping, joins, *path, query, *mode, scope)?),
         Query::ToChild { scope: path, query } => {
-            to_child(alloc, entries, mapping, joins, *path, query, scope)
+            Ok(to_child(alloc, entries, mapping, joins, *path, query, scope)?)
         }
         Query::HasChild {
             child,
@@ -90,25 +90,25 @@ fn found(
             mode,
             least,
             most,
-        } => has_child(
+        } => Ok(has_child(
             alloc, entries, mapping, joins, *child, query, *mode, *least, *most, scope,
-        ),
+        )?),
         Query::HasParent {
             parent,
             query,
             score,
             boost,
-        } => has_parent(
+        } => Ok(has_parent(
             alloc, entries, mapping, joins, *parent, query, *score, *boost, scope,
-        ),
-        _ => leaves(
+        )?),
+        _ => Ok(leaves(
             alloc,
             entries,
             mapping,
             query,
             scope,
             u64::from(boost_of(query)),
-        ),
+        )?),
     }
 }
 
@@ -136,7 +136,7 @@ fn constant(
         u64::from(boost),
     )?;
     let hits = found(alloc, entries, mapping, joins, filter.get(), scope)?;
-    merges(alloc, entries, &all, &hits, Rule::Kept)
+    Ok(merges(alloc, entries, &all, &hits, Rule::Kept)?)
 }
 
 /// `dis_max`: what some query hits, with the greatest score.
@@ -154,7 +154,7 @@ fn greatest(
     ensures { IfOk result (IsFound mapping.now entries.now scope (dis_max (clauses_of queries.now))) }
 {
     let none = leaves(alloc, entries, mapping, &Query::MatchNone, scope, 0)?;
-    folded(
+    Ok(folded(
         alloc,
         entries,
         mapping,
@@ -163,7 +163,7 @@ fn greatest(
         none,
         Rule::Greatest,
         scope,
-    )
+    )?)
 }
 
 /// `nested`: the objects with a hit of that scope inside them.
@@ -185,9 +185,9 @@ fn nested(
     match path {
         Some(path) => {
             let hits = found(alloc, entries, mapping, joins, query.get(), path)?;
-            ups(alloc, entries, &hits, scope, mode)
+            Ok(ups(alloc, entries, &hits, scope, mode)?)
         }
-        None => leaves(alloc, entries, mapping, &Query::MatchNone, scope, 0),
+        None => Ok(leaves(alloc, entries, mapping, &Query::MatchNone, scope, 0)?),
     }
 }
 
@@ -209,9 +209,9 @@ fn to_child(
     match path {
         Some(path) => {
             let hits = found(alloc, entries, mapping, joins, query.get(), path)?;
-            downs(alloc, entries, &hits, path, scope)
+            Ok(downs(alloc, entries, &hits, path, scope)?)
         }
-        None => leaves(alloc, entries, mapping, &Query::MatchNone, scope, 0),
+        None => Ok(leaves(alloc, entries, mapping, &Query::MatchNone, scope, 0)?),
     }
 }
 
@@ -236,14 +236,14 @@ fn has_child(
     match child {
         Some(child) => {
             if scope != 0 {
-                return leaves(alloc, entries, mapping, &Query::MatchNone, scope, 0);
+                return Ok(leaves(alloc, entries, mapping, &Query::MatchNone, scope, 0)?);
             }
             let hits = found(alloc, entries, mapping, joins, query.get(), 0)?;
-            with_children(
+            Ok(with_children(
                 alloc, entries, mapping, joins, &hits, child, mode, least, most,
-            )
+            )?)
         }
-        None => leaves(alloc, entries, mapping, &Query::MatchNone, scope, 0),
+        None => Ok(leaves(alloc, entries, mapping, &Query::MatchNone, scope, 0)?),
     }
 }
 
@@ -267,14 +267,14 @@ fn has_parent(
     match parent {
         Some(parent) => {
             if scope != 0 {
-                return leaves(alloc, entries, mapping, &Query::MatchNone, scope, 0);
+                return Ok(leaves(alloc, entries, mapping, &Query::MatchNone, scope, 0)?);
             }
             let hits = found(alloc, entries, mapping, joins, query.get(), 0)?;
-            with_parent(
+            Ok(with_parent(
                 alloc, entries, mapping, joins, &hits, parent, score, boost,
-            )
+            )?)
         }
-        None => leaves(alloc, entries, mapping, &Query::MatchNone, scope, 0),
+        None => Ok(leaves(alloc, entries, mapping, &Query::MatchNone, scope, 0)?),
     }
 }
 
@@ -297,7 +297,7 @@ fn bool_of(
     ensures { IfOk result (IsFound mapping.now entries.now scope (bool_clause (clauses_of must.now) (clauses_of filter.now) (clauses_of should.now) (clauses_of must_not.now) least)) }
 {
     if no_queries(must) && no_queries(filter) && no_queries(should) && no_queries(must_not) {
-        return leaves(alloc, entries, mapping, &Query::MatchAll { boost: 1 }, scope, 1);
+        return Ok(leaves(alloc, entries, mapping, &Query::MatchAll { boost: 1 }, scope, 1)?);
     }
     let all = leaves(alloc, entries, mapping, &Query::MatchAll { boost: 1 }, scope, 0)?;
     let hits = folded(
@@ -332,7 +332,7 @@ fn bool_of(
     )?;
     let wanted = wanted(least, must, filter, should);
     if wanted == 0 {
-        folded(
+        Ok(folded(
             alloc,
             entries,
             mapping,
@@ -341,9 +341,9 @@ fn bool_of(
             hits,
             Rule::Plus,
             scope,
-        )
+        )?)
     } else {
-        asked(
+        Ok(asked(
             alloc,
             entries,
             mapping,
@@ -352,7 +352,7 @@ fn bool_of(
             &hits,
             wanted,
             scope,
-        )
+        )?)
     }
 }
 
@@ -380,7 +380,7 @@ fn folded(
         [query, rest @ ..] => {
             let own = found(alloc, entries, mapping, joins, query, scope)?;
             let hits = merges(alloc, entries, &hits, &own, rule)?;
-            folded(alloc, entries, mapping, joins, rest, hits, rule, scope)
+            Ok(folded(alloc, entries, mapping, joins, rest, hits, rule, scope)?)
         }
     }
 }
@@ -416,14 +416,14 @@ fn asked(
             Rule::Either,
             scope,
         )?;
-        return merges(alloc, entries, hits, &sums, Rule::Both);
+        return Ok(merges(alloc, entries, hits, &sums, Rule::Both)?);
     }
     let no_counts = leaves(alloc, entries, mapping, &Query::MatchNone, scope, 0)?;
     let (sums, counts) = tallied(
         alloc, entries, mapping, joins, queries, none, no_counts, scope,
     )?;
     let hits = merges(alloc, entries, hits, &sums, Rule::Both)?;
-    merges(alloc, entries, &hits, &counts, Rule::AtLeast(wanted))
+    Ok(merges(alloc, entries, &hits, &counts, Rule::AtLeast(wanted))?)
 }
 
 /// Sums to which the scores of one query after the other are added, and counts of them.
@@ -453,7 +453,7 @@ fn tallied(
             let own = found(alloc, entries, mapping, joins, query, scope)?;
             let sums = merges(alloc, entries, &sums, &own, Rule::Either)?;
             let counts = merges(alloc, entries, &counts, &own, Rule::Counted)?;
-            tallied(alloc, entries, mapping, joins, rest, sums, counts, scope)
+            Ok(tallied(alloc, entries, mapping, joins, rest, sums, counts, scope)?)
         }
     }
 }

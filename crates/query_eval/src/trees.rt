@@ -23,6 +23,7 @@ use score_math::ScoreMode;
 use segment::Segment;
 use segment_view::Entry;
 use std::alloc::Global;
+use tree_objects::objects_nest;
 
 /// The roots with so many child trees of a relation whose roots are hits, each with the mode of their scores.
 pub(crate) fn with_children(
@@ -41,11 +42,13 @@ pub(crate) fn with_children(
     requires child { IsChildRelation mapping.now child }
     ensures { (given : List Tree → Object → Option ℕ) → IsSeen mapping.now entries.now 0 given hits.now → IfOk result (IsSeen mapping.now entries.now 0 (children_by mapping.now child mode least most given)) }
 {
+    objects_nest();
+    let _scopes = mapping.scope_count();
     let Some(parent) = mapping.parent_relation(child) else {
         unreachable!()
     };
     let answer = Answer::Children { mode, least, most };
-    joined(
+    let made = joined(
         alloc,
         entries,
         mapping,
@@ -54,7 +57,8 @@ pub(crate) fn with_children(
         Side::Children(child),
         Side::Parents(parent),
         answer,
-    )
+    )?;
+    Ok(made)
 }
 
 /// The roots whose parent tree is of a relation and its root a hit, each with the hit's score or a boost.
@@ -72,8 +76,10 @@ pub(crate) fn with_parent(
     requires joined { AreOrdinals entries.now joins.now }
     ensures { (given : List Tree → Object → Option ℕ) → IsSeen mapping.now entries.now 0 given hits.now → IfOk result (IsSeen mapping.now entries.now 0 (parent_by mapping.now parent score boost given)) }
 {
+    objects_nest();
+    let _scopes = mapping.scope_count();
     let answer = Answer::Parent { score, boost };
-    joined(
+    let made = joined(
         alloc,
         entries,
         mapping,
@@ -82,7 +88,8 @@ pub(crate) fn with_parent(
         Side::Parents(parent),
         Side::ChildrenOf(parent),
         answer,
-    )
+    )?;
+    Ok(made)
 }
 
 /// What the roots of one side are given by the hits among those of the other.
@@ -107,7 +114,8 @@ fn joined(
         let segment = entries[place].segment();
         let keys = keys_of(alloc, mapping, joins, segment, place, to)?;
         let given = answers(alloc, tallies.as_slice(), keys.as_slice(), answer)?;
-        made.push(at_roots(alloc, segment, given.as_slice())?)?;
+        let scores = at_roots(alloc, segment, given.as_slice())?;
+        made.push(scores)?;
     }
     Ok(Matches::of(made))
 }
@@ -161,7 +169,8 @@ fn keys_of(
     let count = segment.roots();
     let mut keys = Vec::with_capacity(alloc, count as usize)?;
     'roots: for root in 0..count {
-        keys.push(key_of(mapping, joins, segment, place, root, side))?;
+        let key = key_of(mapping, joins, segment, place, root, side);
+        keys.push(key)?;
     }
     Ok(keys)
 }
@@ -181,7 +190,8 @@ fn of_roots(
     let mut left = hits.cursor();
     'roots: while let Some(doc) = roots.next_set(left.from()) {
         left.skip(doc);
-        scores.push(left.next_before(doc + 1))?;
+        let score = left.next_before(doc + 1);
+        scores.push(score)?;
     }
     Ok(scores)
 }
@@ -221,7 +231,8 @@ fn answers(
 {
     let mut given = Vec::with_capacity(alloc, keys.len())?;
     'keys: for key in keys {
-        given.push(answer_at(tallies, *key, answer))?;
+        let score = answer_at(tallies, *key, answer);
+        given.push(score)?;
     }
     Ok(given)
 }
@@ -253,7 +264,8 @@ fn at_roots(
     let mut from = 0;
     let mut root = 0;
     'roots: while let Some(doc) = roots.next_set(from) {
-        hits.put(doc, score_at(given, root))?;
+        let score = score_at(given, root);
+        hits.put(doc, score)?;
         root += 1;
         from = doc + 1;
     }
