@@ -6,12 +6,11 @@ use Rattle.score_math.specs.Running.{summary_of_more, summary_of_one, total_is_b
 use Rattle.score_math.specs.Scores.{Summarizes, mode_of}
 use Rattle.score_math.specs.declared.score.ScoreMode.{ScoreMode}
 use Rattle.score_math.specs.declared.score.TheConstants.{SCORE_CAP}
-use Rattle.query_eval.specs.Sides.{AreTallies, IsTally, IsTallied, TallyOf, answer_of, answer_for, pair_if, scores_of, told}
+use Rattle.query_eval.specs.Sides.{answer_of}
+use Rattle.query_eval.specs.Tallies.{IsTally, IsTallied}
 use Rattle.query_eval.specs.declared.tally.Answer.{Answer}
 use Rattle.query_eval.specs.declared.tally.Answer.TheVariants as answer
-use Rattle.query_eval.specs.declared.tally.Tally.{Tally}
 use Rattle.query_eval.proofs.Joined.{nothing_given}
-use Rattle.query_eval.proofs.Keys.{scores_append}
 
 -- ---- one tally
 

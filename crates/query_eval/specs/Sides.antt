@@ -5,9 +5,7 @@ use Rattle.join_ordinals.specs.Ordinals.{Ordinals, ordinal_at}
 use Rattle.mapping.specs.Mapping.{Mapping, relation_at}
 use Rattle.query_ast.specs.Hit.{children_score, parent_score}
 use Rattle.query_ast.specs.Joined.{is_number, roots, child_trees, parent_trees}
-use Rattle.score_math.specs.Scores.{Summarizes}
 use Rattle.score_math.specs.declared.score.ScoreMode.{ScoreMode}
-use Rattle.score_math.specs.declared.score.TheConstants.{SCORE_CAP}
 use Rattle.segment.specs.Live.{EntryState}
 use Rattle.segment.specs.declared.columns.Columns.{Columns}
 use Rattle.stored_sources.specs.Roots.{root_of}
@@ -17,6 +15,7 @@ use Rattle.tree_objects.specs.Object.{Object}
 use Rattle.tree_objects.specs.Tree.{Tree}
 use Rattle.block_bits.specs.Blocks.{documents_of}
 use Rattle.query_eval.specs.Folds.{scopes_in}
+use Rattle.query_eval.specs.Tallies.{IsTally}
 use Rattle.query_eval.specs.declared.side.Side.{Side}
 use Rattle.query_eval.specs.declared.side.Side.TheVariants.{Parents, Children, ChildrenOf}
 use Rattle.query_eval.specs.declared.tally.Answer.{Answer}
@@ -100,15 +99,6 @@ told_by m ordinals side place (entry ∷ entries) (hits ∷ scores) =
     told (keys_at m ordinals side entry.columns place) (of_roots (roots_in entry) hits) ++ told_by m ordinals side (place + 1) entries scores
 
 -- ---- tallies
-
--- the number, the sum, the least, the greatest and the first of some scores
-abbrev pub IsTally : List ℕ → ℕ → ℕ → ℕ → ℕ → ℕ → Type 0
-IsTally [] count total least greatest first = count ≡ 0
-IsTally (s ∷ scores) count total least greatest first =
-    Summarizes (s ∷ scores) total count least greatest × (first ≡ s) × (least ≤ SCORE_CAP) × (greatest ≤ SCORE_CAP)
-
-abbrev pub IsTallied : ℕ → ℕ → ℕ → ℕ → ℕ → Type 0
-IsTallied count total least greatest first = (scores : List ℕ) × IsTally scores count total least greatest first
 
 abbrev pub TallyOf : List ℕ → Tally → Type 0
 TallyOf scores t = IsTally scores t.count t.total t.least t.greatest t.first

@@ -2,7 +2,8 @@
 
 ghost use Rattle.std.specs.Prelude.{◌≡◌, ◌≤◌, ℕ, List, [], ◌∷◌, ◌++◌, ◌&&◌, nat_le, IfSome, OnOk};
 ghost use Rattle.query_ast.specs.Hit.{is_at_most};
-ghost use Rattle.query_eval.specs.Sides.{IsTallied, TallyOf, answer_of};
+ghost use Rattle.query_eval.specs.Sides.{TallyOf, answer_of};
+ghost use Rattle.query_eval.specs.Tallies.{IsTallied};
 ghost use Rattle.score_math.specs.declared.score.TheConstants.{SCORE_CAP};
 
 use crate::NoMemory;
