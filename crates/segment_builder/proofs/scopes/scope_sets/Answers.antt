@@ -7,14 +7,3 @@ use Rattle.segment_builder.proofs.scopes.scope_sets.Goals as goal
 pub scopes-preserved : goal.scopes-preserved
 scopes-preserved c =
     c.in_ok-push.ensures.items ∙ (let one = c.scopes.invariant in let two = c.in_ok-documents.ensures in rw (one, two) (sym (map-range_with_len_more (documents_of c.args.scopes.now) 0 c.scopes.scope c.scopes.scope (omega arith))))
-
-pub returns-clause-sets : goal.returns-clause-sets
-returns-clause-sets c =
-    let all : c.of.result ≡ map (documents_of c.args.scopes.now) (range_with_len 0 c.in_ok-count.count) = search rules in
-    all ∙ ap (λ n. map (documents_of c.args.scopes.now) (range_with_len 0 n)) (sym (ap length all ∙ length-map-range_with_len (documents_of c.args.scopes.now) 0 c.in_ok-count.count))
-
-pub returns-clause-within : goal.returns-clause-within
-returns-clause-within c =
-    let all : c.of.result ≡ map (documents_of c.args.scopes.now) (range_with_len 0 c.in_ok-count.count) = search rules in
-    let count : c.in_ok-count.count ≡ length c.of.result = sym (ap length all ∙ length-map-range_with_len (documents_of c.args.scopes.now) 0 c.in_ok-count.count) in
-    subst (λ n. All (λ scope. scope < n) c.args.scopes.now) count c.in_ok-count.ensures
