@@ -18,7 +18,7 @@ after_short zero c (b ∷ bs) = omega (arith, after_short (continuation_len b) (
 after_short (suc n) c [] = omega arith
 after_short (suc n) c (b ∷ bs) = omega (arith, after_short n (c * 64 + (b - 128)) bs)
 
-chars_short : (bs : List ℕ) → length (chars bs) ≤ length bs
+pub chars_short : (bs : List ℕ) → length (chars bs) ≤ length bs
 unfolding chars
 chars_short [] = omega arith
 chars_short (b ∷ bs) = after_short (continuation_len b) (lead_bits b) bs

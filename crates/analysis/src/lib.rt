@@ -6,11 +6,13 @@
 #![tactic(auto)]
 
 mod analyzer;
+mod law;
 mod no_memory;
 #[cfg(test)]
 mod tests;
 mod token_list;
 
 pub use analyzer::{has_short_tokens, tokens};
+pub use law::words_are_fewer_than_bytes;
 pub use no_memory::NoMemory;
 pub use token_list::{Bytes, Token, TokenList};

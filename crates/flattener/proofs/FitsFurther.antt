@@ -1,18 +1,17 @@
 -- A segment that fits a mapping fits it with further bodies.
-use Rattle.std.proofs.Common.{◌≡◌, ℕ, zero, suc, ◌+◌, ◌<◌, ◌≤◌, ◌==◌, ◌&&◌, ◌||◌, nat_le, Bool, true, false, List, [], ◌∷◌, length, map, get_or, Option, Some, None, if◌then◌else◌, refl, sym, ap, ◌∙◌, inl, inr, arith}
+use Rattle.std.proofs.Common.{◌≡◌, ℕ, zero, suc, ◌<◌, ◌≤◌, ◌==◌, ◌&&◌, ◌||◌, Bool, List, [], ◌∷◌, length, map, Some, None, if◌then◌else◌, refl, sym, ap, ◌∙◌, inl, inr, arith}
 use Rattle.std.specs.List.{All, AllByRecursion}
-use Rattle.std.specs.Option.{option_map_or}
 use Rattle.std.proofs.lemmas.List.{length-append}
 use Rattle.std.proofs.lemmas.List.Elements.{All-from_recursion, recursion_from_All}
-use Rattle.block_bits.specs.Blocks.{EnclosesAt, IsBlocks, scope_at as scope_of}
-use Rattle.block_bits.specs.Scopes.{enclosing, is_above, is_above_within}
+use Rattle.block_bits.specs.Blocks.{IsBlocks, scope_at as scope_of}
+use Rattle.block_bits.specs.Scopes.{enclosing, is_above_within}
 use Rattle.block_bits.proofs.Above.{falls, split_option}
 use Rattle.mapping_body.specs.declared.kind.Kind.{Kind}
 use Rattle.mapping.specs.Growth.{HasFurtherBodies}
 use Rattle.mapping.specs.IsMapping.{IsMapping}
-use Rattle.mapping.specs.Mapping.{Mapping, Field, Scope, field_at, home_of, included, knows, kind_at, outer, reaches, relation_at, scope_at, shows}
+use Rattle.mapping.specs.Mapping.{Mapping, Field, Scope, home_of, included, outer, reaches, scope_at, shows}
 use Rattle.segment.specs.Flat.{FlatDocument, FlatRoot, roots_of}
-use Rattle.segment.specs.declared.columns.Columns.{Columns}
+use Rattle.segment_parts.specs.declared.columns.Columns.{Columns}
 use Rattle.stored_sources.specs.declared.root.Join.{Join}
 use Rattle.stored_sources.specs.declared.root.Join.TheVariants.{Unjoined, Named, Child}
 use Rattle.tree_objects.proofs.Further.{within, field_same, scope_same, outer_same, outer_within}

@@ -16,7 +16,7 @@ use Rattle.flattener.proofs.Fitted.{IsOf, objects_of_tree, document_fits}
 use Rattle.flattener.proofs.Nested.{tree_nested}
 use Rattle.flattener.proofs.Relations.{join_fits}
 
-each_mapped : {A B : Type 0} (P : A → Type 0) (Q : B → Type 0) (f : A → B) → ((x : A) → P x → Q (f x)) → (xs : List A) → AllByRecursion P xs → AllByRecursion Q (map f xs)
+pub each_mapped : {A B : Type 0} (P : A → Type 0) (Q : B → Type 0) (f : A → B) → ((x : A) → P x → Q (f x)) → (xs : List A) → AllByRecursion P xs → AllByRecursion Q (map f xs)
 each_mapped P Q f step [] each = tt
 each_mapped P Q f step (x ∷ xs) each = (step x each.0, each_mapped P Q f step xs each.1)
 

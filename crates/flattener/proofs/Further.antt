@@ -1,17 +1,16 @@
 -- Further bodies of a mapping leave what a segment says of trees that were indexed before them.
-use Rattle.std.proofs.Common.{◌≡◌, ℕ, zero, suc, ◌+◌, ◌-◌, ◌<◌, ◌≤◌, ◌==◌, nat_le, nat_lt, Bool, true, false, List, [], ◌∷◌, ◌++◌, length, map, filter, get_or, ℤ, refl, sym, ap, ◌∙◌, arith}
-use Rattle.std.specs.List.{All, AllByRecursion, flat_map, range_with_len}
+use Rattle.std.proofs.Common.{◌≡◌, ℕ, zero, suc, ◌+◌, ◌<◌, ◌≤◌, nat_lt, Bool, List, [], ◌∷◌, length, map, filter, get_or, ℤ, refl, sym, ap, ◌∙◌, arith}
+use Rattle.std.specs.List.{AllByRecursion, flat_map, range_with_len}
 use Rattle.std.specs.Ordering.{int_cmp}
-use Rattle.std.proofs.lemmas.Bool.Decides.{nat_tests}
-use Rattle.std.proofs.lemmas.List.{get_or_append_left, get_or-append_right, length-append}
+use Rattle.std.proofs.lemmas.List.{get_or_append_left, length-append}
 use Rattle.mapping_body.proofs.Walks.{split}
 use Rattle.mapping_body.specs.declared.kind.Kind.{Kind}
-use Rattle.mapping.specs.Growth.{GoesOn, HasFurtherBodies}
+use Rattle.mapping.specs.Growth.{HasFurtherBodies}
 use Rattle.mapping.specs.IsMapping.{IsMapping}
 use Rattle.mapping.specs.Mapping.{Mapping, Field, field_at, kids, kind_at, no_field}
 use Rattle.segment.specs.Flat.{FlatDocument, has_some}
 use Rattle.segment.specs.Live.{LiveState}
-use Rattle.segment.specs.declared.columns.Columns.{Columns}
+use Rattle.segment_parts.specs.declared.columns.Columns.{Columns}
 use Rattle.tree_json.specs.Value.{JsonValue}
 use Rattle.tree_objects.specs.Fault.{first_fault}
 use Rattle.tree_objects.specs.Object.{Object, root, inside, scope, tree_of, block_objects, children, objects}
@@ -224,7 +223,7 @@ refusal_same : (m m2 : Mapping) (tree : Tree) → KeepsTrees m m2 → tree.gener
 unfolding block_refusal
 refusal_same m m2 tree keeps old = rw (keeps.faults tree.generation tree.source old, keeps.objects tree old) refl
 
-block_of_same : (m m2 : Mapping) (tree : Tree) → HasFurtherBodies m m2 → KeepsTrees m m2 → tree.generation ≤ length m.bodies → block_of m2 tree ≡ block_of m tree
+pub block_of_same : (m m2 : Mapping) (tree : Tree) → HasFurtherBodies m m2 → KeepsTrees m m2 → tree.generation ≤ length m.bodies → block_of m2 tree ≡ block_of m tree
 block_of_same m m2 tree has keeps old = rw (flats_same m m2 tree has keeps old, root_same m m2 tree keeps old) refl
 
 pub block_same : (m m2 : Mapping) (block : BlockState) → HasFurtherBodies m m2 → KeepsTrees m m2 → BlockFits m block → BlockFits m2 block

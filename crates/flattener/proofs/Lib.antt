@@ -15,3 +15,4 @@ pub mod Relations
 pub mod Fitting
 pub mod Further
 pub mod FitsFurther
+pub mod Smallness

@@ -9,7 +9,7 @@ use Rattle.mapping.specs.Mapping.{Mapping, kind_at, scope_at, around_of, shows, 
 use Rattle.segment.specs.Agree.{IsId, HasParentId}
 use Rattle.segment.specs.Flat.{FlatDocument, FlatRoot, flats_of, roots_of}
 use Rattle.segment.specs.Live.{EntryState, IsLiveOver}
-use Rattle.segment.specs.declared.columns.Columns.{Columns}
+use Rattle.segment_parts.specs.declared.columns.Columns.{Columns}
 use Rattle.stored_sources.specs.declared.root.Join.{Join}
 use Rattle.stored_sources.specs.declared.root.Join.TheVariants.{Unjoined, Named, Child}
 use Rattle.tree_json.specs.Text.{compact}

@@ -3,6 +3,7 @@ pub mod Flat
 pub mod Block
 pub mod StandsFor
 pub mod Fits
+pub mod Small
 pub mod Seen
 -- What serves proofs alone.
 pub mod Walked

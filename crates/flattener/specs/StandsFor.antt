@@ -1,20 +1,16 @@
 -- What a segment with its live bits says of trees: its documents are their blocks, one behind the other.
 use Rattle.std.specs.Prelude.{◌≡◌, Bool, List, [], ◌∷◌, map, ⊤}
 use Rattle.std.specs.List.{flat_map}
+pub use Rattle.layout.specs.Layout.{Marked}
 use Rattle.mapping.specs.IsMapping.{IsMapping}
 use Rattle.mapping.specs.Mapping.{Mapping}
 use Rattle.segment.specs.Flat.{FlatDocument, flats_of, roots_of}
 use Rattle.segment.specs.Live.{EntryState, LiveState}
-use Rattle.segment.specs.declared.columns.Columns.{Columns}
+use Rattle.segment_parts.specs.declared.columns.Columns.{Columns}
 use Rattle.tree_objects.specs.Object.{Object, block_objects}
 use Rattle.tree_objects.specs.Tree.{Tree}
 use Rattle.flattener.specs.Block.{root_of_tree}
 use Rattle.flattener.specs.Flat.{flat_of}
-
--- something with whether it is live, as a tree or a block
-pub record Marked (A : Type 0) : Type 0 where
-  pub item : A
-  pub live : Bool
 
 -- something of each document of each tree's block, in order; it may look at the tree's mark and at the document's object
 abbrev pub by_document : {A : Type 0} → Mapping → (Bool → Object → A) → List (Marked Tree) → List A

@@ -2,5 +2,6 @@ pub mod Sizes
 pub mod Firsts
 pub mod Merging
 pub mod Under
+mod Levels
 pub mod Equal
 mod Examples

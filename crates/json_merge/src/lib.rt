@@ -11,5 +11,5 @@ mod same;
 #[cfg(test)]
 mod tests;
 
-pub use merge::{members_are_merged, merged};
-pub use same::is_same;
+pub use merge::{members_are_merged, merged, merged_values_nest_no_deeper};
+pub use same::{is_same, same_values_are_equal};

@@ -1,6 +1,7 @@
 //! A change merged into a live value: both are walked once, name by name.
-ghost use Rattle.std.specs.Prelude.{◌≡◌, ℕ, List, false, IfOk, OnOk};
-ghost use Rattle.tree_json.specs.Value.{object, member_of, members_of};
+ghost use Rattle.std.specs.Prelude.{◌≡◌, ◌≤◌, ℕ, List, false, IfOk, OnOk};
+ghost use Rattle.tree_json.specs.Levels.{levels};
+ghost use Rattle.tree_json.specs.Value.{JsonValue, object, member_of, members_of};
 ghost use Rattle.tree_json.specs.View.{view, entries};
 ghost use Rattle.json_merge.specs.Merged.{merged, merged_members, under};
 ghost use Rattle.json_merge.specs.Coming.{behind, is_before, Carries, Joins};
@@ -32,6 +33,11 @@ pub fn members_are_merged(change: &JsonObject, live: &JsonObject)
 {
     let (_changes, _members) = (change.as_slice(), live.as_slice());
 }
+
+/// Merged values nest no deeper than what is merged.
+pub fn merged_values_nest_no_deeper()
+    ensures { (change live : JsonValue) (most : ℕ) → levels change ≤ most → levels live ≤ most → levels (merged change live) ≤ most }
+{}
 
 #[cycle(merge)]
 fn merged_object(alloc: Global, changes: JsonObject, live: Json) -> Result<Json, NoMemory>

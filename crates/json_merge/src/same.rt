@@ -1,6 +1,6 @@
 //! Whether two values are equal.
 ghost use Rattle.std.specs.Prelude.{◌≡◌, ◌↔◌, IsTrue};
-ghost use Rattle.tree_json.specs.Value.{elements_of, members_of};
+ghost use Rattle.tree_json.specs.Value.{JsonValue, elements_of, members_of};
 ghost use Rattle.tree_json.specs.View.{view, values, entries};
 ghost use Rattle.json_merge.specs.Same.{is_same, is_same_list, is_same_object};
 
@@ -15,6 +15,12 @@ pub fn is_same(a: &Json, b: &Json) -> bool
 {
     same(a, b)
 }
+
+/// What is the same is equal, and what is equal is the same. It does nothing: the law is its contract.
+#[tactic(auto, using(crate::proofs::Equal::equals))]
+pub fn same_values_are_equal()
+    ensures { (a b : JsonValue) → IsTrue (is_same a b) ↔ (a ≡ b) }
+{}
 
 #[cycle(same)]
 #[tactic(auto, using(crate::proofs::Sizes::sizes, crate::proofs::Equal::same_bool))]

@@ -8,7 +8,7 @@ use Rattle.std.proofs.lemmas.List.FromFn.{fill_by_all, get_or-map-range_with_len
 use Rattle.std.proofs.lemmas.Simd.{map-map}
 use Rattle.block_bits.specs.Flags.{cleared, intersection}
 use Rattle.segment.specs.Flat.{FlatDocument, flat_of, flats_of}
-use Rattle.segment.specs.declared.columns.Columns.{Columns}
+use Rattle.segment_parts.specs.declared.columns.Columns.{Columns}
 use Rattle.leaf_search.specs.Sets.{cut}
 use Rattle.leaf_search.proofs.Tests.{and_false}
 

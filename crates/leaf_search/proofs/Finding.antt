@@ -13,21 +13,21 @@ use Rattle.query_ast.specs.Clause.{Test, is_among, is_between, exists, begins_wi
 use Rattle.query_ast.specs.Compare.{is_same_value}
 use Rattle.query_ast.specs.Joined.{has_relation, names_parent}
 use Rattle.query_ast.specs.Leaf.{field_exists, has_phrase_in, words_are_shown, leaf_holds, begins as value_begins, is_text as is_text_kind, lies_between, terms_of, words_in}
-use Rattle.query_ast.specs.Resolved.{IsLeaf}
+use Rattle.query_ast.specs.Resolved.{IsLeaf, IsText}
 use Rattle.query_ast.specs.Uses.{IsValueOf, uses_of}
 use Rattle.mapping_body.specs.declared.kind.Kind.{Kind}
 use Rattle.mapping_body.specs.declared.kind.Kind.TheVariants.{Text, Keyword, Long, Boolean, Date, Object as Plain, Nested, Join}
 use Rattle.query_ast.specs.declared.query.RangeEnd.{RangeEnd}
 use Rattle.segment.specs.Flat.{FlatDocument, FlatRoot, flat_of as flat_at_doc, flats_of, roots_of}
 use Rattle.segment.specs.Live.{LiveState, IsLiveOver}
-use Rattle.segment.specs.declared.columns.Columns.{Columns}
+use Rattle.segment_parts.specs.declared.columns.Columns.{Columns}
 use Rattle.tree_objects.specs.Enclosing.{stands_at}
 use Rattle.tree_objects.specs.Object.{Object, root, block_objects, tree_of}
 use Rattle.tree_objects.specs.Tree.{Tree}
 use Rattle.tree_objects.specs.Values.{values, join_of}
 use Rattle.tree_objects.specs.declared.field_value.FieldValue.{FieldValue}
 use Rattle.flattener.specs.Flat.{flat_of, is_text}
-use Rattle.leaf_search.specs.Found.{Finds, IsText, LeafAsksForText}
+use Rattle.leaf_search.specs.Found.{Finds}
 use Rattle.leaf_search.specs.Keys.{FitsKey, EndFits, key_of, begins, has_value_of, has_one_of, lies_within}
 use Rattle.leaf_search.specs.Roots.{is_child_of, is_joined, root_passes}
 use Rattle.leaf_search.specs.declared.roots.RootTest.{RootTest}
@@ -124,17 +124,17 @@ never_ranged Nested ranged = refl
 never_ranged Join ranged = refl
 
 module _ (c : Columns) (live : LiveState) (n : ℕ) (lives : length live.docs ≡ c.documents) (fit : (doc : ℕ) → Fit (flat_at_doc c doc)) (m : Mapping) where
-  pub finds_by : (l : Leaf) (test : FlatDocument → Bool) (set : List Bool) → Made c live n test set → (IsLeaf m l → LeafAsksForText l → (o : Object) → Fit (flat_of m o) → test (flat_of m o) ≡ leaf_holds m l o) → Finds m c live n l set
+  pub finds_by : (l : Leaf) (test : FlatDocument → Bool) (set : List Bool) → Made c live n test set → (IsLeaf m l → (o : Object) → Fit (flat_of m o) → test (flat_of m o) ≡ leaf_holds m l o) → Finds m c live n l set
   finds_by l test set made same = record {
     long = made.long;
-    found = λ trees e is text. made.is ∙ entry_found m c live trees n Fit test (leaf_holds m l) e (all_flats c Fit (λ doc below. fit doc)) (same is text);
+    found = λ trees e is. made.is ∙ entry_found m c live trees n Fit test (leaf_holds m l) e (all_flats c Fit (λ doc below. fit doc)) (same is);
   }
 
   -- a leaf that holds nowhere
   pub finds_none : (l : Leaf) → ((o : Object) → leaf_holds m l o ≡ false) → Finds m c live n l (replicate c.documents false)
   finds_none l holds = record {
     long = length-replicate c.documents false;
-    found = λ trees e is text.
+    found = λ trees e is.
         none_left c n live.docs (λ d. false) lives (λ doc below. refl)
         ∙ entry_found m c live trees n Fit (λ d. false) (leaf_holds m l) e (all_flats c Fit (λ doc below. fit doc)) (λ o own. sym (holds o));
   }
@@ -156,13 +156,13 @@ module _ (c : Columns) (live : LiveState) (n : ℕ) (lives : length live.docs �
   among_holds keys f given fits is o own = among_shown keys m f o given is.0 own (all_of f given is.1.1 fits)
 
   pub finds_among : KeysAreOrdered → (f : ℕ) (given : List FieldValue) (set : List Bool) → All FitsKey given → Made c live n (has_one_of f given) set → Finds m c live n (on_field (Some f) (is_among given)) set
-  finds_among keys f given set fits made = finds_by (on_field (Some f) (is_among given)) (has_one_of f given) set made (λ is text o own. among_holds keys f given fits is o own)
+  finds_among keys f given set fits made = finds_by (on_field (Some f) (is_among given)) (has_one_of f given) set made (λ is o own. among_holds keys f given fits is o own)
 
   pub finds_term : KeysAreOrdered → (f : ℕ) (v : FieldValue) (set : List Bool) → FitsKey v → Made c live n (has_term f (bytes_eq (key_of v))) set → Finds m c live n (on_field (Some f) (is_among (v ∷ []))) set
   finds_term keys f v set fits made =
       let given : List FieldValue = v ∷ [] in
       finds_by (on_field (Some f) (is_among given)) (has_term f (bytes_eq (key_of v))) set made
-      (λ is text o own. sym (or_false (has_value_of f (flat_of m o) v)) ∙ among_holds keys f given (All-cons FitsKey v [] fits (All-nil FitsKey)) is o own)
+      (λ is o own. sym (or_false (has_value_of f (flat_of m o) v)) ∙ among_holds keys f given (All-cons FitsKey v [] fits (All-nil FitsKey)) is o own)
 
   between_holds : KeysAreOrdered → (f : ℕ) (low high : RangeEnd) → EndFits low → EndFits high → IsLeaf m (on_field (Some f) (is_between low high)) → (o : Object) → Fit (flat_of m o) → has_term f (lies_within low high) (flat_of m o) ≡ leaf_holds m (on_field (Some f) (is_between low high)) o
   unfolding leaf_holds
@@ -172,14 +172,14 @@ module _ (c : Columns) (live : LiveState) (n : ℕ) (lives : length live.docs �
       ∙ own_terms (lies_between low high) (values m f o)
 
   pub finds_between : KeysAreOrdered → (f : ℕ) (low high : RangeEnd) (set : List Bool) → EndFits low → EndFits high → Made c live n (has_term f (lies_within low high)) set → Finds m c live n (on_field (Some f) (is_between low high)) set
-  finds_between keys f low high set fits fit2 made = finds_by (on_field (Some f) (is_between low high)) (has_term f (lies_within low high)) set made (λ is text o own. between_holds keys f low high fits fit2 is o own)
+  finds_between keys f low high set fits fit2 made = finds_by (on_field (Some f) (is_between low high)) (has_term f (lies_within low high)) set made (λ is o own. between_holds keys f low high fits fit2 is o own)
 
   start_holds : (f : ℕ) (start : List ℕ) → IsLeaf m (on_field (Some f) (begins_with start)) → (o : Object) → Fit (flat_of m o) → has_term f (begins start) (flat_of m o) ≡ leaf_holds m (on_field (Some f) (begins_with start)) o
   unfolding leaf_holds
   start_holds f start is o own = term_shown m f o (begins start) (value_begins start) is.0 own (start_agrees (kind_at m f) start is.1)
 
   pub finds_start : (f : ℕ) (start : List ℕ) (set : List Bool) → Made c live n (has_term f (begins start)) set → Finds m c live n (on_field (Some f) (begins_with start)) set
-  finds_start f start set made = finds_by (on_field (Some f) (begins_with start)) (has_term f (begins start)) set made (λ is text o own. start_holds f start is o own)
+  finds_start f start set made = finds_by (on_field (Some f) (begins_with start)) (has_term f (begins start)) set made (λ is o own. start_holds f start is o own)
 
   pub finds_unmapped_from : (test : Test) (field : Option ℕ) (documents : ℕ) (set : List Bool) → field ≡ None → documents ≡ c.documents → set ≡ replicate documents false → Finds m c live n (on_field field test) set
   finds_unmapped_from test field documents set none many is =
@@ -200,7 +200,7 @@ module _ (c : Columns) (live : LiveState) (n : ℕ) (lives : length live.docs �
   finds_all documents full set many is cuts =
       let marks : full ≡ map (λ (d : FlatDocument). true) (flats_of c) =
       is ∙ ap (λ (k : ℕ). replicate k true) (many ∙ sym (length-map-range_with_len (flat_at_doc c) 0 c.documents)) ∙ full_marks (flats_of c) in
-      finds_by match_all (λ d. true) set (made_of c live n (λ d. true) full set lives marks cuts) (λ is text o own. all_hold o)
+      finds_by match_all (λ d. true) set (made_of c live n (λ d. true) full set lives marks cuts) (λ is o own. all_hold o)
 
   pub finds_nothing : (documents : ℕ) (set : List Bool) → documents ≡ c.documents → set ≡ replicate documents false → Finds m c live n match_none set
   finds_nothing documents set many is =
@@ -212,7 +212,7 @@ module _ (c : Columns) (live : LiveState) (n : ℕ) (lives : length live.docs �
       → (IsLeaf m l → (t : Tree) → test (root_of_tree m t) ≡ leaf_holds m l (root t)) → (IsLeaf m l → (o : Object) → stands_at 0 o ≡ false → leaf_holds m l o ≡ false) → Finds m c live n l set
   finds_roots l test set one made at_root elsewhere = record {
     long = made.long;
-    found = λ trees e is text. made.is ∙ entry_roots m c live trees n test (leaf_holds m l) e (λ t. one m t e.mapping) (at_root is) (elsewhere is);
+    found = λ trees e is. made.is ∙ entry_roots m c live trees n test (leaf_holds m l) e (λ t. one m t e.mapping) (at_root is) (elsewhere is);
   }
 
   id_holds : (test : RootTest) (listed : List (List ℕ)) (t : Tree) → ((r : FlatRoot) → root_passes test r ≡ list_any (bytes_eq r.id) listed) → root_passes test (root_of_tree m t) ≡ leaf_holds m (ids listed) (root t)
@@ -253,7 +253,7 @@ module _ (c : Columns) (live : LiveState) (n : ℕ) (lives : length live.docs �
   finds_unknown test None documents set none many is = finds_unmapped_from test None documents set refl many is
   finds_unknown test (Some f) documents set none many is = record {
     long = ap length (is ∙ ap (λ (k : ℕ). replicate k false) many) ∙ length-replicate c.documents false;
-    found = λ trees e leaf text. absurd (let inside : nat_lt f (length m.fields) ≡ true = lt-ltb f (length m.fields) leaf.0 in let some : None ≡ Some f = rw inside at none in let no : ⊥ = cc in no);
+    found = λ trees e leaf. absurd (let inside : nat_lt f (length m.fields) ≡ true = lt-ltb f (length m.fields) leaf.0 in let some : None ≡ Some f = rw inside at none in let no : ⊥ = cc in no);
   }
 
   value_holds : (f : ℕ) → kind_at m f ≢ Plain → kind_at m f ≢ Join → IsLeaf m (on_field (Some f) exists) → (o : Object) → Fit (flat_of m o) → shows_value f (kind_at m f) (flat_of m o) ≡ leaf_holds m (on_field (Some f) exists) o
@@ -261,14 +261,14 @@ module _ (c : Columns) (live : LiveState) (n : ℕ) (lives : length live.docs �
   value_holds f plain join is o own = value_exists m f o (kind_at m f) refl plain join is.0 own
 
   pub finds_value : (f : ℕ) (set : List Bool) → kind_at m f ≢ Plain → kind_at m f ≢ Join → Made c live n (shows_value f (kind_at m f)) set → Finds m c live n (on_field (Some f) exists) set
-  finds_value f set plain join made = finds_by (on_field (Some f) exists) (shows_value f (kind_at m f)) set made (λ is text o own. value_holds f plain join is o own)
+  finds_value f set plain join made = finds_by (on_field (Some f) exists) (shows_value f (kind_at m f)) set made (λ is o own. value_holds f plain join is o own)
 
   part_holds : (f : ℕ) → kind_at m f ≡ Plain → (o : Object) → Fit (flat_of m o) → shows_part m f (flat_of m o) ≡ leaf_holds m (on_field (Some f) exists) o
   unfolding leaf_holds
   part_holds f plain o own = part_exists m f o own ∙ sym (ap (λ (k : Kind). field_exists m f k o) plain)
 
   pub finds_part : (f : ℕ) (set : List Bool) → kind_at m f ≡ Plain → Made c live n (shows_part m f) set → Finds m c live n (on_field (Some f) exists) set
-  finds_part f set plain made = finds_by (on_field (Some f) exists) (shows_part m f) set made (λ is text o own. part_holds f plain o own)
+  finds_part f set plain made = finds_by (on_field (Some f) exists) (shows_part m f) set made (λ is o own. part_holds f plain o own)
 
   join_holds : (test : RootTest) (f : ℕ) → kind_at m f ≡ Join → ((own : FlatRoot) → root_passes test own ≡ is_joined own.join) → (t : Tree) → root_passes test (root_of_tree m t) ≡ leaf_holds m (on_field (Some f) exists) (root t)
   unfolding leaf_holds root_of_tree
@@ -295,7 +295,7 @@ module _ (c : Columns) (live : LiveState) (n : ℕ) (lives : length live.docs �
       ∙ sym (cond-true (is_text_kind (kind_at m f)) (words_are_shown all (words_in v) (flat_map words_in (values m f o))) (list_any (is_same_value v) (values m f o)) kind)
 
   pub finds_words : (f : ℕ) (v : FieldValue) (all : Bool) (asked : List (List ℕ)) (set : List Bool) → kind_at m f ≡ Text → (IsText v → asked ≡ words_in v) → Made c live n (shows_words all f asked) set → Finds m c live n (on_field (Some f) (has_words v all)) set
-  finds_words f v all asked set text says made = finds_by (on_field (Some f) (has_words v all)) (shows_words all f asked) set made (λ is own o fits. words_hold f v all asked text (says own) is o)
+  finds_words f v all asked set text says made = finds_by (on_field (Some f) (has_words v all)) (shows_words all f asked) set made (λ is o fits. words_hold f v all asked text (says is.1.2) is o)
 
   word_value_holds : KeysAreOrdered → (f : ℕ) (v : FieldValue) (all : Bool) → kind_at m f ≢ Text → FitsKey v → IsLeaf m (on_field (Some f) (has_words v all)) → (o : Object) → Fit (flat_of m o) → has_value_of f (flat_of m o) v ≡ leaf_holds m (on_field (Some f) (has_words v all)) o
   unfolding leaf_holds
@@ -305,7 +305,7 @@ module _ (c : Columns) (live : LiveState) (n : ℕ) (lives : length live.docs �
       ∙ sym (cond-false (is_text_kind (kind_at m f)) (words_are_shown all (words_in v) (flat_map words_in (values m f o))) (list_any (is_same_value v) (values m f o)) kind)
 
   pub finds_word_value : KeysAreOrdered → (f : ℕ) (v : FieldValue) (all : Bool) (set : List Bool) → kind_at m f ≢ Text → FitsKey v → Made c live n (has_term f (bytes_eq (key_of v))) set → Finds m c live n (on_field (Some f) (has_words v all)) set
-  finds_word_value keys f v all set other fits made = finds_by (on_field (Some f) (has_words v all)) (has_term f (bytes_eq (key_of v))) set made (λ is text o own. word_value_holds keys f v all other fits is o own)
+  finds_word_value keys f v all set other fits made = finds_by (on_field (Some f) (has_words v all)) (has_term f (bytes_eq (key_of v))) set made (λ is o own. word_value_holds keys f v all other fits is o own)
 
   phrase_holds : (f : ℕ) (v : FieldValue) (asked : List (List ℕ)) → kind_at m f ≡ Text → asked ≡ words_in v → IsLeaf m (on_field (Some f) (has_phrase v)) → (o : Object) → shows_phrase f asked (flat_of m o) ≡ leaf_holds m (on_field (Some f) (has_phrase v)) o
   unfolding leaf_holds
@@ -316,7 +316,7 @@ module _ (c : Columns) (live : LiveState) (n : ℕ) (lives : length live.docs �
       ∙ sym (cond-true (is_text_kind (kind_at m f)) (list_any (has_phrase_in (words_in v)) (values m f o)) (list_any (is_same_value v) (values m f o)) kind)
 
   pub finds_phrase : (f : ℕ) (v : FieldValue) (asked : List (List ℕ)) (set : List Bool) → kind_at m f ≡ Text → (IsText v → asked ≡ words_in v) → Made c live n (shows_phrase f asked) set → Finds m c live n (on_field (Some f) (has_phrase v)) set
-  finds_phrase f v asked set text says made = finds_by (on_field (Some f) (has_phrase v)) (shows_phrase f asked) set made (λ is own o fits. phrase_holds f v asked text (says own) is o)
+  finds_phrase f v asked set text says made = finds_by (on_field (Some f) (has_phrase v)) (shows_phrase f asked) set made (λ is o fits. phrase_holds f v asked text (says is.1.2) is o)
 
   phrase_value_holds : KeysAreOrdered → (f : ℕ) (v : FieldValue) → kind_at m f ≢ Text → FitsKey v → IsLeaf m (on_field (Some f) (has_phrase v)) → (o : Object) → Fit (flat_of m o) → has_value_of f (flat_of m o) v ≡ leaf_holds m (on_field (Some f) (has_phrase v)) o
   unfolding leaf_holds
@@ -326,4 +326,4 @@ module _ (c : Columns) (live : LiveState) (n : ℕ) (lives : length live.docs �
       ∙ sym (cond-false (is_text_kind (kind_at m f)) (list_any (has_phrase_in (words_in v)) (values m f o)) (list_any (is_same_value v) (values m f o)) kind)
 
   pub finds_phrase_value : KeysAreOrdered → (f : ℕ) (v : FieldValue) (set : List Bool) → kind_at m f ≢ Text → FitsKey v → Made c live n (has_term f (bytes_eq (key_of v))) set → Finds m c live n (on_field (Some f) (has_phrase v)) set
-  finds_phrase_value keys f v set other fits made = finds_by (on_field (Some f) (has_phrase v)) (has_term f (bytes_eq (key_of v))) set made (λ is text o own. phrase_value_holds keys f v other fits is o own)
+  finds_phrase_value keys f v set other fits made = finds_by (on_field (Some f) (has_phrase v)) (has_term f (bytes_eq (key_of v))) set made (λ is o own. phrase_value_holds keys f v other fits is o own)

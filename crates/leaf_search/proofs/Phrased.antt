@@ -11,7 +11,7 @@ use Rattle.postings.specs.Marks.{has_document}
 use Rattle.segment.specs.Flat.{FlatDocument, flat_of, flats_of}
 use Rattle.segment.specs.Lists.{terms_of, postings_of}
 use Rattle.segment.specs.Live.{LiveState, IsLiveOver}
-use Rattle.segment.specs.declared.columns.Columns.{Columns}
+use Rattle.segment_parts.specs.declared.columns.Columns.{Columns}
 use Rattle.leaf_search.specs.Cursors.{Keeps}
 use Rattle.leaf_search.specs.Sets.{Made, cut}
 use Rattle.segment.specs.Shows.{has_word_at}

@@ -10,7 +10,7 @@ use Rattle.doc_values.specs.Values.{values_of}
 use Rattle.postings.specs.Marks.{has_document}
 use Rattle.segment.specs.Flat.{FlatDocument, flat_of, flats_of}
 use Rattle.segment.specs.Lists.{terms_of, postings_of}
-use Rattle.segment.specs.declared.columns.Columns.{Columns}
+use Rattle.segment_parts.specs.declared.columns.Columns.{Columns}
 use Rattle.leaf_search.specs.Cursors.{Keeps}
 use Rattle.leaf_search.specs.Sets.{cut}
 use Rattle.segment.specs.Shows.{has_word_at, is_word_at}

@@ -8,7 +8,7 @@ use Rattle.segment.specs.Flat.{FlatDocument, FlatRoot, flat_of, flat_root, flats
 use Rattle.segment.specs.Agree.{AreColumns}
 use Rattle.segment.specs.Roots.{root_documents}
 use Rattle.segment.specs.Text.{marked_places}
-use Rattle.segment.specs.declared.columns.Columns.{Columns}
+use Rattle.segment_parts.specs.declared.columns.Columns.{Columns}
 use Rattle.stored_sources.specs.Roots.{no_root, root_of}
 use Rattle.leaf_search.specs.Sets.{root_marks}
 use Rattle.leaf_search.proofs.Cutting.{is_of, scope_set}

@@ -11,7 +11,7 @@ use Rattle.std.proofs.lemmas.Map.Text.{is_eq-slice_cmp}
 use Rattle.postings.specs.Marks.{has_document}
 use Rattle.segment.specs.Flat.{FlatDocument, flat_of}
 use Rattle.segment.specs.Lists.{terms_of, postings_of}
-use Rattle.segment.specs.declared.columns.Columns.{Columns}
+use Rattle.segment_parts.specs.declared.columns.Columns.{Columns}
 use Rattle.term_table.specs.Ranges.{IsRange}
 use Rattle.leaf_search.specs.Sets.{Gains}
 use Rattle.segment.specs.Shows.{has_term, is_keyword_of, is_number_of, is_word_of, posts}

@@ -13,7 +13,7 @@ use Rattle.segment.specs.Agree.{AreColumns}
 use Rattle.segment.specs.Fields.{column_of}
 use Rattle.segment.specs.Flat.{FlatDocument, flat_of, flats_of}
 use Rattle.segment.specs.Parts.{IsPresence}
-use Rattle.segment.specs.declared.columns.Columns.{Columns}
+use Rattle.segment_parts.specs.declared.columns.Columns.{Columns}
 use Rattle.leaf_search.specs.Keys.{has_bytes}
 use Rattle.leaf_search.specs.Sets.{Gains, cut}
 use Rattle.segment.specs.Shows.{has_term, has_text, column_flag}

@@ -1,15 +1,12 @@
 -- Which documents a leaf finds: those of the live objects of one scope at which it holds (Elasticsearch reference,
 -- term-level queries and full text queries).
-use Rattle.std.specs.Prelude.{◌≡◌, ℕ, ◌==◌, Bool, ◌&&◌, ⊤, List, length, Option, Some, None}
-use Rattle.std.specs.Str.{IsUtf8}
-use Rattle.query_ast.specs.Clause.{Test, is_among, is_between, exists, begins_with, has_words, has_phrase, Leaf, match_all, match_none, ids, on_field, parent_id, Clause, leaf, bool, constant_score, dis_max, nested, to_child, has_child, has_parent}
+use Rattle.std.specs.Prelude.{◌≡◌, ℕ, ◌==◌, Bool, ◌&&◌, List, length, Option, Some, None}
+use Rattle.query_ast.specs.Clause.{Leaf, Clause, leaf, bool, constant_score, dis_max, nested, to_child, has_child, has_parent}
 use Rattle.query_ast.specs.Leaf.{leaf_holds}
 use Rattle.query_ast.specs.Resolved.{IsLeaf}
 use Rattle.mapping.specs.Mapping.{Mapping}
 use Rattle.segment.specs.Live.{LiveState}
-use Rattle.segment.specs.declared.columns.Columns.{Columns}
-use Rattle.tree_objects.specs.declared.field_value.FieldValue.{FieldValue}
-use Rattle.tree_objects.specs.declared.field_value.FieldValue.TheVariants.{Number, Written}
+use Rattle.segment_parts.specs.declared.columns.Columns.{Columns}
 use Rattle.tree_objects.specs.Object.{Object, scope}
 use Rattle.tree_objects.specs.Tree.{Tree}
 use Rattle.flattener.specs.StandsFor.{EntryStandsFor, Marked, by_document}
@@ -29,29 +26,9 @@ leaf_of (to_child n c) = None
 leaf_of (has_child r c mode least most) = None
 leaf_of (has_parent r c score boost) = None
 
--- a text whose words are asked for is text: its bytes are UTF-8, as those of each JSON text are
-abbrev pub IsText : FieldValue → Type 0
-IsText (Number z) = ⊤
-IsText (Written s) = IsUtf8 s
-
-abbrev pub AsksForText : Test → Type 0
-AsksForText (is_among given) = ⊤
-AsksForText (is_between low high) = ⊤
-AsksForText exists = ⊤
-AsksForText (begins_with start) = ⊤
-AsksForText (has_words value all) = IsText value
-AsksForText (has_phrase value) = IsText value
-
-abbrev pub LeafAsksForText : Leaf → Type 0
-LeafAsksForText match_all = ⊤
-LeafAsksForText match_none = ⊤
-LeafAsksForText (ids listed) = ⊤
-LeafAsksForText (on_field field test) = AsksForText test
-LeafAsksForText (parent_id child id) = ⊤
-
 -- A set of a segment's documents is what a leaf finds in a scope, whichever trees the segment stands for: those of live
 -- objects of the scope at which the leaf holds. The leaf is one that was resolved under the mapping.
 pub record Finds (m : Mapping) (columns : Columns) (live : LiveState) (n : ℕ) (l : Leaf) (set : List Bool) : Type 0 where
   pub long : length set ≡ columns.documents
-  pub found : (trees : List (Marked Tree)) → EntryStandsFor m columns live trees → IsLeaf m l → LeafAsksForText l
+  pub found : (trees : List (Marked Tree)) → EntryStandsFor m columns live trees → IsLeaf m l
       → set ≡ by_document m (found n (leaf_holds m l)) trees

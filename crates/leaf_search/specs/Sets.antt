@@ -2,7 +2,7 @@
 use Rattle.std.specs.Prelude.{◌≡◌, ℕ, ◌==◌, ◌<◌, Bool, false, ◌&&◌, ◌||◌, List, [], ◌∷◌, length, map, slice_index_or, if◌then◌else◌}
 use Rattle.segment.specs.Flat.{FlatDocument, FlatRoot, flat_of, flats_of, roots_of}
 use Rattle.segment.specs.Live.{LiveState}
-use Rattle.segment.specs.declared.columns.Columns.{Columns}
+use Rattle.segment_parts.specs.declared.columns.Columns.{Columns}
 
 -- a set gains the documents that pass a test
 pub record Gains (columns : Columns) (test : FlatDocument → Bool) (old new : List Bool) : Type 0 where

@@ -4,8 +4,9 @@ ghost use Rattle.std.specs.Prelude.{◌≡◌, ◌<◌, ℕ, length, map, IfOk};
 ghost use Rattle.mapping.specs.Mapping.{kind_at};
 ghost use Rattle.query_ast.specs.Clause.{on_field, exists, has_words, has_phrase};
 ghost use Rattle.query_ast.specs.Leaf.{words_in};
+ghost use Rattle.query_ast.specs.Resolved.{IsText};
 ghost use Rattle.segment.specs.Live.{IsLiveOver};
-ghost use Rattle.leaf_search.specs.Found.{Finds, IsText};
+ghost use Rattle.leaf_search.specs.Found.{Finds};
 ghost use Rattle.leaf_search.specs.Values.{known_field};
 ghost use Rattle.leaf_search.specs.Words.{folded_words};
 

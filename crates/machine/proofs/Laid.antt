@@ -1,8 +1,8 @@
 -- The trees that the layout has live are the live trees, before and after each request.
 use Rattle.std.proofs.Common.{◌≡◌, ℕ, true, false, not, cond, List, [], ◌∷◌, ◌++◌, filter, Option, Some, None, refl, ap, ◌∙◌, append-nil}
 use Rattle.std.specs.Str.{bytes_eq}
-use Rattle.index_core.specs.Layout.{live_items, staying, with_change}
-use Rattle.index_core.proofs.Keeps.{sealed_keeps, change_keeps}
+use Rattle.layout.specs.Layout.{live_items, staying, with_change}
+use Rattle.layout.proofs.Keeps.{sealed_keeps, change_keeps}
 use Rattle.line_reader.specs.Request.{Request}
 use Rattle.mapping.specs.Mapping.{Mapping}
 use Rattle.reply_text.specs.declared.refusal.Refusal.{Refusal}

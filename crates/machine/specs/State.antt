@@ -1,7 +1,7 @@
 -- The states of the machine, in four parts: what searches and writes see, the points in time, how the trees are laid out
 -- in segments, and what a store keeps.
 use Rattle.std.specs.Prelude.{◌≡◌, ℕ, List, [], Option, None}
-use Rattle.index_core.specs.Layout.{Layout, empty_layout, live_items, sealed}
+use Rattle.layout.specs.Layout.{Layout, empty_layout, live_items, sealed}
 use Rattle.mapping.specs.Mapping.{Mapping}
 use Rattle.tree_objects.specs.Tree.{Tree}
 

@@ -5,7 +5,7 @@ use Rattle.flattener.specs.Block.{block_refusal}
 use Rattle.flattener.specs.Fits.{most_source}
 use Rattle.flattener.specs.declared.refusal.FlattenRefusal.{FlattenRefusal}
 use Rattle.flattener.specs.declared.refusal.FlattenRefusal.TheVariants as flat
-use Rattle.index_core.specs.Layout.{with_change}
+use Rattle.layout.specs.Layout.{with_change}
 use Rattle.json_merge.specs.Merged.{merged}
 use Rattle.json_merge.specs.Same.{is_same}
 use Rattle.mapping.specs.Mapping.{Mapping, mapping_of, field_at}

@@ -1,7 +1,7 @@
 //! The plain machine: what each request answers, over JSON trees, and the state that it leaves.
 //!
 //! It has definitions and laws alone, and nothing of it runs; the engine is proved to answer as it does. Stands on the
-//! definitions of `request_form`, `mapping`, `tree_objects`, `query_ast`, `query_parser`, `index_core` and `reply_text`.
+//! definitions of `request_form`, `mapping`, `tree_objects`, `query_ast`, `query_parser`, `layout` and `reply_text`.
 //! Begin with `specs/Step`.
 #![tactic(auto)]
 

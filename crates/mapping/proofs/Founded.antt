@@ -42,12 +42,12 @@ at ds i = get_or ds i no_draft
 
 -- ---- fields in turn, by their numbers
 
-all_at : (P : Draft → Type 0) (ds : List Draft) (i : ℕ) → AllByRecursion P ds → i < length ds → P (at ds i)
+pub all_at : (P : Draft → Type 0) (ds : List Draft) (i : ℕ) → AllByRecursion P ds → i < length ds → P (at ds i)
 all_at P [] i all h = absurd (omega arith)
 all_at P (d ∷ ds) zero all h = all.0
 all_at P (d ∷ ds) (suc i) all h = all_at P ds i all.1 (omega arith)
 
-turn_at : (ds : List Draft) (i j : ℕ) → AreInTurn ds → i < j → j < length ds → StandsBefore (at ds i) (at ds j)
+pub turn_at : (ds : List Draft) (i j : ℕ) → AreInTurn ds → i < j → j < length ds → StandsBefore (at ds i) (at ds j)
 turn_at [] i j turn h k = absurd (omega arith)
 turn_at (d ∷ ds) i zero turn h k = absurd (omega arith)
 turn_at (d ∷ ds) zero (suc j) turn h k = all_at (StandsBefore d) ds j turn.0 (omega arith)
@@ -67,7 +67,7 @@ turn_filter t (d ∷ ds) turn =
     (λ held. rw held (filtered t (StandsBefore d) ds turn.0, turn_filter t ds turn.1))
     (λ failed. rw failed (turn_filter t ds turn.1))
 
-above_before : (ds : List Draft) (i j : ℕ) → AreInTurn ds → i < length ds → j < length ds → lies_above (at ds i).path (at ds j).path ≡ true → i < j
+pub above_before : (ds : List Draft) (i j : ℕ) → AreInTurn ds → i < length ds → j < length ds → lies_above (at ds i).path (at ds j).path ≡ true → i < j
 above_before ds i j turn h k over = elim (cases_order i j) [
   | inl same ↦ absurd (not_itself (at ds j).path (above_less (at ds j).path (at ds j).path (subst (λ (n : ℕ). lies_above (at ds n).path (at ds j).path ≡ true) same over)))
   | inr rest ↦ elim rest [
@@ -76,7 +76,7 @@ above_before ds i j turn h k over = elim (cases_order i j) [
   ]
 ]
 
-same_place : (ds : List Draft) (i j : ℕ) → AreInTurn ds → i < length ds → j < length ds → (at ds i).path ≡ (at ds j).path → i ≡ j
+pub same_place : (ds : List Draft) (i j : ℕ) → AreInTurn ds → i < length ds → j < length ds → (at ds i).path ≡ (at ds j).path → i ≡ j
 same_place ds i j turn h k same = elim (cases_order i j) [
   | inl equal ↦ equal
   | inr rest ↦ elim rest [
@@ -85,7 +85,7 @@ same_place ds i j turn h k same = elim (cases_order i j) [
   ]
 ]
 
-path_at : (ds : List Draft) (i : ℕ) → get_or (draft_paths ds) i [] ≡ (at ds i).path
+pub path_at : (ds : List Draft) (i : ℕ) → get_or (draft_paths ds) i [] ≡ (at ds i).path
 path_at [] i = refl
 path_at (d ∷ ds) zero = refl
 path_at (d ∷ ds) (suc i) = path_at ds i
@@ -105,7 +105,7 @@ picked : (t : Draft → Bool) (d : Draft) (ds : List Draft) (k : ℕ) → k < le
 picked t d ds zero h held rest = (record { number = 0; within = omega arith; is = refl }, held)
 picked t d ds (suc k) h held rest = let one = rest k (omega arith) in (later d ds (at (filter t ds) k) one.0, one.1)
 
-among_filtered : (t : Draft → Bool) (ds : List Draft) (k : ℕ) → k < length (filter t ds) → StandsAmong ds (at (filter t ds) k) × (t (at (filter t ds) k) ≡ true)
+pub among_filtered : (t : Draft → Bool) (ds : List Draft) (k : ℕ) → k < length (filter t ds) → StandsAmong ds (at (filter t ds) k) × (t (at (filter t ds) k) ≡ true)
 among_filtered t [] k h = absurd (omega arith)
 among_filtered t (d ∷ ds) k h =
     split (t d)
@@ -135,14 +135,14 @@ map_same : {A B : Type 0} (f g : A → B) → ((x : A) → f x ≡ g x) → (xs 
 map_same f g same [] = refl
 map_same f g same (x ∷ xs) = rw (same x, map_same f g same xs) refl
 
-fields_by_paths : (paths : List (List ℕ)) (ds : List Draft) → map (λ f. f.path) (map (field_by paths) ds) ≡ draft_paths ds
+pub fields_by_paths : (paths : List (List ℕ)) (ds : List Draft) → map (λ f. f.path) (map (field_by paths) ds) ≡ draft_paths ds
 fields_by_paths paths [] = refl
 fields_by_paths paths (d ∷ ds) = ap (λ (rest : List (List ℕ)). d.path ∷ rest) (fields_by_paths paths ds)
 
-field_is : (paths : List (List ℕ)) (ds : List Draft) (i : ℕ) (none : Field) → i < length ds → get_or (map (field_by paths) ds) i none ≡ field_by paths (at ds i)
+pub field_is : (paths : List (List ℕ)) (ds : List Draft) (i : ℕ) (none : Field) → i < length ds → get_or (map (field_by paths) ds) i none ≡ field_by paths (at ds i)
 field_is paths ds i none h = get_or-map (field_by paths) ds i no_draft none h
 
-scope_is : (paths : List (List ℕ)) (ds : List Draft) (i : ℕ) → i < length ds → get_or (map (scope_by paths) ds) i root_scope ≡ scope_by paths (at ds i)
+pub scope_is : (paths : List (List ℕ)) (ds : List Draft) (i : ℕ) → i < length ds → get_or (map (scope_by paths) ds) i root_scope ≡ scope_by paths (at ds i)
 scope_is paths ds i h = get_or-map (scope_by paths) ds i no_draft root_scope h
 
 -- ---- the mapping
@@ -339,7 +339,7 @@ module _ (bodies : List JsonValue) (dynamic : Bool) (ds : List Draft) (g : ℕ) 
         path_is (suc stands.number) ∙ scope_path stands.number ∙ ap (λ d. d.path) stands.is ∙ sym (ap (λ x. x.path) field_here),
       )
 
-all_founded : (bodies : List JsonValue) → list_all is_body bodies ≡ true → AreFounded (suc (length bodies)) (drafts_of bodies)
+pub all_founded : (bodies : List JsonValue) → list_all is_body bodies ≡ true → AreFounded (suc (length bodies)) (drafts_of bodies)
 all_founded bodies forms = let one : 1 + length bodies ≡ suc (length bodies) = omega arith in subst (λ (n : ℕ). AreFounded n (drafts_of bodies)) one (founded bodies forms)
 
 pub is_mapping : (bodies : List JsonValue) (dynamic : Bool) → AreBodies bodies → IsMapping (mapping_of bodies dynamic)

@@ -1,5 +1,5 @@
 -- A further body leaves what stands under each number.
-use Rattle.std.proofs.Common.{◌≡◌, ℕ, ◌+◌, Bool, true, false, if◌then◌else◌, List, [], ◌∷◌, ◌++◌, length, map, get_or, refl, ap, ◌∙◌, subst}
+use Rattle.std.proofs.Common.{◌≡◌, ℕ, ◌+◌, Bool, true, false, if◌then◌else◌, List, [], ◌∷◌, ◌++◌, length, map, get_or, refl, ap, ◌∙◌, subst, sym}
 use Rattle.std.proofs.lemmas.List.{get_or_append_left, map-append}
 use Rattle.std.proofs.lemmas.List.Elements.{filter-append}
 use Rattle.std.proofs.lemmas.List.Folds.{list_all-append}
@@ -14,10 +14,10 @@ use Rattle.mapping_growth.specs.Relations.{relations_added, relations_of}
 use Rattle.mapping_growth.proofs.Adding.{drafts_more, relations_more}
 use Rattle.mapping_body.proofs.Walks.{split}
 use Rattle.mapping.specs.Growth.{KeepsNumbers}
-use Rattle.mapping.specs.Mapping.{Field, Scope, mapping_of, field_by, fields_by, nearest, nearest_from, nested_among, no_field, no_relation, root_scope, scope_by, scope_paths, scopes_by}
+use Rattle.mapping.specs.Mapping.{Field, Scope, mapping_of, field_by, fields_by, nearest, nested_among, no_field, no_relation, root_scope, scope_by, scope_paths, scopes_by}
 use Rattle.mapping.proofs.Above.{joint}
 use Rattle.mapping.proofs.InTurn.{AreInTurn, HaveAbove, StandsBefore, founded}
-use Rattle.mapping.proofs.Nearest.{nearest_last}
+use Rattle.mapping.proofs.Nearest.{nearest_from, nearest_is, nearest_last}
 
 -- ---- paths behind that don't lie above
 
@@ -55,7 +55,9 @@ paths_more ds news =
 nearest_kept : (ds news : List Draft) (x : Draft) → AllByRecursion (StandsBefore x) news → nearest (scope_paths (ds ++ news)) x.path ≡ nearest (scope_paths ds) x.path
 nearest_kept ds news x all =
     ap (λ (paths : List (List ℕ)). nearest paths x.path) (paths_more ds news)
+    ∙ nearest_is (scope_paths ds ++ draft_paths (nested_among news)) x.path
     ∙ nearest_more (scope_paths ds) (draft_paths (nested_among news)) x.path 0 0 (none_over x news all)
+    ∙ sym (nearest_is (scope_paths ds) x.path)
 
 abbrev field_with : Draft → ℕ → Field
 field_with d home = record { path = d.path; kind = d.kind; home = home; since = d.since }

@@ -8,3 +8,5 @@ pub mod Founded
 pub mod Keeps
 pub mod Further
 pub mod Generations
+pub mod Reaching
+pub mod Including

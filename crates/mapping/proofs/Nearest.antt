@@ -1,13 +1,19 @@
 -- The nearest scope above a path, and the parts of scopes and fields by their numbers.
-use Rattle.std.proofs.Common.{◌≡◌, ℕ, zero, suc, ◌+◌, ◌<◌, ◌≤◌, inl, inr, true, false, List, [], ◌∷◌, ◌++◌, length, map, get_or, drop, refl, ap, arith}
+use Rattle.std.proofs.Common.{◌≡◌, ℕ, zero, suc, ◌+◌, ◌<◌, ◌≤◌, inl, inr, true, false, if◌then◌else◌, List, [], ◌∷◌, ◌++◌, length, map, filter, get_or, drop, Some, None, unwrap_or, refl, sym, ap, ◌∙◌, subst, arith}
 use Rattle.std.proofs.lemmas.Bool.{cases_order}
-use Rattle.std.specs.List.{AllByRecursion}
+use Rattle.std.specs.List.{AllByRecursion, last_or, range_with_len}
 use Rattle.mapping_growth.specs.Fields.{Draft, draft_paths}
 use Rattle.mapping_body.specs.Names.{lies_above, names_between}
 use Rattle.mapping_body.proofs.Walks.{split}
-use Rattle.mapping.specs.Mapping.{root_scope, scope_by, field_by, no_field, nearest_from, nearest}
+use Rattle.mapping.specs.declared.scope.ScopePath.{ScopePath}
+use Rattle.mapping.specs.Mapping.{root_scope, scope_by, field_by, no_field, nearest, scopes_above}
 
 -- ---- the nearest above
+
+-- the nearest scope above a path, of those that are left from one on
+abbrev pub nearest_from : ℕ → ℕ → List (List ℕ) → List ℕ → ℕ
+nearest_from found at [] path = found
+nearest_from found at (above ∷ paths) path = nearest_from (if lies_above above path then at else found) (at + 1) paths path
 
 -- the last of the paths that lie above one
 pub record IsLast (paths : List (List ℕ)) (path : List ℕ) (at : ℕ) : Type 0 where
@@ -48,8 +54,39 @@ last_found paths path (x ∷ rest) found at e h above none =
       ]
     ])))
 
+last_from : (paths : List (List ℕ)) (path : List ℕ) (rest : List (List ℕ)) (found at : ℕ) → rest ≡ drop at paths
+    → last_or (Some found) (filter (λ n. lies_above (get_or paths n []) path) (range_with_len at (length rest))) ≡ Some (nearest_from found at rest path)
+last_from paths path [] found at e = refl
+last_from paths path (x ∷ rest) found at e =
+    let here = at_drop paths at x rest e in
+    let is : lies_above (get_or paths at []) path ≡ lies_above x path = ap (λ (p : List ℕ). lies_above p path) here.1 in
+    split (lies_above x path)
+    (λ yes. rw (is, yes) (last_from paths path rest at (at + 1) here.2))
+    (λ no. rw (is, no) (last_from paths path rest found (at + 1) here.2))
+
+or_else : (xs : List ℕ) (d n : ℕ) → last_or (Some d) xs ≡ Some n → unwrap_or (last_or None xs) d ≡ n
+or_else [] d n e = cc
+or_else (x ∷ xs) d n e = rw e refl
+
+pub nearest_is : (paths : List (List ℕ)) (path : List ℕ) → nearest paths path ≡ nearest_from 0 0 paths path
+nearest_is paths path = or_else (scopes_above paths path) 0 (nearest_from 0 0 paths path) (last_from paths path paths 0 0 refl)
+
+drop_end : {A : Type 0} (xs : List A) (i : ℕ) → length xs ≤ i → drop i xs ≡ []
+drop_end [] zero h = refl
+drop_end [] (suc i) h = refl
+drop_end (x ∷ xs) zero h = absurd (omega arith)
+drop_end (x ∷ xs) (suc i) h = drop_end xs i (omega arith)
+
+-- the loop over all paths
+pub nearest_found : (ps : List ScopePath) (path : List ℕ) (found at i : ℕ) → length ps ≤ i
+    → nearest_from found at (map (λ p. p.bytes.items) (drop i ps)) path ≡ nearest_from 0 0 (map (λ p. p.bytes.items) ps) path → found ≡ nearest (map (λ p. p.bytes.items) ps) path
+nearest_found ps path found at i end h =
+    sym (ap (λ (rest : List ScopePath). nearest_from found at (map (λ p. p.bytes.items) rest) path) (drop_end ps i end)) ∙ h ∙ sym (nearest_is (map (λ p. p.bytes.items) ps) path)
+
 pub nearest_last : (paths : List (List ℕ)) (path : List ℕ) → lies_above [] path ≡ true → IsLast ([] ∷ paths) path (nearest ([] ∷ paths) path)
-nearest_last paths path some = last_found ([] ∷ paths) path ([] ∷ paths) 0 0 refl (omega arith) some (λ later less within. absurd (omega arith))
+nearest_last paths path some =
+    subst (IsLast ([] ∷ paths) path) (sym (nearest_is ([] ∷ paths) path))
+    (last_found ([] ∷ paths) path ([] ∷ paths) 0 0 refl (omega arith) some (λ later less within. absurd (omega arith)))
 
 -- ---- the scopes of drafts
 

@@ -1,6 +1,6 @@
 -- A mapping: what bodies say together, as numbered fields with their homes, scopes and relations.
-use Rattle.std.specs.Prelude.{ℕ, zero, suc, ◌+◌, ◌≡◌, ◌==◌, Bool, true, false, ◌&&◌, ◌||◌, if◌then◌else◌, nat_le, nat_lt, List, [], ◌∷◌, length, take, map, filter, Option, Some, None, option_and_then, get_or}
-use Rattle.std.specs.List.{list_any}
+use Rattle.std.specs.Prelude.{ℕ, zero, suc, ◌+◌, ◌≡◌, ◌==◌, Bool, true, false, ◌&&◌, ◌||◌, if◌then◌else◌, nat_le, nat_lt, List, [], ◌∷◌, length, take, map, filter, Option, Some, None, option_and_then, unwrap_or, get_or}
+use Rattle.std.specs.List.{list_any, last_or, range_with_len}
 use Rattle.tree_json.specs.Value.{JsonValue, null}
 use Rattle.mapping_body.specs.declared.kind.Kind.{Kind}
 use Rattle.mapping_body.specs.declared.kind.Kind.TheVariants.{Object}
@@ -48,13 +48,13 @@ nested_among ds = filter (λ d. is_nested d.kind) ds
 abbrev pub scope_paths : List Draft → List (List ℕ)
 scope_paths ds = [] ∷ draft_paths (nested_among ds)
 
-abbrev pub nearest_from : ℕ → ℕ → List (List ℕ) → List ℕ → ℕ
-nearest_from found at [] path = found
-nearest_from found at (above ∷ paths) path = nearest_from (if lies_above above path then at else found) (at + 1) paths path
+-- the scopes whose paths lie above a path, by their numbers
+abbrev pub scopes_above : List (List ℕ) → List ℕ → List ℕ
+scopes_above paths path = filter (λ n. lies_above (get_or paths n []) path) (range_with_len 0 (length paths))
 
 -- the nearest scope strictly above a path: of those above it, each of which lies above the next, the last
 abbrev pub nearest : List (List ℕ) → List ℕ → ℕ
-nearest paths path = nearest_from 0 0 paths path
+nearest paths path = unwrap_or (last_or None (scopes_above paths path)) 0
 
 abbrev pub root_scope : Scope
 root_scope = record { path = []; around = 0; names = []; in_parent = false; in_root = false; since = 1 }
@@ -201,6 +201,13 @@ reaches m (suc left) n s =
 -- it shows them too, and where it has `include_in_root` so does the root (Elasticsearch reference, nested field type).
 unfoldable pub included : Mapping → ℕ → ℕ → Bool
 included m f s = reaches m (home_of m f) (home_of m f) s
+
+-- the same as a relation: what the objects of a scope show is included in that scope, and by the flags of a nested path
+-- wherever the scope around it includes it, and in the root
+pub data IsIncluded (m : Mapping) : ℕ → ℕ → Type 0 where
+  itself : (n : ℕ) → IsIncluded m n n
+  by_parent : (n s : ℕ) → (scope_at m n).in_parent ≡ true → IsIncluded m (outer m n) s → IsIncluded m n s
+  by_root : (n : ℕ) → (scope_at m n).in_root ≡ true → IsIncluded m n 0
 
 -- in a tree of generation g: a field that isn't in that generation is shown nowhere
 abbrev pub shows : Mapping → ℕ → ℕ → ℕ → Bool

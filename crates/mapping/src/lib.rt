@@ -11,6 +11,9 @@ mod scope;
 #[cfg(test)]
 mod tests;
 
-pub use law::{further_bodies_stand_behind, growth_keeps_numbers, scopes_form_chains};
+pub use law::{
+    further_bodies_stand_behind, growth_keeps_numbers, inclusion_goes_by_flags,
+    names_lead_to_fields, scopes_form_chains,
+};
 pub use mapping::{Growth, Mapping};
 pub use mapping_body::{Bytes, Kind, Limit, MappingRefusal, NoMemory};

@@ -12,7 +12,7 @@ use Rattle.mapping_body.specs.Body.{Property, Taken, are_properties, are_propert
 use Rattle.mapping_body.specs.Names.{dot, goes_on, has_dot, is_name, is_property_name, joined, lies_above}
 use Rattle.mapping_body.proofs.Walks.{split}
 
-both : (s t : Bool) → (s && t) ≡ true → (s ≡ true) × (t ≡ true)
+pub both : (s t : Bool) → (s && t) ≡ true → (s ≡ true) × (t ≡ true)
 both true t h = (refl, h)
 both false t h = absurd (false≢true h)
 
@@ -65,7 +65,7 @@ pub record IsClosed (names : Seq (Seq ℕ)) (path : Seq ℕ) (p : Property) : Ty
 
 -- ---- property names
 
-named_plain : (k : Seq ℕ) → is_property_name k ≡ true → (has_dot k ≡ false) × (lies_above [] k ≡ true)
+pub named_plain : (k : Seq ℕ) → is_property_name k ≡ true → (has_dot k ≡ false) × (lies_above [] k ≡ true)
 named_plain [] is = absurd (false≢true is)
 named_plain (b ∷ k) is = let parts = both (is_name (b ∷ k)) (not (has_dot (b ∷ k))) is in (not_true (has_dot (b ∷ k)) parts.1, refl)
 
@@ -84,11 +84,11 @@ properties_taken Object d h = elim (or_cases (are_properties d) false h) [ inl i
 properties_taken Nested d h = elim (or_cases (are_properties d) false h) [ inl is ↦ is | inr never ↦ absurd (false≢true never) ]
 properties_taken Join d h = absurd (false≢true h)
 
-body_taken : (d : JsonValue) → list_any (λ t. bytes_eq (codes "properties") t.0 && t.1 d) body_takes ≡ true → are_properties d ≡ true
+pub body_taken : (d : JsonValue) → list_any (λ t. bytes_eq (codes "properties") t.0 && t.1 d) body_takes ≡ true → are_properties d ≡ true
 body_taken d h = elim (or_cases (are_properties d) false h) [ inl is ↦ is | inr never ↦ absurd (false≢true never) ]
 
 -- what a table asks of the member `properties`
-abbrev Asks : Taken → Type 0
+abbrev pub Asks : Taken → Type 0
 Asks table = (d : JsonValue) → list_any (λ t. bytes_eq (codes "properties") t.0 && t.1 d) table ≡ true → are_properties d ≡ true
 
 -- where members pass a table that asks it, what stands below is walked by names of properties
@@ -96,12 +96,12 @@ abbrev AreNamed : JsonValue → Type 0
 AreNamed (object ms) = are_property_names ms ≡ true
 AreNamed v = Unit {0}
 
-asked : (table : Taken) (k : Seq ℕ) (d : JsonValue) → Asks table → bytes_eq k (codes "properties") ≡ true → list_any (λ t. bytes_eq k t.0 && t.1 d) table ≡ true → are_properties d ≡ true
+pub asked : (table : Taken) (k : Seq ℕ) (d : JsonValue) → Asks table → bytes_eq k (codes "properties") ≡ true → list_any (λ t. bytes_eq k t.0 && t.1 d) table ≡ true → are_properties d ≡ true
 asked table k d asks same is =
     let name : k ≡ codes "properties" = (bytes_eq-Decides k (codes "properties")).0 same in
     asks d (subst (λ (n : Seq ℕ). list_any (λ t. bytes_eq n t.0 && t.1 d) table ≡ true) name is)
 
-property_parts : (ms : Members) (o : Option Kind) → suits_kind o ms ≡ true → (table : Taken) × (Asks table × (are_taken table ms ≡ true))
+pub property_parts : (ms : Members) (o : Option Kind) → suits_kind o ms ≡ true → (table : Taken) × (Asks table × (are_taken table ms ≡ true))
 property_parts ms None is = absurd (false≢true is)
 property_parts ms (Some kind) is =
     (takes_type (property_takes kind), (properties_taken kind, (both (are_taken (takes_type (property_takes kind)) ms) (has_needed kind ms) is).0))
@@ -136,7 +136,7 @@ deeper names path k (p ∷ ps) plain there all = (
   deeper names path k ps plain there all.1,
 )
 
-append_all : {A : Type 0} (P : A → Type 0) (xs ys : Seq A) → AllByRecursion P xs → AllByRecursion P ys → AllByRecursion P (xs ++ ys)
+pub append_all : {A : Type 0} (P : A → Type 0) (xs ys : Seq A) → AllByRecursion P xs → AllByRecursion P ys → AllByRecursion P (xs ++ ys)
 append_all P [] ys one two = two
 append_all P (x ∷ xs) ys one two = (one.0, append_all P xs ys one.1 two)
 
@@ -156,7 +156,7 @@ in_right name xs ys a h =
     or_right (bytes_eq name a) (has_name (paths_of (xs ++ ys)) a)
     (rw (map-append (λ p. p.path) xs ys, list_any-append (λ other. bytes_eq other a) (paths_of xs) (paths_of ys)) (or_right (has_name (paths_of xs) a) (has_name (paths_of ys) a) h))
 
-abbrev forms : Seq Property → Bool
+abbrev pub forms : Seq Property → Bool
 forms ps = list_all (λ p. is_property p.form) ps
 
 mutual

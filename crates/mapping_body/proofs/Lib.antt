@@ -10,3 +10,6 @@ pub mod Walks
 pub mod Ascending
 pub mod Ordered
 pub mod Closed
+pub mod Spelled
+pub mod HaveNames
+pub mod Above

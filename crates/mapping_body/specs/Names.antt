@@ -1,5 +1,5 @@
 -- Names and the paths that they make.
-use Rattle.std.specs.Prelude.{ℕ, suc, ◌+◌, ◌==◌, Bool, true, false, ◌&&◌, not, if◌then◌else◌, nat_le, List, [], ◌∷◌, ◌++◌, length, drop, Option, is_some}
+use Rattle.std.specs.Prelude.{ℕ, ◌≡◌, ◌<◌, suc, ◌+◌, ◌==◌, Bool, true, false, ◌&&◌, not, if◌then◌else◌, nat_le, List, [], ◌∷◌, ◌++◌, length, drop, Option, is_some}
 use Rattle.std.specs.List.{list_any, position_from, count_by}
 use Rattle.std.specs.List.Sorted.{IsStrictlySortedBy}
 use Rattle.std.specs.Ordering.{nat_cmp, is_lt}
@@ -33,7 +33,7 @@ abbrev pub before_name : ℕ → List (List ℕ) → List (List ℕ)
 before_name byte [] = (byte ∷ []) ∷ []
 before_name byte (name ∷ names) = (byte ∷ name) ∷ names
 
-abbrev split : List ℕ → List (List ℕ)
+abbrev pub split : List ℕ → List (List ℕ)
 split [] = [] ∷ []
 split (byte ∷ path) = if byte == dot then [] ∷ split path else before_name byte (split path)
 
@@ -66,6 +66,12 @@ abbrev pub lies_above : List ℕ → List ℕ → Bool
 lies_above [] [] = false
 lies_above [] (byte ∷ path) = true
 lies_above (a ∷ above) path = goes_on (a ∷ above) path
+
+-- the second list is the first with further elements behind it
+pub record IsProperPrefix {A : Type 0} (xs ys : List A) : Type 0 where
+  pub further : List A
+  pub some : 0 < length further
+  pub is : ys ≡ xs ++ further
 
 -- ---- lists in byte order
 

@@ -9,6 +9,7 @@ mod bytes;
 mod copy;
 mod form;
 mod kind;
+mod law;
 mod names;
 mod order;
 mod pair;
@@ -20,6 +21,7 @@ pub use form::{
     has_flag, index_of, is_body_alone, is_join, is_nested, is_property, kind_of, member_named,
 };
 pub use kind::{Kind, is_same_kind};
+pub use law::paths_are_lists_of_names;
 pub use names::{
     Below, Named, Sought, Whole, dot_count, has_dot, is_name, is_property_name, joined, lies_above,
     number_among, place_of, put,

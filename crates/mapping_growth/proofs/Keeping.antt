@@ -7,11 +7,12 @@ use Rattle.std.proofs.lemmas.List.Sums.{sum_by-append, sum_by-cons}
 use Rattle.tree_json.specs.Text.{compact}
 use Rattle.mapping_growth.specs.Bodies.{AreBodies, AreNext, IsNext, adds, compact_size, conflict_of, exceeded}
 use Rattle.mapping_body.specs.Body.{is_body}
+use Rattle.mapping_body.specs.declared.refusal.TheConstants.{MOST_FIELDS, MOST_NESTED, MOST_BYTES}
 use Rattle.tree_json.specs.Value.{JsonValue}
 use Rattle.mapping_growth.specs.declared.draft.Draft.{Draft as Made}
 use Rattle.mapping_growth.specs.declared.relation.Relation.{Relation as Tied}
 use Rattle.mapping_growth.specs.Fields.{additions_of, draft_paths, drafts_of, properties_added}
-use Rattle.mapping_growth.specs.Kept.{AreCounts, IsKept, made_of, relation_of}
+use Rattle.mapping_growth.specs.Kept.{AreCounts, IsKept, counted, made_of, relation_of}
 use Rattle.mapping_body.specs.Order.{IsOrderFrom, order_from}
 use Rattle.mapping_growth.specs.Relations.{relation_names, relations_of}
 use Rattle.mapping_growth.proofs.Distinct.{paths_distinct, names_distinct}
@@ -40,15 +41,30 @@ kept_by_orders bs ms by_path rs by_name fields relations paths names few_fields 
   few_relations = few_relations;
 }
 
--- more than what is left is more than all
-pub more_than : (most a n whole : ℕ) → a ≤ most → whole ≡ a + n → nat_lt (most - a) n ≡ nat_lt most whole
-more_than most a n whole h e = grind (arith, nat_tests)
+-- what is counted as far as 64 bits go, with more
+pub counted_more : (a n whole : ℕ) → whole ≡ a + n → min (counted a + n) (2 ^ 64 - 1) ≡ counted whole
+counted_more a n whole e = omega (arith, e)
 
-pub same_positive : (n m : ℕ) → n ≡ m → nat_lt 0 n ≡ nat_lt 0 m
-same_positive n m e = ap (nat_lt 0) e
+pub bytes_more : (a n whole : ℕ) → whole ≡ a + n → min (counted a + counted n) (2 ^ 64 - 1) ≡ counted whole
+bytes_more a n whole e = omega (arith, e)
 
-pub bytes_more : (most a len whole : ℕ) → a ≤ most → most < 2 ^ 64 - 1 → whole ≡ a + len → nat_lt (most - a) (min len (2 ^ 64 - 1)) ≡ nat_lt most whole
-bytes_more most a len whole h small e = grind (arith, nat_tests)
+-- a limit is exceeded by what is counted where it is exceeded
+past_limit : (limit n whole : ℕ) → n ≡ counted whole → limit < 2 ^ 64 - 1 → nat_lt limit n ≡ nat_lt limit whole
+past_limit limit n whole e small = grind (arith, nat_tests)
+
+pub many_fields : (n whole : ℕ) → n ≡ counted whole → nat_lt MOST_FIELDS n ≡ nat_lt MOST_FIELDS whole
+many_fields n whole e = past_limit MOST_FIELDS n whole e (omega arith)
+
+pub many_nested : (n whole : ℕ) → n ≡ counted whole → nat_lt MOST_NESTED n ≡ nat_lt MOST_NESTED whole
+many_nested n whole e = past_limit MOST_NESTED n whole e (omega arith)
+
+pub two_joins : (n whole : ℕ) → n ≡ counted whole → nat_lt 1 n ≡ nat_lt 1 whole
+two_joins n whole e = past_limit 1 n whole e (omega arith)
+
+pub many_bytes : (n whole : ℕ) → n ≡ counted whole → nat_lt MOST_BYTES n ≡ nat_lt MOST_BYTES whole
+many_bytes n whole e = past_limit MOST_BYTES n whole e (omega arith)
+
+pub ruleset past = (many_fields, many_nested, two_joins, many_bytes, nat_tests)
 
 pub size_more : (bs : Seq JsonValue) (v : JsonValue) → compact_size (bs ++ v ∷ []) ≡ compact_size bs + length (compact v)
 size_more bs v =

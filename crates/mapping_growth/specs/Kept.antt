@@ -1,5 +1,5 @@
 -- What is kept of bodies beside themselves, as the definitions see it.
-use Rattle.std.specs.Prelude.{◌≡◌, ℕ, ◌<◌, ◌^◌, List, Option, Some, Result, Ok, Err, length, map, option_and_then, slice_get}
+use Rattle.std.specs.Prelude.{◌≡◌, ℕ, ◌-◌, ◌<◌, ◌^◌, min, List, Option, Some, Result, Ok, Err, length, map, option_and_then, slice_get}
 use Rattle.std.specs.List.{count_by}
 use Rattle.tree_json.specs.Value.{JsonValue}
 use Rattle.tree_json.specs.View.{view}
@@ -37,12 +37,16 @@ pub record IsKept (bodies : List JsonValue) (ds : List Made) (by_path : List ℕ
   pub few_fields : length ds < 2 ^ 32
   pub few_relations : length rs < 2 ^ 32
 
+-- a number as far as 64 bits count
+abbrev pub counted : ℕ → ℕ
+counted n = min n (2 ^ 64 - 1)
+
 -- the counts of what bodies say first, and the bytes of their texts
 pub record AreCounts (bodies : List JsonValue) (added nested joins bytes : ℕ) : Type 0 where
-  pub added_is : added ≡ length (additions_of bodies)
-  pub nested_is : nested ≡ count_by says_nested (additions_of bodies)
-  pub joins_is : joins ≡ count_by says_join (additions_of bodies)
-  pub bytes_is : bytes ≡ compact_size bodies
+  pub added_is : added ≡ counted (length (additions_of bodies))
+  pub nested_is : nested ≡ counted (count_by says_nested (additions_of bodies))
+  pub joins_is : joins ≡ counted (count_by says_join (additions_of bodies))
+  pub bytes_is : bytes ≡ counted (compact_size bodies)
 
 -- a body with its properties and the pairs of its joins, as they stand to bodies before it
 pub record IsCandidate (bodies : List JsonValue) (c : Candidate) : Type 0 where

@@ -6,7 +6,7 @@ ghost use Rattle.mapping_growth.specs.Bodies.{compact_size, exceeded, has_bad_jo
 ghost use Rattle.mapping_body.specs.Body.{kind_of, is_nested, is_join};
 ghost use Rattle.mapping_growth.specs.Fields.{additions_of};
 ghost use Rattle.mapping_growth.specs.Judged.{is_new, lies_deep, holds_objects, is_join_outline, is_bad_outline};
-ghost use Rattle.mapping_growth.specs.Kept.{IsCandidate, relation_of};
+ghost use Rattle.mapping_growth.specs.Kept.{AreCounts, IsCandidate, relation_of};
 ghost use Rattle.mapping_growth.specs.Outline.{outline_of};
 ghost use Rattle.mapping_growth.specs.Relations.{relations_of};
 
@@ -14,54 +14,47 @@ use crate::ancestor::turns_back;
 use crate::candidate::Candidate;
 use crate::property::Outline;
 use crate::relation::Relation;
-use crate::said::Said;
+use crate::said::{Counts, Said};
 use mapping_body::{
     Limit, MOST_BODIES, MOST_BYTES, MOST_FIELDS, MOST_NAMES, MOST_NESTED, NoMemory,
     has_two_parents, is_join, is_nested, kind_of, lacks_names,
 };
 use std::alloc::Global;
-use tree_json::compact_len;
 
 /// The first limit that bodies with one more exceed together.
-#[tactic(auto, unfolding(crate::specs::Bodies::exceeded))]
+#[tactic(auto, unfolding(crate::specs::Bodies::exceeded), using(crate::proofs::Keeping::past))]
 pub(crate) fn exceeded(
     alloc: Global,
     said: &Said,
     candidate: &Candidate<'_>,
+    counts: Counts,
     relations: &[Relation],
 ) -> Result<Option<Limit>, NoMemory>
     requires within { exceeded said.now ≡ None }
     requires candidate { IsCandidate said.now candidate.now }
+    requires counts { AreCounts (said.now ++ view candidate.now.body.now ∷ []) counts.added counts.nested counts.joins counts.bytes }
     requires relations { map relation_of relations.now ≡ relations_of (said.now ++ view candidate.now.body.now ∷ []) }
     ensures { IfOk result (λ limit. limit ≡ exceeded (said.now ++ view candidate.now.body.now ∷ [])) }
 {
-    if has_many_fields(said, candidate) {
+    if counts.added > MOST_FIELDS {
         return Ok(Some(Limit::Fields));
     }
     if is_deep(said, candidate) {
         return Ok(Some(Limit::Depth));
     }
-    if has_many_nested(said, candidate) {
+    if counts.nested > MOST_NESTED {
         return Ok(Some(Limit::Nested));
     }
-    if has_bad_relations(alloc, said, candidate, relations)? {
+    if has_bad_relations(alloc, said, candidate, counts, relations)? {
         return Ok(Some(Limit::Relations));
     }
     if has_many_bodies(said, candidate) {
         return Ok(Some(Limit::Generations));
     }
-    if is_large(said, candidate) {
+    if counts.bytes > MOST_BYTES {
         return Ok(Some(Limit::Size));
     }
     Ok(None)
-}
-
-fn has_many_fields(said: &Said, candidate: &Candidate<'_>) -> bool
-    requires within { exceeded said.now ≡ None }
-    requires candidate { IsCandidate said.now candidate.now }
-    ensures { result ≡ nat_lt MOST_FIELDS (length (additions_of (said.now ++ view candidate.now.body.now ∷ []))) }
-{
-    added_count(candidate.outlines.as_slice()) > MOST_FIELDS - said.counts.added
 }
 
 fn is_deep(said: &Said, candidate: &Candidate<'_>) -> bool
@@ -72,27 +65,21 @@ fn is_deep(said: &Said, candidate: &Candidate<'_>) -> bool
     some_lies_deep(candidate.outlines.as_slice())
 }
 
-fn has_many_nested(said: &Said, candidate: &Candidate<'_>) -> bool
-    requires within { exceeded said.now ≡ None }
-    requires candidate { IsCandidate said.now candidate.now }
-    ensures { result ≡ nat_lt MOST_NESTED (count_by says_nested (additions_of (said.now ++ view candidate.now.body.now ∷ []))) }
-{
-    nested_count(candidate.outlines.as_slice()) > MOST_NESTED - said.counts.nested
-}
-
 /// Whether the join fields or their relations are bad.
 fn has_bad_relations(
     alloc: Global,
     said: &Said,
     candidate: &Candidate<'_>,
+    counts: Counts,
     relations: &[Relation],
 ) -> Result<bool, NoMemory>
     requires within { exceeded said.now ≡ None }
     requires candidate { IsCandidate said.now candidate.now }
+    requires counts { AreCounts (said.now ++ view candidate.now.body.now ∷ []) counts.added counts.nested counts.joins counts.bytes }
     requires relations { map relation_of relations.now ≡ relations_of (said.now ++ view candidate.now.body.now ∷ []) }
     ensures { IfOk result (λ bad. bad ≡ has_bad_relations (said.now ++ view candidate.now.body.now ∷ [])) }
 {
-    if has_bad_joins(said, candidate) {
+    if has_bad_joins(said, candidate, counts) {
         return Ok(true);
     }
     if has_two_parents(alloc, candidate.pairs.as_slice())? {
@@ -102,20 +89,14 @@ fn has_bad_relations(
 }
 
 /// Whether there are two join fields, or an added one is bad.
-fn has_bad_joins(said: &Said, candidate: &Candidate<'_>) -> bool
+#[tactic(auto, using(crate::proofs::Keeping::past))]
+fn has_bad_joins(said: &Said, candidate: &Candidate<'_>, counts: Counts) -> bool
     requires within { exceeded said.now ≡ None }
     requires candidate { IsCandidate said.now candidate.now }
+    requires counts { AreCounts (said.now ++ view candidate.now.body.now ∷ []) counts.added counts.nested counts.joins counts.bytes }
     ensures { result ≡ has_bad_joins (said.now ++ view candidate.now.body.now ∷ []) }
 {
-    has_two_joins(said, candidate) || has_bad_join(said, candidate)
-}
-
-fn has_two_joins(said: &Said, candidate: &Candidate<'_>) -> bool
-    requires within { exceeded said.now ≡ None }
-    requires candidate { IsCandidate said.now candidate.now }
-    ensures { result ≡ nat_lt 1 (count_by says_join (additions_of (said.now ++ view candidate.now.body.now ∷ []))) }
-{
-    join_count(candidate.outlines.as_slice()) > 1 - said.counts.joins
+    counts.joins > 1 || has_bad_join(said, candidate)
 }
 
 fn has_bad_join(said: &Said, candidate: &Candidate<'_>) -> bool
@@ -130,13 +111,6 @@ fn has_many_bodies(said: &Said, candidate: &Candidate<'_>) -> bool
     ensures { result ≡ nat_lt MOST_BODIES (length (said.now ++ view candidate.now.body.now ∷ [])) }
 {
     said.bodies.len() >= MOST_BODIES
-}
-
-fn is_large(said: &Said, candidate: &Candidate<'_>) -> bool
-    requires within { exceeded said.now ≡ None }
-    ensures { result ≡ nat_lt MOST_BYTES (compact_size (said.now ++ view candidate.now.body.now ∷ [])) }
-{
-    compact_len(candidate.body) > MOST_BYTES - said.counts.bytes
 }
 
 fn is_new(outline: &Outline<'_>) -> bool

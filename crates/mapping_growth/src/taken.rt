@@ -5,7 +5,7 @@ ghost use Rattle.tree_json.specs.View.{view};
 ghost use Rattle.mapping_growth.specs.Bodies.{adds, compact_size, exceeded, says_join, says_nested};
 ghost use Rattle.mapping_growth.specs.Fields.{additions_of, draft_paths, drafts_of, properties_added};
 ghost use Rattle.mapping_body.specs.Kept.{pair_of};
-ghost use Rattle.mapping_growth.specs.Kept.{AreCounts, IsCandidate, IsRefused, made_of, relation_of};
+ghost use Rattle.mapping_growth.specs.Kept.{AreCounts, IsCandidate, IsRefused, counted, made_of, relation_of};
 ghost use Rattle.mapping_body.specs.Names.{is_among};
 ghost use Rattle.mapping_growth.specs.Relations.{relations_of};
 
@@ -32,10 +32,11 @@ pub(crate) fn taken(
     ensures refused { IsRefused result (exceeded (said.now ++ view candidate.now.body.now ∷ [])) }
 {
     let relations = relations_with(alloc, said, candidate)?;
-    if let Some(limit) = exceeded(alloc, said, candidate, relations.as_slice())? {
+    let counts = counts_with(said, candidate);
+    if let Some(limit) = exceeded(alloc, said, candidate, counts, relations.as_slice())? {
         return Err(MappingRefusal::TooMuch(limit));
     }
-    Ok(said_with(alloc, said, candidate, relations)?)
+    Ok(said_with(alloc, said, candidate, counts, relations)?)
 }
 
 /// Whether a body adds a property or the name of a relation.
@@ -182,45 +183,44 @@ fn bodies_with(alloc: Global, said: &Said, candidate: &Candidate<'_>) -> Result<
     Ok(bodies)
 }
 
-/// How many properties bodies say first with one more.
+/// How many properties bodies say first with one more, as far as 64 bits count.
 fn added_with(said: &Said, candidate: &Candidate<'_>) -> usize
-    requires within { exceeded (said.now ++ view candidate.now.body.now ∷ []) ≡ None }
-    requires candidate { IsCandidate said.now candidate.now }
-    ensures { result ≡ length (additions_of (said.now ++ view candidate.now.body.now ∷ [])) }
+    requires { IsCandidate said.now candidate.now }
+    ensures { result ≡ counted (length (additions_of (said.now ++ view candidate.now.body.now ∷ []))) }
 {
-    said.counts.added + added_count(candidate.outlines.as_slice())
+    let more = added_count(candidate.outlines.as_slice());
+    said.counts.added.saturating_add(more)
 }
 
 /// How many of them are nested.
 fn nested_with(said: &Said, candidate: &Candidate<'_>) -> usize
-    requires within { exceeded (said.now ++ view candidate.now.body.now ∷ []) ≡ None }
-    requires candidate { IsCandidate said.now candidate.now }
-    ensures { result ≡ count_by says_nested (additions_of (said.now ++ view candidate.now.body.now ∷ [])) }
+    requires { IsCandidate said.now candidate.now }
+    ensures { result ≡ counted (count_by says_nested (additions_of (said.now ++ view candidate.now.body.now ∷ []))) }
 {
-    said.counts.nested + nested_count(candidate.outlines.as_slice())
+    let more = nested_count(candidate.outlines.as_slice());
+    said.counts.nested.saturating_add(more)
 }
 
 /// How many of them are joins.
 fn joins_with(said: &Said, candidate: &Candidate<'_>) -> usize
-    requires within { exceeded (said.now ++ view candidate.now.body.now ∷ []) ≡ None }
-    requires candidate { IsCandidate said.now candidate.now }
-    ensures { result ≡ count_by says_join (additions_of (said.now ++ view candidate.now.body.now ∷ [])) }
+    requires { IsCandidate said.now candidate.now }
+    ensures { result ≡ counted (count_by says_join (additions_of (said.now ++ view candidate.now.body.now ∷ []))) }
 {
-    said.counts.joins + join_count(candidate.outlines.as_slice())
+    let more = join_count(candidate.outlines.as_slice());
+    said.counts.joins.saturating_add(more)
 }
 
 /// How many bytes the compact texts of bodies have with one more.
 fn bytes_with(said: &Said, candidate: &Candidate<'_>) -> u64
-    requires { exceeded (said.now ++ view candidate.now.body.now ∷ []) ≡ None }
-    ensures { result ≡ compact_size (said.now ++ view candidate.now.body.now ∷ []) }
+    ensures { result ≡ counted (compact_size (said.now ++ view candidate.now.body.now ∷ [])) }
 {
-    said.counts.bytes + compact_len(candidate.body)
+    let more = compact_len(candidate.body);
+    said.counts.bytes.saturating_add(more)
 }
 
 /// How much bodies say with one more.
 fn counts_with(said: &Said, candidate: &Candidate<'_>) -> Counts
-    requires within { exceeded (said.now ++ view candidate.now.body.now ∷ []) ≡ None }
-    requires candidate { IsCandidate said.now candidate.now }
+    requires { IsCandidate said.now candidate.now }
     ensures { AreCounts (said.now ++ view candidate.now.body.now ∷ []) result.added result.nested result.joins result.bytes }
 {
     Counts {
@@ -236,12 +236,12 @@ fn said_with(
     alloc: Global,
     said: &Said,
     candidate: &Candidate<'_>,
+    counts: Counts,
     relations: Vec<Relation>,
 ) -> Result<Said, NoMemory>
     requires within { exceeded said.now ≡ None }
-    requires candidate { IsCandidate said.now candidate.now }
+    requires counts { AreCounts (said.now ++ view candidate.now.body.now ∷ []) counts.added counts.nested counts.joins counts.bytes }
     requires relations { map relation_of relations.items ≡ relations_of (said.now ++ view candidate.now.body.now ∷ []) }
-    requires small { exceeded (said.now ++ view candidate.now.body.now ∷ []) ≡ None }
     ensures { IfOk result (λ s. s ≡ said.now ++ view candidate.now.body.now ∷ []) }
 {
     let fields = fields_with(alloc, said, candidate)?;
@@ -251,7 +251,6 @@ fn said_with(
     let by_path = order_from(alloc, fields.as_slice(), 0)?;
     let by_name = order_from(alloc, relations.as_slice(), 0)?;
     let bodies = bodies_with(alloc, said, candidate)?;
-    let counts = counts_with(said, candidate);
     Ok(Said {
         bodies,
         fields,

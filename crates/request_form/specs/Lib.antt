@@ -4,5 +4,7 @@ pub mod Table
 pub mod Form
 pub mod Command
 pub mod Asked
+-- what holds of every write that is asked for
+pub mod Formed
 -- These serve contracts of private calls and proofs alone: how the Rust types are seen.
 pub mod Seen

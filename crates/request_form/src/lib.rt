@@ -8,6 +8,7 @@
 mod action;
 mod command;
 mod form;
+mod law;
 mod object;
 mod refusal;
 mod request;
@@ -16,5 +17,6 @@ mod value;
 
 pub use action::{Action, Changes, Operation, Target, Write};
 pub use form::{Form, Name, Presence};
+pub use law::writes_are_formed;
 pub use refusal::FormRefusal;
 pub use request::{NoAction, asked};

@@ -7,10 +7,10 @@ use Rattle.std.specs.List.Sorted.{IsStrictlyIncreasing}
 use Rattle.std.proofs.lemmas.Map.Keys.{sorted_from_strictly_increasing, below_from_sorted}
 use Rattle.std.proofs.lemmas.Bool.{cases_eq, cases_lt}
 use Rattle.block_bits.specs.Flags.{is_marked, cleared}
-use Rattle.segment.specs.Agree.{AreColumns}
+use Rattle.segment_parts.specs.Agree.{AreColumns}
 use Rattle.segment.specs.Live.{LiveState, IsLiveOver, live_docs, root_of, block_start, block_end, killed}
-use Rattle.segment.specs.Parts.{root_flags}
-use Rattle.segment.specs.declared.columns.Columns.{Columns}
+use Rattle.segment_parts.specs.Parts.{root_flags}
+use Rattle.segment_parts.specs.declared.columns.Columns.{Columns}
 use Rattle.block_bits.proofs.Ranges.{length-cleared, cleared-before, cleared-inside, cleared-after}
 use Rattle.segment.proofs.Places.{length-root_flags, end_edge, start_edge, block-ordered, block-within}
 

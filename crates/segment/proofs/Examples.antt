@@ -1,12 +1,12 @@
 -- The segment of one document by hand, in both forms: a root with the id `1`, the number 0 and the source `{"k":"a"}`, where
 -- field 0 is a keyword field. The bytes are those of docs/STORE.md.
-use Rattle.std.proofs.Common.{◌≡◌, ℕ, true, List, [], ◌∷◌, refl}
+use Rattle.std.proofs.Common.{◌≡◌, true, [], ◌∷◌, refl}
 use Rattle.block_bits.specs.Words.{words_of}
 use Rattle.part_text.specs.Text.{u32_text, u64_text}
 use Rattle.stored_sources.specs.declared.root.Join.TheVariants.{Unjoined}
-use Rattle.segment.specs.Text.{head_text, rows_part, ordinals_text, numbers_text, present_text, segment_text}
+use Rattle.segment_parts.specs.Text.{head_text, rows_part, ordinals_text, numbers_text, present_text, segment_text}
 use Rattle.segment.specs.Old.{old_text}
-use Rattle.segment.specs.declared.columns.Columns.{Columns}
+use Rattle.segment_parts.specs.declared.columns.Columns.{Columns}
 
 one : Columns
 one = record {

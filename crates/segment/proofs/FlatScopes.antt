@@ -8,9 +8,9 @@ use Rattle.std.proofs.lemmas.List.FromFn.{get_or-map-range_with_len}
 use Rattle.std.proofs.lemmas.List.Sums.{position_or_len_is}
 use Rattle.block_bits.specs.Blocks.{has_scope, documents_of, HaveOneScope}
 use Rattle.block_bits.specs.Seen.{scope_seen, scopes_seen}
-use Rattle.segment.specs.Agree.{AreColumns}
+use Rattle.segment_parts.specs.Agree.{AreColumns}
 use Rattle.segment.specs.Flat.{FlatDocument, flat_of, flats_of}
-use Rattle.segment.specs.declared.columns.Columns.{Columns}
+use Rattle.segment_parts.specs.declared.columns.Columns.{Columns}
 use Rattle.segment.proofs.Flats.{split}
 
 -- a document has the flag of a scope exactly where that is its scope

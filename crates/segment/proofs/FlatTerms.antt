@@ -11,13 +11,13 @@ use Rattle.postings.specs.Postings.{documents}
 use Rattle.postings.specs.Marks.{has_document}
 use Rattle.term_table.specs.Keys.{number_key}
 use Rattle.term_table.specs.declared.rows.TermRow.{TermRow}
-use Rattle.segment.specs.Fields.{column_of}
-use Rattle.segment.specs.Lists.{terms_of, postings_of}
-use Rattle.segment.specs.Agree.{IsTermOf, IsKeywordAt, IsNumberAt, IsOrdinalAt, IsKeyed, HaveOrdinals, HaveKeys, HaveTerms, AreColumns}
+use Rattle.segment_parts.specs.Fields.{column_of}
+use Rattle.segment_parts.specs.Lists.{terms_of, postings_of}
+use Rattle.segment_parts.specs.Agree.{IsTermOf, IsKeywordAt, IsNumberAt, IsOrdinalAt, IsKeyed, HaveOrdinals, HaveKeys, HaveTerms, AreColumns}
 use Rattle.segment.specs.Flat.{bytes_at, values_at, words_at, flat_of}
 use Rattle.segment.specs.Shows.{is_keyword_of, is_number_of, is_word_of, has_term, posts}
-use Rattle.segment.specs.declared.columns.Columns.{Columns}
-use Rattle.segment.proofs.Passes.{all_at}
+use Rattle.segment_parts.specs.declared.columns.Columns.{Columns}
+use Rattle.segment_parts.specs.Passes.{all_at}
 use Rattle.segment.proofs.Flats.{IsPassing, passing, any_at, any_contained, contained, same_test, any-map, any-same, any-filter, any-values, row_of, contained_some, posted_row, posted_document, valued_row, column_found, is_some, some_is}
 
 -- ---- the tests of a flat document, over the columns

@@ -8,12 +8,12 @@ use Rattle.std.proofs.lemmas.List.{get_or_default}
 use Rattle.std.proofs.lemmas.List.Elements.{All-filter, All-map}
 use Rattle.std.proofs.lemmas.Map.Keys.{sorted_from_strictly_increasing, below_from_sorted}
 use Rattle.doc_values.specs.Values.{values_of}
-use Rattle.segment.specs.Fields.{fields, column_of}
-use Rattle.segment.specs.Agree.{AreColumns}
-use Rattle.segment.specs.Lists.{terms_of}
+use Rattle.segment_parts.specs.Fields.{fields, column_of}
+use Rattle.segment_parts.specs.Agree.{AreColumns}
+use Rattle.segment_parts.specs.Lists.{terms_of}
 use Rattle.segment.specs.Flat.{bytes_at, values_at, flat_of}
 use Rattle.segment.specs.Shows.{has_text, column_values, column_flag}
-use Rattle.segment.specs.declared.columns.Columns.{Columns}
+use Rattle.segment_parts.specs.declared.columns.Columns.{Columns}
 use Rattle.segment.proofs.PostingKinds.{values_fit}
 use Rattle.segment.proofs.Flats.{split, any-map, any-filter}
 

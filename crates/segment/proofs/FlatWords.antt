@@ -12,15 +12,15 @@ use Rattle.std.proofs.lemmas.Slice.Eq.{bytes_eq-Decides}
 use Rattle.doc_values.specs.Values.{values_of}
 use Rattle.term_table.specs.Keys.{number_key}
 use Rattle.term_table.specs.declared.rows.TermRow.{TermRow}
-use Rattle.segment.specs.Fields.{column_of}
-use Rattle.segment.specs.Lists.{terms_of, postings_of}
-use Rattle.segment.specs.Parts.{IsPresence}
-use Rattle.segment.specs.Agree.{AreWithin, IsTermOf, AreColumns}
+use Rattle.segment_parts.specs.Fields.{column_of}
+use Rattle.segment_parts.specs.Lists.{terms_of, postings_of}
+use Rattle.segment_parts.specs.Parts.{IsPresence}
+use Rattle.segment_parts.specs.Agree.{AreWithin, IsTermOf, AreColumns}
 use Rattle.segment.specs.Flat.{flat_of}
 use Rattle.segment.specs.Shows.{is_word_at, has_word_at}
-use Rattle.segment.specs.declared.columns.Columns.{Columns}
-use Rattle.segment.proofs.Ordered.{one_ordinal}
-use Rattle.segment.proofs.Passes.{all_at}
+use Rattle.segment_parts.specs.declared.columns.Columns.{Columns}
+use Rattle.segment_parts.specs.Keyed.{one_ordinal}
+use Rattle.segment_parts.specs.Passes.{all_at}
 use Rattle.segment.proofs.Flats.{split, passing, any_at, contained, same_test, any-map, any-filter, row_of, contained_some, column_found, some_is}
 use Rattle.segment.proofs.FlatTerms.{term_row, row_term}
 

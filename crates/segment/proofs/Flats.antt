@@ -10,7 +10,7 @@ use Rattle.std.proofs.lemmas.Option.{slice_get-get_or, slice_get_within, get_or_
 use Rattle.doc_values.specs.Values.{values_of}
 use Rattle.postings.specs.Postings.{documents}
 use Rattle.postings.specs.Marks.{has_document}
-use Rattle.segment.specs.Fields.{column_of}
+use Rattle.segment_parts.specs.Fields.{column_of}
 use Rattle.segment.specs.Flat.{values_at}
 
 pub split : (b : Bool) → (b ≡ true) ⊎ (b ≡ false)

@@ -6,16 +6,10 @@ mod FlatValues
 mod FlatWords
 mod Flats
 mod Halves
-mod Listed
-mod Loops
-mod NumberKeys
-mod Numbered
 mod Ordered
-pub mod Passes
 mod Places
 mod PostingKinds
 mod Renewal
-mod Searches
 mod Shown
 mod TermKinds
 pub mod Tested

@@ -1,57 +1,15 @@
--- Terms in order, and documents that ascend.
+-- Documents of a term that ascend.
 use Rattle.std.proofs.Common.{◌≡◌, ◌↔◌, ◌⊎◌, inl, inr, ℕ, suc, ◌+◌, ◌-◌, ◌<◌, ◌≤◌, Bool, true, false, IsTrue, List, [], ◌∷◌, get_or, slice_get, drop, Some, None, Contains, refl, sym, ap, subst, ◌∙◌, arith}
-use Rattle.std.specs.Prelude.{ℤ, nat_le, nat_eq}
+use Rattle.std.specs.Prelude.{nat_le, nat_eq}
 use Rattle.std.specs.Option.{option_map}
 use Rattle.std.specs.List.{position_or_len}
 use Rattle.std.specs.List.Sorted.{IsStrictlyIncreasing}
-use Rattle.std.specs.declared.cmp.Ordering.TheVariants.{Less, Equal}
 use Rattle.std.proofs.lemmas.Bool.{cases_lt, false≢true}
 use Rattle.std.proofs.lemmas.Bool.Decides.{nat_tests}
-use Rattle.std.proofs.lemmas.Cmp.{tied_itself}
 use Rattle.std.proofs.lemmas.List.{get_or_default}
-use Rattle.std.proofs.lemmas.Map.Keys.{sorted_from_strictly_increasing, below_from_sorted, Less-from_sorted}
-use Rattle.std.proofs.lemmas.Option.{slice_get_within, get_or_from_slice_get, same_Some}
+use Rattle.std.proofs.lemmas.Map.Keys.{sorted_from_strictly_increasing, below_from_sorted}
+use Rattle.std.proofs.lemmas.Option.{same_Some}
 use Rattle.postings.specs.Postings.{documents, Standing, present_document, place_from}
-use Rattle.term_table.specs.Terms.{term_cmp, AreAscending}
-use Rattle.term_table.specs.Laws.{term_cmp_total}
-use Rattle.term_table.specs.Keys.{number_key}
-use Rattle.segment.specs.Agree.{IsKeyed}
-
-less_not_itself : (term : ℕ × List ℕ) → term_cmp term term ≡ Less → ⊥
-less_not_itself term less = let no : Less ≡ Equal = sym less ∙ tied_itself term_cmp_total term in cc
-
--- of two places the term at the earlier one comes before the other
-in_order : (terms : List (ℕ × List ℕ)) (place later : ℕ) (term : ℕ × List ℕ) → AreAscending terms → slice_get terms place ≡ Some term → slice_get terms later ≡ Some term → place < later → ⊥
-in_order terms place later term ascend at at_later earlier =
-    less_not_itself term (
-    sym (ap (λ first. term_cmp first term) (get_or_from_slice_get terms place term term at))
-    ∙ sym (ap (term_cmp (get_or terms place term)) (get_or_from_slice_get terms later term term at_later))
-    ∙ Less-from_sorted term_cmp terms place later term ascend earlier (slice_get_within terms later term at_later))
-
--- a term has one ordinal
-pub one_ordinal : (terms : List (ℕ × List ℕ)) (one other : ℕ) (term : ℕ × List ℕ) → AreAscending terms → slice_get terms one ≡ Some term → slice_get terms other ≡ Some term → one ≡ other
-one_ordinal terms one other term ascend at there =
-    elim (cases_lt one other) [
-      | inl less ↦ absurd (in_order terms one other term ascend at there less)
-      | inr from ↦ elim (cases_lt other one) [
-        | inl less ↦ absurd (in_order terms other one term ascend there at less)
-        | inr upto ↦ omega arith
-      ]
-    ]
-
-pub keyed_at : (terms : List (ℕ × List ℕ)) (postings : List (List (ℕ × List ℕ))) (field doc : ℕ) (number : ℤ) (ordinal : ℕ) (test : Bool) → AreAscending terms → slice_get terms ordinal ≡ Some (field, number_key number) → (IsTrue test ↔ Contains (documents (get_or postings ordinal [])) doc) → IsTrue test ↔ IsKeyed terms postings field doc number
-keyed_at terms postings field doc number ordinal test ascend is posted = (
-  λ holds. record { ordinal = ordinal; is = is; posted = posted.0 holds },
-  λ keyed. posted.1 (subst (λ k. Contains (documents (get_or postings k [])) doc) (one_ordinal terms keyed.ordinal ordinal (field, number_key number) ascend keyed.is is) keyed.posted),
-)
-
-pub keyed_nowhere : (terms : List (ℕ × List ℕ)) (postings : List (List (ℕ × List ℕ))) (field doc : ℕ) (number : ℤ) → (Contains terms (field, number_key number) → ⊥) → IsTrue false ↔ IsKeyed terms postings field doc number
-keyed_nowhere terms postings field doc number never = (
-  λ no. absurd (false≢true no),
-  λ keyed. absurd (never (keyed.ordinal, slice_get_within terms keyed.ordinal (field, number_key number) keyed.is, get_or_from_slice_get terms keyed.ordinal (field, number_key number) (field, number_key number) keyed.is)),
-)
-
--- ---- the first posting at or after a document
 
 abbrev first : ℕ × List ℕ → ℕ
 first posting = posting.0

@@ -1,22 +1,22 @@
 -- The documents of the roots.
 use Rattle.std.proofs.Common.{subst, Some, None, slice_get, ◌++◌, drop, append_assoc, ◌≡◌, inl, inr, ℕ, zero, suc, ◌+◌, ◌-◌, ◌<◌, ◌≤◌, ◌↔◌, Bool, true, false, List, [], ◌∷◌, length, get_or, take, IsTrue, refl, sym, ap, ◌∙◌, arith}
 use Rattle.std.specs.Prelude.{nat_lt, slice_index_or}
-use Rattle.std.specs.List.{All, count_by, position_from, prefix_len}
+use Rattle.std.specs.List.{All, count_by, prefix_len}
 use Rattle.std.specs.List.Sorted.{IsStrictlyIncreasing, IsNonDecreasingBy}
 use Rattle.std.proofs.lemmas.List.{append-nil, get_or_default, drop-drop}
 use Rattle.std.proofs.lemmas.Option.{slice_get_read, get_or_from_slice_get}
 use Rattle.block_bits.specs.Flags.{is_marked}
 use Rattle.block_bits.specs.Places.{next_place}
 use Rattle.block_bits.specs.Blocks.{HaveOneScope, documents_of}
-use Rattle.segment.specs.Agree.{AreColumns}
-use Rattle.segment.specs.declared.columns.Columns.{Columns}
+use Rattle.segment_parts.specs.Agree.{AreColumns}
+use Rattle.segment_parts.specs.declared.columns.Columns.{Columns}
 use Rattle.segment.specs.Live.{root_of, block_start, block_end}
 use Rattle.std.proofs.lemmas.Bool.{cases_lt, false≢true}
 use Rattle.std.proofs.lemmas.Map.Keys.{sorted_from_strictly_increasing, below_from_sorted}
 use Rattle.std.proofs.lemmas.Bool.Decides.{nat_tests}
-use Rattle.segment.specs.Text.{marked_places}
-use Rattle.segment.specs.Marks.{count-mark, length-marked_places, marked_places-within, marked_places-ascend}
-use Rattle.segment.specs.Parts.{root_flags}
+use Rattle.segment_parts.specs.Text.{marked_places}
+use Rattle.segment_parts.specs.Marks.{count-mark, length-marked_places, marked_places-within, marked_places-ascend, marked_places-next, marked_places-none}
+use Rattle.segment_parts.specs.Parts.{root_flags}
 use Rattle.segment.specs.Roots.{root_documents}
 
 -- a place is at or before mark `root` exactly where at most so many marks come before it
@@ -35,27 +35,6 @@ marks_before start (false ∷ flags) root (suc place) h =
       λ early. omega (arith, rest.0 (omega (arith, early)), count-mark false (take place flags)),
       λ few. omega (arith, rest.1 (omega (arith, few, count-mark false (take place flags)))),
     )
-
--- ---- the first mark of the flags from place `start` on
-
--- the next mark: the places are that one and those after it
-pub marked_places-next : (start : ℕ) (flags : List Bool) (place : ℕ) → position_from is_marked start flags ≡ Some place
-    → (start ≤ place) × (marked_places start flags ≡ place ∷ marked_places (place + 1) (drop (place + 1 - start) flags))
-marked_places-next start [] place e = absurd (let no : ⊥ = cc in no)
-marked_places-next start (true ∷ flags) place e =
-    let here : start ≡ place = cc in
-    let one : place + 1 - start ≡ suc zero = omega (arith, here) in
-    (omega (arith, here), rw (one, here) refl)
-marked_places-next start (false ∷ flags) place e =
-    let rest = marked_places-next (start + 1) flags place e in
-    let less : place + 1 - start ≡ suc (place + 1 - (start + 1)) = omega (arith, rest.0) in
-    (omega (arith, rest.0), rw less rest.1)
-
--- no next mark: there are no places
-pub marked_places-none : (start : ℕ) (flags : List Bool) → position_from is_marked start flags ≡ None → marked_places start flags ≡ []
-marked_places-none start [] e = refl
-marked_places-none start (true ∷ flags) e = absurd (let no : ⊥ = cc in no)
-marked_places-none start (false ∷ flags) e = marked_places-none (start + 1) flags e
 
 -- places listed so far, and those of the flags from `from` on
 pub record AreListed (places : List ℕ) (from : ℕ) (flags : List Bool) : Type 0 where

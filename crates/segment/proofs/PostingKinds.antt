@@ -7,7 +7,7 @@ use Rattle.std.proofs.lemmas.List.Elements.{All-nil, All-head, All-tail}
 use Rattle.std.specs.Prelude.{slice_index_or}
 use Rattle.doc_values.specs.Values.{values_of}
 use Rattle.term_table.specs.Keys.{number_key}
-use Rattle.segment.specs.Agree.{IsWordAt, IsKeywordAt, IsNumberAt}
+use Rattle.segment_parts.specs.Agree.{IsWordAt, IsKeywordAt, IsNumberAt}
 
 pub no_word : (present : List Bool) (positions : ℕ) (posting : ℕ × List ℕ) → positions ≡ 0 → length posting.1 ≡ positions → IsTrue false ↔ IsWordAt present posting
 no_word present positions posting none long = (λ no. absurd (false≢true no), λ is. absurd (omega (arith, is.positions, long, none)))

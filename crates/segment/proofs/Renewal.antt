@@ -9,16 +9,16 @@ use Rattle.part_text.specs.Text.{u32_text, counted_text}
 use Rattle.stored_sources.specs.declared.root.Root.{Root}
 use Rattle.stored_sources.specs.Text.{root_text, roots_text, old_root_text}
 use Rattle.stored_sources.specs.Stands.{IsOldRoot, AreRoots}
-use Rattle.segment.specs.Text.{magic, scope_text, head_text, rows_part, segment_text}
-use Rattle.segment.specs.Parts.{IsHead, root_flags}
-use Rattle.segment.specs.Agree.{AreColumns}
+use Rattle.segment_parts.specs.Text.{magic, scope_text, head_text, rows_part, segment_text}
+use Rattle.segment_parts.specs.Parts.{IsHead, root_flags}
+use Rattle.segment_parts.specs.Agree.{AreColumns}
 use Rattle.segment.specs.Encoding.{IsEncoding}
 use Rattle.segment.specs.Old.{old_magic, no_documents, behind_roots, old_parts, old_text, IsOldEncoding}
-use Rattle.segment.specs.Once.{IsOnce, many_once, reading_more}
-use Rattle.segment.specs.Heads.{OneSet, head_once}
-use Rattle.segment.specs.Rows.{roots_once}
+use Rattle.segment_parts.specs.Once.{IsOnce, many_once, reading_more}
+use Rattle.segment_parts.specs.Heads.{OneSet, head_once}
+use Rattle.segment_parts.specs.Rows.{roots_once}
 use Rattle.segment.specs.Renewals.{IsShown, ArePut, IsRenewal, NoOld}
-use Rattle.segment.specs.declared.columns.Columns.{Columns}
+use Rattle.segment_parts.specs.declared.columns.Columns.{Columns}
 use Rattle.segment.proofs.Shown.{behind_shown, shown_once, old_head, flags_front, flags_shown}
 
 abbrev pub OneOldRoot : Type 0

@@ -5,12 +5,12 @@ use Rattle.std.proofs.lemmas.Bool.{cases_lt}
 use Rattle.std.proofs.lemmas.List.{get_or_append_left, get_or-append_right, get_or_default, get_or-drop, get_or-replicate, length-append, length-drop, length-replicate}
 use Rattle.std.proofs.lemmas.List.Elements.{All-append, All-replicate}
 use Rattle.block_bits.specs.Flags.{is_marked}
-use Rattle.segment.specs.Parts.{root_flags, IsHead}
-use Rattle.segment.specs.Agree.{AreColumns}
+use Rattle.segment_parts.specs.Parts.{root_flags, IsHead}
+use Rattle.segment_parts.specs.Agree.{AreColumns}
 use Rattle.segment.specs.Old.{no_documents}
-use Rattle.segment.specs.Marks.{count-mark}
+use Rattle.segment_parts.specs.Marks.{count-mark}
 use Rattle.segment.specs.Renewals.{IsShown}
-use Rattle.segment.specs.declared.columns.Columns.{Columns}
+use Rattle.segment_parts.specs.declared.columns.Columns.{Columns}
 
 no_marks : (n : ℕ) → count_by is_marked (replicate n false) ≡ 0
 no_marks zero = refl

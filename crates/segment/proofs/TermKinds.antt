@@ -2,9 +2,9 @@
 use Rattle.std.proofs.Common.{◌≡◌, ◌⊎◌, inl, inr, ◌↔◌, ℕ, ℤ, suc, Bool, true, false, IsTrue, List, [], ◌∷◌, Option, Some, None, All, w64, FitsSigned, Result, Ok, Err, IfOk, refl, sym, subst, arith}
 use Rattle.std.specs.Prelude.{◌==◌}
 use Rattle.std.proofs.lemmas.Option.{same_Some}
-use Rattle.segment.specs.Fields.{column_of, AreByField}
-use Rattle.segment.specs.Parts.{IsNumberColumn}
-use Rattle.segment.specs.Agree.{IsTermOf, IsWordAt, IsKeywordAt, IsNumberAt}
+use Rattle.segment_parts.specs.Fields.{column_of, AreByField}
+use Rattle.segment_parts.specs.Parts.{IsNumberColumn}
+use Rattle.segment_parts.specs.Agree.{IsTermOf, IsWordAt, IsKeywordAt, IsNumberAt}
 
 pub of_word : (set : List Bool) (present : Option (List Bool)) (rows : Option (List (ℕ × List ℕ))) (numbers : Option (List (ℕ × List ℤ))) (ordinal : ℕ) (bytes : List ℕ) (own list : List (ℕ × List ℕ)) (test : Bool) → Some set ≡ present → own ≡ list → (IsTrue test ↔ All (IsWordAt set) own) → IsTrue test ↔ IsTermOf present rows numbers ordinal bytes list
 of_word set present rows numbers ordinal bytes own list test found same law =

@@ -4,7 +4,7 @@ use Rattle.std.specs.Option.{option_map, option_map_or}
 use Rattle.std.proofs.lemmas.Bool.{cases_lt}
 use Rattle.std.proofs.lemmas.Option.{slice_get_within, slice_get-get_or, same_Some}
 use Rattle.postings.specs.Postings.{Standing, present, present_document, present_positions}
-use Rattle.segment.proofs.Passes.{PassBefore, pass_none, pass_more, answer_all, answer_fails}
+use Rattle.segment_parts.specs.Passes.{PassBefore, pass_none, pass_more, answer_all, answer_fails}
 
 pub record IsTested (P : ℕ × List ℕ → Type 0) (postings : List (ℕ × List ℕ)) (cursor : Standing) (doc : Option ℕ) : Type 0 where
   pub own : cursor.postings ≡ postings

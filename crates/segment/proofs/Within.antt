@@ -7,7 +7,7 @@ use Rattle.std.proofs.lemmas.Bool.Decides.{nat_tests}
 use Rattle.std.proofs.lemmas.List.{length-map, get_or-map}
 use Rattle.std.proofs.lemmas.Map.Keys.{sorted_from_strictly_increasing, below_from_sorted}
 use Rattle.doc_values.specs.Values.{documents}
-use Rattle.segment.specs.Agree.{AreWithin}
+use Rattle.segment_parts.specs.Agree.{AreWithin}
 
 lt_true : (a b : ℕ) → a < b → IsTrue (nat_lt a b)
 lt_true a b less = grind (arith, nat_tests)

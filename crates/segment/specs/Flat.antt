@@ -5,8 +5,8 @@ use Rattle.doc_values.specs.Values.{values_of}
 use Rattle.stored_sources.specs.declared.root.Join.{Join}
 use Rattle.stored_sources.specs.declared.root.Root.{Root}
 use Rattle.term_table.specs.declared.rows.TermRow.{TermRow}
-use Rattle.segment.specs.Lists.{terms_of}
-use Rattle.segment.specs.declared.columns.Columns.{Columns}
+use Rattle.segment_parts.specs.Lists.{terms_of}
+use Rattle.segment_parts.specs.declared.columns.Columns.{Columns}
 
 -- a document without its place: its scope and, by ascending field, its values
 pub record FlatDocument : Type 0 where

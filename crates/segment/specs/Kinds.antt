@@ -2,7 +2,7 @@
 use Rattle.std.specs.Prelude.{ℕ, ℤ, List, FitsSigned}
 use Rattle.std.specs.List.{All}
 use Rattle.std.specs.Int.{w64}
-use Rattle.segment.specs.Agree.{IsWordAt, IsKeywordAt, IsNumberAt}
+use Rattle.segment_parts.specs.Agree.{IsWordAt, IsKeywordAt, IsNumberAt}
 use Rattle.segment.specs.declared.agree_terms.Kind.{Kind}
 use Rattle.segment.specs.declared.agree_terms.Kind.TheVariants.{Word, Keyword, Number}
 

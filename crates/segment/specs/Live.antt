@@ -2,9 +2,9 @@
 use Rattle.std.specs.Prelude.{◌≡◌, ℕ, ◌+◌, ◌-◌, ◌==◌, Bool, true, false, List, length, map, take, count_by, slice_index, slice_index_or, slice_set, if◌then◌else◌}
 use Rattle.std.specs.List.{range_with_len}
 use Rattle.block_bits.specs.Flags.{is_marked, cleared}
-use Rattle.segment.specs.Parts.{root_flags}
+use Rattle.segment_parts.specs.Parts.{root_flags}
 use Rattle.segment.specs.Roots.{root_documents}
-use Rattle.segment.specs.declared.columns.Columns.{Columns}
+use Rattle.segment_parts.specs.declared.columns.Columns.{Columns}
 
 -- the live documents and the live roots, one flag each
 pub record LiveState : Type 0 where

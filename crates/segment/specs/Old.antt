@@ -6,9 +6,9 @@ use Rattle.part_text.specs.Text.{u32_text, counted_text}
 use Rattle.stored_sources.specs.declared.root.Root.{Root}
 use Rattle.stored_sources.specs.Text.{old_root_text}
 use Rattle.term_table.specs.Part.{rows_text}
-use Rattle.segment.specs.Text.{scope_text, ordinals_text, numbers_text, present_text}
-use Rattle.segment.specs.Agree.{AreColumns}
-use Rattle.segment.specs.declared.columns.Columns.{Columns}
+use Rattle.segment_parts.specs.Text.{scope_text, ordinals_text, numbers_text, present_text}
+use Rattle.segment_parts.specs.Agree.{AreColumns}
+use Rattle.segment_parts.specs.declared.columns.Columns.{Columns}
 
 -- the bytes that stood first: SEG1
 abbrev pub old_magic : List ℕ

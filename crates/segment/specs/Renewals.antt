@@ -5,12 +5,12 @@ use Rattle.block_bits.specs.Flags.{is_marked}
 use Rattle.stored_sources.specs.declared.root.Root.{Root}
 use Rattle.stored_sources.specs.Text.{old_root_text, roots_text}
 use Rattle.stored_sources.specs.Stands.{IsOldRoot}
-use Rattle.segment.specs.Text.{magic, head_text}
-use Rattle.segment.specs.Parts.{root_flags, IsHead}
-use Rattle.segment.specs.Agree.{AreColumns}
-use Rattle.segment.specs.Once.{IsReading}
+use Rattle.segment_parts.specs.Text.{magic, head_text}
+use Rattle.segment_parts.specs.Parts.{root_flags, IsHead}
+use Rattle.segment_parts.specs.Agree.{AreColumns}
+use Rattle.segment_parts.specs.Once.{IsReading}
 use Rattle.segment.specs.Old.{old_parts}
-use Rattle.segment.specs.declared.columns.Columns.{Columns}
+use Rattle.segment_parts.specs.declared.columns.Columns.{Columns}
 
 -- the scopes before `count` are those up to the last that has documents
 pub record IsShown (scopes : List (List Bool)) (count : ℕ) : Type 0 where

@@ -1,7 +1,7 @@
 -- Roots: the documents of scope 0, which is the last one of each block.
 use Rattle.std.specs.Prelude.{ℕ, Bool, List}
-use Rattle.segment.specs.Text.{marked_places}
-use Rattle.segment.specs.Parts.{root_flags}
+use Rattle.segment_parts.specs.Text.{marked_places}
+use Rattle.segment_parts.specs.Parts.{root_flags}
 
 -- the documents of the roots, in order
 unfoldable pub root_documents : List (List Bool) → List ℕ

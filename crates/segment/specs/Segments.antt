@@ -1,6 +1,6 @@
 -- What a segment keeps.
 use Rattle.std.specs.Prelude.{◌≡◌}
-use Rattle.segment.specs.Agree.{AreColumns}
+use Rattle.segment_parts.specs.Agree.{AreColumns}
 use Rattle.segment.specs.Roots.{root_documents}
 use Rattle.segment.specs.declared.segment.Segment.TheInside.{Inside}
 

@@ -1,25 +1,16 @@
 //! Whether the columns of a segment agree: its documents, its roots and the columns of its fields.
 
-ghost use Rattle.std.specs.Prelude.{◌≡◌, ◌↔◌, ◌<◌, ◌≤◌, ◌-◌, ℕ, false, [], List, length, count_by, slice_index_or, IsTrue, IsNone};
+ghost use Rattle.std.specs.Prelude.{◌≡◌, ◌↔◌, ◌<◌, ℕ, List, length, IsTrue, IsNone};
 ghost use Rattle.std.specs.List.{All};
-ghost use Rattle.block_bits.specs.Flags.{is_marked};
 ghost use Rattle.stored_sources.specs.Roots.{root_of, lent_join};
-ghost use Rattle.segment.specs.Fields.{column_of};
-ghost use Rattle.segment.specs.Parts.{root_flags, IsHead};
-ghost use Rattle.segment.specs.Agree.{IsId, HasParentId, IsStored, AreRooted, AreWithin, HaveFields, HaveTerms, AreColumns};
+ghost use Rattle.segment_parts.specs.Fields.{column_of};
+ghost use Rattle.segment_parts.specs.Agree.{HasParentId, IsStored, AreRooted, AreWithin, HaveFields, HaveTerms, AreColumns};
 
 use crate::agree_columns::{have_keys, have_ordinals};
 use crate::agree_terms::are_terms;
-use crate::parts::Parts;
-use block_bits::BitSet;
 use doc_values::{Column, ColumnValue};
+use segment_parts::{MAX_SOURCE_LEN, Parts, ends_with_root, has_greatest, have_present, is_id};
 use stored_sources::{JoinValue, StoredSources};
-
-/// The most bytes of a source.
-pub(crate) const MAX_SOURCE_LEN: u32 = 16_777_216;
-
-/// The most bytes of an id.
-const MAX_ID_LEN: usize = 512;
 
 /// Whether columns that can be written are those of one segment.
 pub(crate) fn are_columns(parts: &Parts) -> bool
@@ -56,24 +47,8 @@ fn are_rooted(parts: &Parts) -> bool
         && are_stored(&parts.sources())
 }
 
-/// Whether the last document is a root.
-pub(crate) fn ends_with_root(scopes: &[BitSet], documents: u32) -> bool
-    requires { IsHead documents scopes.now }
-    ensures { IsTrue result ↔ IsTrue (slice_index_or (root_flags scopes.now) (documents - 1) false) }
-{
-    scopes[0].has(documents - 1)
-}
-
-/// Whether the last scope has documents.
-pub(crate) fn has_greatest(scopes: &[BitSet]) -> bool
-    requires { 1 ≤ length scopes.now }
-    ensures { IsTrue result ↔ (1 ≤ count_by is_marked (slice_index_or scopes.now (length scopes.now - 1) [])) }
-{
-    scopes[scopes.len() - 1].count() >= 1
-}
-
 /// Whether ids and sources have as many bytes as they may have.
-#[tactic(auto, using(crate::proofs::Passes::passes))]
+#[tactic(auto, using(segment_parts::specs::Passes::passes))]
 fn are_stored(sources: &StoredSources) -> bool
     ensures { IsTrue result ↔ All IsStored sources.now }
 {
@@ -106,13 +81,6 @@ fn has_parent_id(join: JoinValue) -> bool
     }
 }
 
-/// Whether bytes are as many as an id has.
-pub(crate) fn is_id(bytes: &[u8]) -> bool
-    ensures { IsTrue result ↔ IsId bytes.now }
-{
-    !bytes.is_empty() && bytes.len() <= MAX_ID_LEN
-}
-
 /// Whether no field has columns of two kinds, columns name documents that are there, and each text field has some.
 fn have_fields(parts: &Parts) -> bool
     ensures { IsTrue result ↔ HaveFields parts.now }
@@ -133,7 +101,7 @@ fn have_fields(parts: &Parts) -> bool
 }
 
 /// Whether no field of ordinals has numbers or is a text field.
-#[tactic(auto, using(crate::proofs::Passes::passes))]
+#[tactic(auto, using(segment_parts::specs::Passes::passes))]
 fn are_ordinals_apart(parts: &Parts) -> bool
     ensures { IsTrue result ↔ All (λ column. IsNone (column_of column.0 parts.now.numbers) × IsNone (column_of column.0 parts.now.present)) parts.now.ordinals }
 {
@@ -147,7 +115,7 @@ fn are_ordinals_apart(parts: &Parts) -> bool
 }
 
 /// Whether no field of numbers is a text field.
-#[tactic(auto, using(crate::proofs::Passes::passes))]
+#[tactic(auto, using(segment_parts::specs::Passes::passes))]
 fn are_numbers_apart(parts: &Parts) -> bool
     ensures { IsTrue result ↔ All (λ column. IsNone (column_of column.0 parts.now.present)) parts.now.numbers }
 {
@@ -161,7 +129,7 @@ fn are_numbers_apart(parts: &Parts) -> bool
 }
 
 /// Whether columns of ordinals name documents that are there.
-#[tactic(auto, using(crate::proofs::Passes::passes))]
+#[tactic(auto, using(segment_parts::specs::Passes::passes))]
 fn are_ordinals_within(parts: &Parts) -> bool
     ensures { IsTrue result ↔ All (λ column. AreWithin parts.now.documents column.1) parts.now.ordinals }
 {
@@ -175,7 +143,7 @@ fn are_ordinals_within(parts: &Parts) -> bool
 }
 
 /// Whether columns of numbers name documents that are there.
-#[tactic(auto, using(crate::proofs::Passes::passes))]
+#[tactic(auto, using(segment_parts::specs::Passes::passes))]
 fn are_numbers_within(parts: &Parts) -> bool
     ensures { IsTrue result ↔ All (λ column. AreWithin parts.now.documents column.1) parts.now.numbers }
 {
@@ -194,11 +162,4 @@ fn are_within<T: ColumnValue>(column: &Column<T>, documents: u32) -> bool
 {
     let rows = column.rows();
     rows == 0 || column.doc(rows - 1) < documents
-}
-
-/// Whether each text field has documents.
-pub(crate) fn have_present(columns: &[(u32, BitSet)]) -> bool
-    ensures { IsTrue result ↔ All (λ column. 1 ≤ count_by is_marked column.1) columns.now }
-{
-    columns.iter().all(|(_, set)| set.count() >= 1)
 }

@@ -3,16 +3,16 @@
 ghost use Rattle.std.specs.Prelude.{◌≡◌, ◌↔◌, ◌<◌, ℕ, List, [], length, slice_get, Some, IsTrue, Contains, slice_index_or};
 ghost use Rattle.std.specs.List.{All};
 ghost use Rattle.postings.specs.Postings.{documents};
-ghost use Rattle.segment.specs.Lists.{terms_of, postings_of};
-ghost use Rattle.segment.specs.Agree.{IsOrdinalAt, IsKeyed, HaveOrdinals, HaveKeys};
+ghost use Rattle.segment_parts.specs.Lists.{terms_of, postings_of};
+ghost use Rattle.segment_parts.specs.Agree.{IsOrdinalAt, IsKeyed, HaveOrdinals, HaveKeys};
 
-use crate::parts::Parts;
 use doc_values::{NumberColumn, OrdinalColumn, Values};
+use segment_parts::Parts;
 use term_table::number_key;
 
 /// Whether each ordinal in a column is the place of a term of the column's field, and the row's document is one of
 /// that term's.
-#[tactic(auto, using(crate::proofs::Passes::passes))]
+#[tactic(auto, using(segment_parts::specs::Passes::passes))]
 pub(crate) fn have_ordinals(parts: &Parts) -> bool
     ensures { IsTrue result ↔ All (HaveOrdinals (terms_of parts.now) (postings_of parts.now)) parts.now.ordinals }
 {
@@ -27,7 +27,7 @@ pub(crate) fn have_ordinals(parts: &Parts) -> bool
 
 /// Whether each number in a column stands by its key among the terms of the column's field, and the row's document is
 /// one of that term's.
-#[tactic(auto, using(crate::proofs::Passes::passes))]
+#[tactic(auto, using(segment_parts::specs::Passes::passes))]
 pub(crate) fn have_keys(parts: &Parts) -> bool
     ensures { IsTrue result ↔ All (HaveKeys (terms_of parts.now) (postings_of parts.now)) parts.now.numbers }
 {
@@ -41,7 +41,7 @@ pub(crate) fn have_keys(parts: &Parts) -> bool
 }
 
 /// Whether each ordinal in a field's rows is the place of a term of the field that the row's document has.
-#[tactic(auto, using(crate::proofs::Passes::passes))]
+#[tactic(auto, using(segment_parts::specs::Passes::passes))]
 fn are_ordinal_rows(parts: &Parts, field: u32, column: &OrdinalColumn) -> bool
     ensures { IsTrue result ↔ HaveOrdinals (terms_of parts.now) (postings_of parts.now) (field, column.now) }
 {
@@ -54,7 +54,7 @@ fn are_ordinal_rows(parts: &Parts, field: u32, column: &OrdinalColumn) -> bool
 }
 
 /// Whether each number in a field's rows is a term of the field that the row's document has.
-#[tactic(auto, using(crate::proofs::Passes::passes))]
+#[tactic(auto, using(segment_parts::specs::Passes::passes))]
 fn are_keyed_rows(parts: &Parts, field: u32, column: &NumberColumn) -> bool
     ensures { IsTrue result ↔ HaveKeys (terms_of parts.now) (postings_of parts.now) (field, column.now) }
 {
@@ -67,7 +67,7 @@ fn are_keyed_rows(parts: &Parts, field: u32, column: &NumberColumn) -> bool
 }
 
 /// Whether each ordinal of a document is the place of a term of the field that the document has.
-#[tactic(auto, using(crate::proofs::Passes::passes))]
+#[tactic(auto, using(segment_parts::specs::Passes::passes))]
 fn are_ordinals(parts: &Parts, field: u32, doc: u32, values: &Values<u64>) -> bool
     ensures { IsTrue result ↔ All (λ ordinal. IsOrdinalAt (terms_of parts.now) (postings_of parts.now) field doc ordinal) values.now }
 {
@@ -80,7 +80,7 @@ fn are_ordinals(parts: &Parts, field: u32, doc: u32, values: &Values<u64>) -> bo
 }
 
 /// Whether each number of a document is a term of the field that the document has.
-#[tactic(auto, using(crate::proofs::Passes::passes))]
+#[tactic(auto, using(segment_parts::specs::Passes::passes))]
 fn are_keyed(parts: &Parts, field: u32, doc: u32, values: &Values<i64>) -> bool
     ensures { IsTrue result ↔ All (λ number. IsKeyed (terms_of parts.now) (postings_of parts.now) field doc number) values.now }
 {

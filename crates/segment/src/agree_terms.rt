@@ -5,20 +5,17 @@ ghost use Rattle.std.specs.Int.{w64};
 ghost use Rattle.std.specs.List.Sorted.{IsSorted};
 ghost use Rattle.std.specs.Ordering.{nat_cmp, int_cmp};
 ghost use Rattle.term_table.specs.Keys.{number_key};
-ghost use Rattle.segment.specs.Fields.{column_of};
-ghost use Rattle.segment.specs.Lists.{terms_of, postings_of};
-ghost use Rattle.segment.specs.Agree.{IsTermAt, IsTermOf, IsWordAt, IsKeywordAt, IsNumberAt};
+ghost use Rattle.segment_parts.specs.Fields.{column_of};
+ghost use Rattle.segment_parts.specs.Lists.{terms_of, postings_of};
+ghost use Rattle.segment_parts.specs.Agree.{IsTermAt, IsTermOf, IsWordAt, IsKeywordAt, IsNumberAt};
 ghost use Rattle.segment.specs.Kinds.{IsPosting, HasFits};
 
-use crate::parts::Parts;
 use block_bits::BitSet;
 use doc_values::{NumberColumn, OrdinalColumn, Values};
 use postings::Cursor;
+use segment_parts::{MAX_TERM_LEN, Parts};
 use std::cmp::Ordering;
 use term_table::number_of;
-
-/// The greatest number of bytes of a term (Lucene's `IndexWriter.MAX_TERM_LENGTH`).
-pub(crate) const MAX_TERM_LEN: usize = 32_766;
 
 /// What a term is, as the column of its field is.
 #[derive(Drop)]

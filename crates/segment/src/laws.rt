@@ -5,8 +5,8 @@ ghost use Rattle.std.specs.Int.{w64};
 ghost use Rattle.std.specs.List.{All, list_any};
 ghost use Rattle.block_bits.specs.Seen.{scopes_seen};
 ghost use Rattle.doc_values.specs.Values.{values_of};
-ghost use Rattle.segment.specs.Fields.{column_of};
-ghost use Rattle.segment.specs.Lists.{terms_of, postings_of};
+ghost use Rattle.segment_parts.specs.Fields.{column_of};
+ghost use Rattle.segment_parts.specs.Lists.{terms_of, postings_of};
 ghost use Rattle.segment.specs.Flat.{bytes_at, flat_of, flats_of};
 ghost use Rattle.segment.specs.Shows.{has_term, has_word_at, has_text, posts, column_values, column_flag};
 

@@ -8,13 +8,11 @@ ghost use Rattle.stored_sources.specs.Stands.{IsOldRoot};
 ghost use Rattle.segment.specs.Encoding.{IsEncoding};
 ghost use Rattle.segment.specs.Old.{old_magic, IsOldEncoding};
 ghost use Rattle.segment.specs.Renewals.{IsShown, ArePut, IsRenewal, NoOld};
-ghost use Rattle.segment.specs.declared.columns.Columns.{Columns};
+ghost use Rattle.segment_parts.specs.declared.columns.Columns.{Columns};
 
 use crate::NoMemory;
-use crate::head::head_at;
-use crate::parts::count_roots;
-use crate::written::put_head_of;
 use block_bits::{BitSet, words_are_of_one_set};
+use segment_parts::{count_roots, head_at, put_head_of};
 use std::alloc::Global;
 use stored_sources::{Bytes, old_roots_have_one_text, renewed_root};
 

@@ -3,7 +3,7 @@
 ghost use Rattle.std.specs.Prelude.{◌≡◌, nat_lt, IfOk};
 ghost use Rattle.std.specs.List.{prefix_len};
 ghost use Rattle.std.specs.List.Sorted.{IsNonDecreasingBy};
-ghost use Rattle.segment.specs.Text.{marked_places};
+ghost use Rattle.segment_parts.specs.Text.{marked_places};
 ghost use Rattle.segment.specs.Roots.{root_documents};
 
 use crate::NoMemory;

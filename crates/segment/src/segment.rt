@@ -3,26 +3,24 @@
 ghost use Rattle.std.specs.Prelude.{◌≡◌, ◌↔◌, ℕ, ◌<◌, ◌≤◌, ◌^◌, length, slice_get, Some, IfOk, IsErrOf};
 ghost use Rattle.std.specs.Option.{option_map};
 ghost use Rattle.stored_sources.specs.Roots.{root_of, lent_join};
-ghost use Rattle.segment.specs.Agree.{AreColumns};
+ghost use Rattle.segment_parts.specs.Agree.{AreColumns};
 ghost use Rattle.segment.specs.Encoding.{IsEncoding};
-ghost use Rattle.segment.specs.Fields.{column_of};
-ghost use Rattle.segment.specs.Lists.{terms_of, postings_of};
+ghost use Rattle.segment_parts.specs.Fields.{column_of};
+ghost use Rattle.segment_parts.specs.Lists.{terms_of, postings_of};
 ghost use Rattle.segment.specs.Flat.{flat_root, flats_of, roots_of};
 ghost use Rattle.segment.specs.Live.{root_of as block_root, block_start, block_end};
-ghost use Rattle.segment.specs.Parts.{root_flags};
+ghost use Rattle.segment_parts.specs.Parts.{root_flags};
 ghost use Rattle.segment.specs.Roots.{root_documents};
-ghost use Rattle.segment.specs.Text.{segment_text};
-ghost use Rattle.segment.specs.declared.columns.Columns.{Columns};
+ghost use Rattle.segment_parts.specs.Text.{segment_text};
+ghost use Rattle.segment_parts.specs.declared.columns.Columns.{Columns};
 
 use crate::agree::are_columns;
-use crate::given::agree;
-use crate::parts::Parts;
 use crate::root_docs::{places_before, root_places};
-use crate::written::segment_bytes;
 use crate::{Columns, SegmentRefusal};
 use block_bits::{BitList, BitSet, words_are_of_one_set};
 use doc_values::{NumberColumn, OrdinalColumn};
 use postings::PostingsTable;
+use segment_parts::{Parts, agree, segment_bytes};
 use std::alloc::Global;
 use std::marker::Model;
 use stored_sources::{Bytes, JoinValue, StoredSources};
@@ -36,7 +34,7 @@ pub struct Segment {
 }
 
 impl Model for Segment {
-    ghost use Rattle.segment.specs.declared.columns.Columns.{Columns};
+    ghost use Rattle.segment_parts.specs.declared.columns.Columns.{Columns};
 
     ghost Value = { Columns };
 

@@ -5,7 +5,7 @@ use Rattle.flattener.specs.Block.{BlockState}
 use Rattle.flattener.specs.Fits.{IsRootOf, is_root}
 use Rattle.mapping.specs.Mapping.{Mapping}
 use Rattle.segment.specs.Flat.{FlatDocument, FlatRoot, flats_of, roots_of}
-use Rattle.segment.specs.declared.columns.Columns.{Columns}
+use Rattle.segment_parts.specs.declared.columns.Columns.{Columns}
 use Rattle.segment_builder.specs.Blocks.{cut_from, blocks_of}
 use Rattle.segment_builder.proofs.Keys.{split}
 

@@ -5,7 +5,7 @@ use Rattle.flattener.specs.Block.{BlockState}
 use Rattle.flattener.specs.Fits.{BlockFits, SegmentFits, IsRootOf, AreRootsOf}
 use Rattle.mapping.specs.Mapping.{Mapping}
 use Rattle.segment.specs.Flat.{FlatDocument, FlatRoot, flats_of, roots_of}
-use Rattle.segment.specs.declared.columns.Columns.{Columns}
+use Rattle.segment_parts.specs.declared.columns.Columns.{Columns}
 use Rattle.segment_builder.proofs.Shown.{each_by, each_then}
 
 roots_in_order : (m : Mapping) (blocks : List BlockState) → ((block : BlockState) → BlockFits m block → IsRootOf m block.root block.flats) → AllByRecursion (BlockFits m) blocks

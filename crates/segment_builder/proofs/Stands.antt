@@ -15,7 +15,7 @@ use Rattle.segment.specs.Flat.{FlatDocument, FlatRoot, flat_of, flats_of, roots_
 use Rattle.segment.specs.Live.{LiveState, IsLiveOver, live_docs}
 use Rattle.segment.specs.Marks.{count-mark}
 use Rattle.segment.specs.Parts.{root_flags}
-use Rattle.segment.specs.declared.columns.Columns.{Columns}
+use Rattle.segment_parts.specs.declared.columns.Columns.{Columns}
 use Rattle.tree_objects.specs.Object.{Object, block_objects}
 use Rattle.tree_objects.specs.Tree.{Tree}
 use Rattle.segment_builder.specs.Blocks.{cut_from, blocks_of, marked_by, block_of_marked}

@@ -10,7 +10,7 @@ use Rattle.block_bits.specs.Blocks.{documents_of, has_scope}
 use Rattle.doc_values.specs.Values.{values_of}
 use Rattle.segment.specs.Flat.{FlatDocument, has_some, flat_of, flats_of, values_at, words_at}
 use Rattle.segment.specs.Lists.{terms_of}
-use Rattle.segment.specs.declared.columns.Columns.{Columns}
+use Rattle.segment_parts.specs.declared.columns.Columns.{Columns}
 use Rattle.term_table.specs.Terms.{term_cmp}
 use Rattle.segment_builder.specs.Columns.{marks_of}
 use Rattle.segment_builder.specs.Entries.{EntriesState, flats_in, no_entries, with_blocks}

@@ -5,7 +5,7 @@ use Rattle.flattener.specs.StandsFor.{Marked}
 use Rattle.segment.specs.Flat.{FlatDocument, FlatRoot, flats_of, roots_of}
 use Rattle.segment.specs.Live.{EntryState}
 use Rattle.mapping.specs.Mapping.{Mapping}
-use Rattle.segment.specs.declared.columns.Columns.{Columns}
+use Rattle.segment_parts.specs.declared.columns.Columns.{Columns}
 use Rattle.tree_objects.specs.Tree.{Tree}
 
 -- the blocks of documents that come behind `front`, each ending with the next root

@@ -4,7 +4,7 @@ use Rattle.std.specs.List.{All, range_with_len}
 use Rattle.std.specs.Ordering.{nat_cmp}
 use Rattle.block_bits.specs.Blocks.{documents_of}
 use Rattle.segment.specs.Lists.{terms_of}
-use Rattle.segment.specs.declared.columns.Columns.{Columns}
+use Rattle.segment_parts.specs.declared.columns.Columns.{Columns}
 use Rattle.term_table.specs.Terms.{term_cmp}
 use Rattle.segment_builder.specs.Columns.{column_terms, marks_of, named_group}
 use Rattle.segment_builder.specs.Entries.{EntriesState}

@@ -5,7 +5,7 @@ ghost use Rattle.flattener.specs.StandsFor.{Marked, EntryStandsFor};
 ghost use Rattle.mapping.specs.IsMapping.{IsMapping};
 ghost use Rattle.mapping.specs.Mapping.{Mapping};
 ghost use Rattle.segment.specs.Live.{IsLiveOver, LiveState, killed};
-ghost use Rattle.segment.specs.declared.columns.Columns.{Columns};
+ghost use Rattle.segment_parts.specs.declared.columns.Columns.{Columns};
 ghost use Rattle.segment_builder.specs.Blocks.{blocks_of, marked_by, block_of_marked, dead_at};
 ghost use Rattle.tree_objects.specs.Tree.{Tree};
 

@@ -12,7 +12,7 @@ mod tests;
 ghost use Rattle.std.specs.Prelude.{◌≡◌, IfOk, IsErrOf};
 ghost use Rattle.segment.specs.Encoding.{IsEncoding};
 ghost use Rattle.segment.specs.Old.{IsOldEncoding};
-ghost use Rattle.segment.specs.declared.columns.Columns.{Columns};
+ghost use Rattle.segment_parts.specs.declared.columns.Columns.{Columns};
 
 use segment::{Bytes, Segment, SegmentRefusal, renewed};
 use std::alloc::Global;

@@ -1,11 +1,11 @@
--- Different ids stay so where some entries give way to one or to none.
+-- Different ids and own live bits stay so where some entries give way to one or to none.
 use Rattle.std.proofs.Common.{◌≡◌, ◌≢◌, ℕ, suc, ◌+◌, ◌≤◌, List, [], ◌∷◌, ◌++◌, take, drop, get_or, Option, Some, None, IfSome, sym, subst, arith}
 use Rattle.std.specs.List.{All, AllPairs}
 use Rattle.std.proofs.lemmas.List.{get_or-take, get_or-drop, get_or_default, length-take, length-drop}
 use Rattle.std.proofs.lemmas.List.Elements.{All-append, All-tail, All-take, All-drop, All-cons}
 use Rattle.std.proofs.lemmas.List.Kept.{AllPairs-cons}
-use Rattle.segment.specs.Live.{EntryState}
-use Rattle.segment_view.specs.Views.{HaveOwnIds, IsNewId, replaced}
+use Rattle.segment.specs.Live.{EntryState, IsLiveOver}
+use Rattle.segment_view.specs.Views.{HaveOwnBits, HaveOwnIds, IsNewId, IsView, replaced}
 
 module _ {X : Type 0} (R : X → X → Type 0) where
   first_pairs : (x : X) (xs : List X) → AllPairs R (x ∷ xs) → All (R x) xs
@@ -55,3 +55,13 @@ own_ids now xs ys from count None same is own new =
 own_ids now xs ys from count (Some entry) same is own new =
     let to : IsNewId xs entry.id = subst (λ (es : List EntryState). IsNewId es entry.id) (sym same) new in
     subst HaveOwnIds (sym is) (put differ from (from + count) entry xs (omega arith) own to (λ k d h. λ other. to k d h (sym other)))
+
+own_bits : (xs ys : List EntryState) (from count : ℕ) (by : Option EntryState) → ys ≡ replaced from count by xs → HaveOwnBits xs → IfSome by (λ entry. IsLiveOver entry.columns entry.live) → HaveOwnBits ys
+own_bits xs ys from count None is own new =
+    subst HaveOwnBits (sym is) (All-append (λ (entry : EntryState). IsLiveOver entry.columns entry.live) (take from xs) (drop (from + count) xs) (All-take (λ (entry : EntryState). IsLiveOver entry.columns entry.live) from xs own) (All-drop (λ (entry : EntryState). IsLiveOver entry.columns entry.live) (from + count) xs own))
+own_bits xs ys from count (Some entry) is own new =
+    subst HaveOwnBits (sym is) (All-append (λ (entry : EntryState). IsLiveOver entry.columns entry.live) (take from xs) (entry ∷ drop (from + count) xs) (All-take (λ (entry : EntryState). IsLiveOver entry.columns entry.live) from xs own)
+    (All-cons (λ (entry : EntryState). IsLiveOver entry.columns entry.live) entry (drop (from + count) xs) new (All-drop (λ (entry : EntryState). IsLiveOver entry.columns entry.live) (from + count) xs own)))
+
+pub own_view : (now xs ys : List EntryState) (from count : ℕ) (by : Option EntryState) → xs ≡ now → ys ≡ replaced from count by xs → IsView xs → IfSome by (λ entry. IsNewId now entry.id) → IfSome by (λ entry. IsLiveOver entry.columns entry.live) → IsView ys
+own_view now xs ys from count by same is own new over = record { ids = own_ids now xs ys from count by same is own.ids new; bits = own_bits xs ys from count by is own.bits over }

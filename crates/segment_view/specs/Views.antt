@@ -1,7 +1,7 @@
 -- Views: lists of segments with their live bits, each under an id of its own.
 use Rattle.std.specs.Prelude.{◌≢◌, ℕ, ◌+◌, Bool, false, List, ◌∷◌, ◌++◌, take, drop, slice_index_or, Option, Some, None}
 use Rattle.std.specs.List.{All, AllPairs}
-use Rattle.segment.specs.Live.{EntryState, killed}
+use Rattle.segment.specs.Live.{EntryState, IsLiveOver, killed}
 
 -- no two entries have the same id
 abbrev pub HaveOwnIds : List EntryState → Type 0
@@ -10,6 +10,15 @@ HaveOwnIds entries = AllPairs (λ (one other : EntryState). one.id ≢ other.id)
 -- no entry has this id
 abbrev pub IsNewId : List EntryState → ℕ → Type 0
 IsNewId entries id = All (λ (entry : EntryState). entry.id ≢ id) entries
+
+-- the live bits of each entry are over its own segment
+abbrev pub HaveOwnBits : List EntryState → Type 0
+HaveOwnBits entries = All (λ (entry : EntryState). IsLiveOver entry.columns entry.live) entries
+
+-- what is so of a view at all times
+pub record IsView (entries : List EntryState) : Type 0 where
+  pub ids : HaveOwnIds entries
+  pub bits : HaveOwnBits entries
 
 -- whether a root of an entry is live
 abbrev pub is_live_root : ℕ → EntryState → Bool

@@ -79,6 +79,7 @@ impl Entry {
     pub(crate) fn kill(&mut self, alloc: Global, root: u32) -> Result<(), NoMemory>
         requires { is_live_root root self.old ≡ true }
         ensures killed { OnOk result (self.new ≡ with_dead root self.old) }
+        ensures bits { IsLiveOver self.new.columns self.new.live }
         ensures same { OnErr result (self.new ≡ self.old) }
     {
         kill_shared(alloc, self.segment.as_ref(), &mut self.live, root)

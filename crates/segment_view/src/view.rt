@@ -2,8 +2,8 @@
 
 ghost use Rattle.std.specs.Prelude.{◌≡◌, ◌+◌, ◌≤◌, ◌++◌, ◌∷◌, [], true, length, slice_get, slice_set, Some, IsSomeAnd, IfSome, IfOk, OnOk, OnErr, vec_len};
 ghost use Rattle.std.specs.Option.{option_map};
-ghost use Rattle.segment.specs.Live.{EntryState};
-ghost use Rattle.segment_view.specs.Views.{HaveOwnIds, IsNewId, is_live_root, replaced, with_dead};
+ghost use Rattle.segment.specs.Live.{EntryState, IsLiveOver};
+ghost use Rattle.segment_view.specs.Views.{HaveOwnBits, HaveOwnIds, IsNewId, is_live_root, replaced, with_dead};
 
 use crate::{Entry, NoMemory};
 use std::alloc::Global;
@@ -18,13 +18,13 @@ pub struct View {
 impl Model for View {
     ghost use Rattle.std.specs.Prelude.{List};
     ghost use Rattle.segment.specs.Live.{EntryState};
-    ghost use Rattle.segment_view.specs.Views.{HaveOwnIds};
+    ghost use Rattle.segment_view.specs.Views.{IsView};
 
     ghost Value = { List EntryState };
 
     ghost view = { λ view. view.entries.items };
 
-    ghost invariant = { λ view. HaveOwnIds view.entries.items };
+    ghost invariant = { λ view. IsView view.entries.items };
 }
 
 impl View {
@@ -41,6 +41,7 @@ impl View {
     pub fn entries(&self) -> &[Entry]
         ensures entries { result.now ≡ self.now }
         ensures ids { HaveOwnIds self.now }
+        ensures bits { HaveOwnBits self.now }
     {
         self.entries.as_slice()
     }
@@ -58,6 +59,7 @@ impl View {
         ensures pushed { OnOk result (self.new ≡ self.old ++ entry ∷ []) }
         ensures same { OnErr result (self.new ≡ self.old) }
     {
+        let _bits = entry.live();
         self.entries.push(entry)?;
         Ok(())
     }
@@ -69,6 +71,7 @@ impl View {
         ensures replaced { OnOk result (self.new ≡ replaced from count by self.old) }
         ensures same { OnErr result (self.new ≡ self.old) }
     {
+        have_own_bits(&by);
         replace_in(&mut self.entries, from as usize, count as usize, by)?;
         Ok(())
     }
@@ -93,6 +96,15 @@ impl View {
     {
         let entry = &mut self.entries[place as usize];
         entry.kill(alloc, root)
+    }
+}
+
+/// Says that an entry has live bits of its own segment. Does nothing.
+fn have_own_bits(entry: &Option<Entry>)
+    ensures { IfSome entry.now (λ own. IsLiveOver own.columns own.live) }
+{
+    if let Some(own) = entry {
+        let _bits = own.live();
     }
 }
 

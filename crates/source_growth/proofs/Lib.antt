@@ -3,3 +3,4 @@ pub mod Sizes
 mod Examples
 pub mod Sound
 pub mod Taken
+pub mod Said

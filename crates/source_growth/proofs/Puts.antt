@@ -1,19 +1,21 @@
 -- A member at its place in byte order, in a vector of pairs and among members.
-use Rattle.std.proofs.Common.{◌≡◌, ℕ, zero, suc, ◌+◌, ◌<◌, List as Seq, [], ◌∷◌, map, length, take, get_or, refl, sym, ap, subst, arith, Option, Some, None, Ordering, Less, Equal, Greater, nat_cmp, is_eq, bytes_eq, ◌∙◌, ◌≤◌, ◌⊎◌, inl, inr, ◌==◌, true}
+use Rattle.std.proofs.Common.{◌≡◌, ℕ, zero, suc, ◌+◌, ◌<◌, List as Seq, [], ◌∷◌, map, length, take, get_or, refl, sym, ap, subst, arith, Option, Some, None, Ordering, Less, Equal, Greater, nat_cmp, is_eq, bytes_eq, ◌∙◌, ◌≤◌, ◌⊎◌, inl, inr, ◌==◌, true, Result, Ok, Err, IfOk, IfErr}
 use Rattle.std.proofs.lemmas.Bool.{cases_lt}
 use Rattle.std.proofs.lemmas.Cmp.{nat_list_cmp_total}
 use Rattle.std.proofs.lemmas.Map.Lookups.{exact_bytes}
 use Rattle.std.proofs.lemmas.Map.Text.{is_eq-slice_cmp}
 use Rattle.std.specs.Cmp.Lexicographic.{slice_cmp}
 use Rattle.std.specs.List.{AllByRecursion}
-use Rattle.std.specs.List.Sorted.{IsStrictlySortedBy}
+use Rattle.std.specs.List.Sorted.{IsBinarySearchResult, IsPartitionPoint, IsSearchInRange, IsStrictlySortedBy}
 use Rattle.std.specs.Ordering.{match_ordering, ordering_reverse}
 use Rattle.tree_json.proofs.Halves.{after_at, found_equal, reversed}
-use Rattle.tree_json.proofs.Insertion.{with_entry, IsPast, past_none, past_more, place_found, gap_found, gap_at_end, IsAscending-with_entry, entries-set, entries-insert}
+use Rattle.tree_json.proofs.Insertion.{with_entry, IsPast, place_found, gap_found, gap_at_end, IsAscending-with_entry, entries-set, entries-insert}
 use Rattle.tree_json.specs.Names.{IsAscending}
 use Rattle.tree_json.specs.Value.{JsonValue, null, Members, no_members, member, members_of, member_of}
 use Rattle.tree_json.specs.View.{view, entries}
 use Rattle.tree_json.specs.declared.value.Json.{Json}
+use Rattle.mapping_body.specs.Names.{AreAscending}
+use Rattle.mapping_body.proofs.Ranks.{rises}
 use Rattle.source_growth.specs.Growth.{put_member, form_after}
 use Rattle.source_growth.specs.Code.{IsPlace, IsGap, left_by}
 
@@ -127,14 +129,7 @@ same_at [] i m n h = absurd (omega arith)
 same_at (x ∷ ms) zero m n h = refl
 same_at (x ∷ ms) (suc i) m n h = let more : i < length ms = omega arith in same_at ms i m n more
 
--- ---- the search by halves
-
--- the name doesn't stand before low, and what stands at high comes behind it
-pub record IsBetween (ms : Seq Pair) (name : Seq ℕ) (low high : ℕ) : Type 0 where
-  pub past : IsPast ms name low
-  pub low_high : low ≤ high
-  pub in_range : high ≤ length ms
-  pub behind : (m : Pair) → high < length ms → m ≡ get_or ms high m → compared name m.0 ≡ Less
+-- ---- the search
 
 past_to : (ms : Seq Pair) (i : ℕ) (m : Pair) (name : Seq ℕ) → IsAscending (entries ms) → i < length ms → m ≡ get_or ms i m → (compared name m.0 ≡ Greater) ⊎ (compared name m.0 ≡ Equal) → AllPast name (take i ms)
 unfolding IsStrictlySortedBy
@@ -148,36 +143,6 @@ past_to (x ∷ ms) (suc i) m name up h e over =
       | inr equal ↦ reversed x.0 name Less (subst (λ (k : Seq ℕ). compared x.0 k ≡ Less) (sym (exact_bytes name m.0 equal)) less)
     ] in
     (here, past_to ms i m name up.1 more e over)
-
-pub begun : (ms : Seq Pair) (name : Seq ℕ) → IsBetween ms name 0 (length ms)
-begun ms name = record {
-  past = past_none ms name;
-  low_high = omega arith;
-  in_range = omega arith;
-  behind = λ m h e. absurd (omega (arith, h));
-}
-
-pub less_at : (ms : Seq Pair) (name : Seq ℕ) (low high i : ℕ) (m : Pair) → IsBetween ms name low high → low ≤ i → i < high → m ≡ get_or ms i m → compared name m.0 ≡ Less → IsBetween ms name low i
-less_at ms name low high i m so_far h k e less =
-    let range = so_far.in_range in
-    record {
-      past = so_far.past;
-      low_high = h;
-      in_range = omega (arith, range, k);
-      behind = λ n _ f. subst (λ (p : Pair). compared name p.0 ≡ Less) (e ∙ same_at ms i m n (omega (arith, range, k)) ∙ sym f) less;
-    }
-
-pub greater_at : (ms : Seq Pair) (name : Seq ℕ) (low high i : ℕ) (m : Pair) → IsAscending (entries ms) → IsBetween ms name low high → i < high → m ≡ get_or ms i m → compared name m.0 ≡ Greater → IsBetween ms name (i + 1) high
-greater_at ms name low high i m up so_far k e greater =
-    let range = so_far.in_range in
-    let within : i < length ms = omega (arith, range, k) in
-    let before : IsPast ms name i = record { past = past_to ms i m name up within e (inl greater) } in
-    record {
-      past = past_more ms i m name before within e greater;
-      low_high = omega arith;
-      in_range = range;
-      behind = so_far.behind;
-    }
 
 -- ---- what it finds
 
@@ -215,14 +180,37 @@ gap_last ms name i before h = record {
   puts = λ j. entries-insert ms i name j ∙ sym (gap_at_end ms i name before h (view j));
 }
 
-pub gap_at : (ms : Seq Pair) (name : Seq ℕ) (low high : ℕ) → IsAscending (entries ms) → IsBetween ms name low high → high ≤ low → IsGap ms name low
-gap_at ms name low high up so_far h =
-    let range = so_far.in_range in
-    let order = so_far.low_high in
-    let same : low ≡ high = omega (arith, h, order) in
-    elim (cases_lt low (length ms)) [
-      | inl within ↦ gap_before ms name low up so_far.past within (λ m e. so_far.behind m (omega (arith, same, within)) (e ∙ ap (λ (k : ℕ). get_or ms k m) same))
-      | inr end ↦ gap_last ms name low so_far.past (omega (arith, end, range, same))
+-- names all before which the name comes behind
+past_by : (ms : Seq Pair) (name : Seq ℕ) (i : ℕ) → i ≤ length ms → ((k : ℕ) (d : Pair) → k < length ms → k < i → compared (get_or ms k d).0 name ≡ Less) → AllPast name (take i ms)
+past_by [] name zero h before = tt
+past_by [] name (suc i) h before = absurd (omega arith)
+past_by (x ∷ ms) name zero h before = tt
+past_by (x ∷ ms) name (suc i) h before =
+    (reversed x.0 name Less (before 0 x (omega arith) (omega arith)), past_by ms name i (omega arith) (λ k d within less. before (suc k) d (omega arith) (omega arith)))
+
+pub gap_at : (ms : Seq Pair) (name : Seq ℕ) (i : ℕ) → IsAscending (entries ms) → i ≤ length ms → IsPartitionPoint (λ y. compared y.0 name ≡ Less) (λ y. compared y.0 name ≡ Greater) ms i → IsGap ms name i
+gap_at ms name i up h point =
+    let past : IsPast ms name i = record { past = past_by ms name i h (λ k d within less. point.0 k d (omega arith) less) } in
+    elim (cases_lt i (length ms)) [
+      | inl within ↦ gap_before ms name i up past within (λ m e. reversed m.0 name Greater (subst (λ (p : Pair). compared p.0 name ≡ Greater) (sym e) (point.1 i m (omega arith) within)))
+      | inr end ↦ gap_last ms name i past (omega (arith, end, h))
     ]
 
-pub ruleset places = (begun, less_at, greater_at, equal_at, gap_at)
+names_seen : (ms : Seq Pair) → map (λ e. e.0) (entries ms) ≡ map (λ (m : Pair). m.0) ms
+names_seen [] = refl
+names_seen (m ∷ ms) = ap (λ (ns : Seq (Seq ℕ)). m.0 ∷ ns) (names_seen ms)
+
+pub ascends : (ms : Seq Pair) → IsAscending (entries ms) → AreAscending (map (λ (m : Pair). m.0) ms)
+ascends ms up = subst AreAscending (names_seen ms) up
+
+-- ---- the answer of a binary search
+
+pub place_if : (ms : Seq Pair) (name : Seq ℕ) (r : Result ℕ ℕ) → IsAscending (entries ms) → IsSearchInRange r (length ms) → IsBinarySearchResult (λ y. compared y.0 name) ms r → IfOk r (IsPlace ms name)
+place_if ms name (Ok i) up within is =
+    let one = first_at ms i within in
+    equal_at ms name i one.0 up within one.1 (reversed one.0.0 name Equal (subst (λ (p : Pair). compared p.0 name ≡ Equal) (sym one.1) (is one.0)))
+place_if ms name (Err i) up within is = tt
+
+pub gap_if : (ms : Seq Pair) (name : Seq ℕ) (r : Result ℕ ℕ) → IsAscending (entries ms) → IsSearchInRange r (length ms) → IsBinarySearchResult (λ y. compared y.0 name) ms r → IfErr r (IsGap ms name)
+gap_if ms name (Ok i) up within is = tt
+gap_if ms name (Err i) up within is = gap_at ms name i up within (is (rises (λ (y : Pair). y.0) name ms (ascends ms up)))

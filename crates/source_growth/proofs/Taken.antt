@@ -162,7 +162,7 @@ member_some m k d add (Some f) ps h =
     (λ failed. rw failed h)
 
 mutual
-  mapped_some : (m : Mapping) (d : JsonValue) (path : Seq ℕ) (ps : Members) → some_member ps ≡ true → some_member (mapped_below m path d ps) ≡ true
+  pub mapped_some : (m : Mapping) (d : JsonValue) (path : Seq ℕ) (ps : Members) → some_member ps ≡ true → some_member (mapped_below m path d ps) ≡ true
   mapped_some m null path ps h = h
   mapped_some m (bool b) path ps h = h
   mapped_some m (whole z) path ps h = h

@@ -1,4 +1,5 @@
 -- What a reader must believe.
 pub mod Growth
+pub mod Said
 -- What serves proofs alone.
 pub mod Code

@@ -2,21 +2,12 @@
 ghost use Rattle.std.specs.Prelude.{◌≡◌, IfOk, Some, option_map, is_some, unwrap_or};
 ghost use Rattle.tree_json.specs.Value.{no_members, object, is_object, members_of};
 ghost use Rattle.tree_json.specs.View.{view, entries};
-ghost use Rattle.mapping_body.specs.Names.{is_property_name};
 ghost use Rattle.source_growth.specs.Growth.{found_below, holding, holds_objects, nested, plain, properties_in, typed};
 
 use crate::found::Found;
 use mapping::{Kind, NoMemory};
-use mapping_body::has_dot;
 use std::alloc::Global;
 use tree_json::{Json, JsonObject, JsonText};
-
-/// Whether a name may be a property's: 1 to 255 bytes and no dot.
-pub(crate) fn is_property_name(name: &[u8]) -> bool
-    ensures { result ≡ is_property_name name.now }
-{
-    !name.is_empty() && name.len() <= 255 && !has_dot(name)
-}
 
 /// Whether the values of a field of this kind are objects.
 pub(crate) fn holds_objects(kind: Kind) -> bool

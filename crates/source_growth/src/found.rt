@@ -12,7 +12,6 @@ ghost use Rattle.source_growth.specs.Growth.{put_member};
 use crate::form::copied;
 use mapping::NoMemory;
 use std::alloc::Global;
-use std::cmp::Ordering;
 use std::marker::Model;
 use std::mem::replace;
 use tree_json::{Json, JsonObject, JsonText};
@@ -144,23 +143,11 @@ fn inserted(
     Ok(())
 }
 
-/// Where a name stands, or the gap where it would go. It takes about log2 of the number of members comparisons.
-#[tactic(auto, using(crate::proofs::Puts::places))]
+/// Where a name stands, or the gap where it would go.
 fn place_of(members: &[(JsonText, Json)], name: &[u8]) -> Result<usize, usize>
     requires { IsAscending (entries members.now) }
     ensures place { IfOk result (IsPlace members.now name.now) }
     ensures gap { IfErr result (IsGap members.now name.now) }
 {
-    let mut low = 0;
-    let mut high = members.len();
-    'halves: while low < high {
-        let middle = low + (high - low) / 2;
-        let (key, _) = &members[middle];
-        match name.cmp(key.as_slice()) {
-            Ordering::Less => high = middle,
-            Ordering::Equal => return Ok(middle),
-            Ordering::Greater => low = middle + 1,
-        }
-    }
-    Err(low)
+    members.binary_search_by(|member| member.0.as_slice().cmp(name))
 }

@@ -11,6 +11,6 @@ mod law;
 mod mapped;
 mod unmapped;
 
-pub use law::growth_is_taken;
+pub use law::{growth_is_said_by_values, growth_is_taken};
 pub use mapped::seen;
 pub use mapping::NoMemory;

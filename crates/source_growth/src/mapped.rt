@@ -6,10 +6,11 @@ ghost use Rattle.mapping.specs.Mapping.{field_at, field_below, generation_of, ki
 ghost use Rattle.mapping_body.specs.Names.{is_property_name, joined};
 ghost use Rattle.source_growth.specs.Growth.{body_with, form_above, found_below, growth, holds_objects, mapped_among, mapped_below, mapped_in, with_form, with_member};
 
-use crate::form::{holding, holds_objects, is_property_name, plain, properties_of};
+use crate::form::{holding, holds_objects, plain, properties_of};
 use crate::found::Found;
 use crate::unmapped::add_unmapped;
 use mapping::{Mapping, NoMemory};
+use mapping_body::is_property_name;
 use std::alloc::Global;
 use tree_json::{Json, JsonText};
 

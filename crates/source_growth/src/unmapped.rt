@@ -4,9 +4,10 @@ ghost use Rattle.tree_json.specs.Value.{elements_of, member_of, members_of, no_m
 ghost use Rattle.tree_json.specs.View.{view, values, entries};
 ghost use Rattle.source_growth.specs.Growth.{first_value, first_value_in, form_after, more_form, new_form, properties_in, unmapped_among, unmapped_below, unmapped_in, with_form};
 
-use crate::form::{has_properties, is_property_name, plain, properties_of, typed};
+use crate::form::{has_properties, plain, properties_of, typed};
 use crate::found::Found;
 use mapping::NoMemory;
+use mapping_body::is_property_name;
 use std::alloc::Global;
 use tree_json::{Json, JsonText};
 

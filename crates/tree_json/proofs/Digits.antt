@@ -1,5 +1,5 @@
 -- How many digits short numbers have.
-use Rattle.std.proofs.Common.{arith, length-append, ap, ◌∙◌, sym, ◌≡◌, ℕ, ◌+◌, ◌/◌, ◌%◌, ◌<◌, ◌≤◌, ◌^◌, [], ◌∷◌, length, refl}
+use Rattle.std.proofs.Common.{arith, length-append, sym, ◌≡◌, ℕ, ◌+◌, ◌/◌, ◌%◌, ◌<◌, ◌≤◌, ◌^◌, [], ◌∷◌, length, refl}
 use Rattle.std.specs.Prelude.{decimal}
 use Rattle.std.proofs.lemmas.Fmt.{decimal_digit, decimal_step}
 

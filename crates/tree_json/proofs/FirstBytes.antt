@@ -9,8 +9,9 @@ use Rattle.json.specs.Json as json
 use Rattle.json.specs.Json.{document}
 use Rattle.serde_json.specs.Data.{Num, unsigned, negative, float}
 use Rattle.serde_json.specs.Read.{number_of}
-use Rattle.tree_json.proofs.Said.{Where, IsRead, IsOf64, number_read}
+use Rattle.tree_json.proofs.Said.{Where, IsRead, number_read}
 use Rattle.tree_json.specs.Said.{whole_of, said, said_if, said_by, IsCompact}
+use Rattle.tree_json.specs.Sound.{IsOf64}
 use Rattle.tree_json.specs.Text.{compact, quoted}
 use Rattle.tree_json.specs.Value.{JsonValue, is_object}
 

@@ -7,7 +7,9 @@ pub mod Readings
 pub mod Insertion
 pub mod SoFar
 pub mod Tokens
-mod Said
+pub mod Said
+pub mod RoundTrip
+mod FewLevels
 mod FirstBytes
 mod Compacted
 mod Kept

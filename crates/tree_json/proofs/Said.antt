@@ -1,5 +1,5 @@
 -- The compact text of a value that was read says that value.
-use Rattle.std.proofs.Common.{◌≡◌, ℕ, zero, suc, ◌^◌, ◌<◌, ◌≤◌, ℤ, pos, negsuc, Bool, true, false, ◌&&◌, List as Seq, ◌∷◌, ◌++◌, codes, Option, Some, None, Ordering, Less, Equal, Greater, option_map, option_and_then, refl, sym, ap, ap₂, subst, ◌∙◌, append_assoc, arith}
+use Rattle.std.proofs.Common.{◌≡◌, ℕ, zero, suc, ◌^◌, ◌<◌, ◌≤◌, max, ℤ, pos, negsuc, Bool, true, false, ◌&&◌, List as Seq, ◌∷◌, ◌++◌, codes, Option, Some, None, Ordering, Less, Equal, Greater, option_map, option_and_then, refl, sym, ap, ap₂, subst, ◌∙◌, append_assoc, arith}
 use Rattle.std.proofs.lemmas.Bool.{ltb-true, leb-true, and_parts}
 use Rattle.std.specs.Float.{binary64, float_is_finite}
 use Rattle.std.specs.Fmt.{signed_decimal}
@@ -24,18 +24,20 @@ use Rattle.serde_json.proofs.Numbers.{number_of-decimal, number_of-negative}
 use Rattle.serde_json.proofs.Texts.{print-outline}
 use Rattle.tree_json.specs.Quick.{SaysText}
 use Rattle.tree_json.specs.Reading.{whole_value, whole_elements, whole_members}
+use Rattle.tree_json.specs.Levels.{levels, elements_levels, members_levels, most_levels}
 use Rattle.tree_json.specs.Said.{whole_of, said, said_items, said_members, said_if, said_by}
+use Rattle.tree_json.specs.Sound.{IsOf64}
 use Rattle.tree_json.specs.Text.{quoted, comma_if, compact, compact_elements, compact_members, compact_member}
 use Rattle.tree_json.specs.Value.{JsonValue, null, bool, whole, text, list, object, Elements, no_elements, element, Members, no_members, member}
 
 -- ---- a value as `serde_json`'s data
 
-abbrev number_data : ℤ → Num
+abbrev pub number_data : ℤ → Num
 number_data (pos n) = unsigned n
 number_data (negsuc n) = negative (negsuc n)
 
 abbrev mutual
-  data_of : JsonValue → source.Data
+  pub data_of : JsonValue → source.Data
   data_of null = source.null
   data_of (bool b) = source.boolean b
   data_of (whole z) = source.number (number_data z)
@@ -43,11 +45,11 @@ abbrev mutual
   data_of (list ds) = source.array (items_of ds)
   data_of (object ms) = source.object (pairs_of ms)
 
-  items_of : Elements → source.Items
+  pub items_of : Elements → source.Items
   items_of no_elements = source.no_items
   items_of (element d ds) = source.item (data_of d) (items_of ds)
 
-  pairs_of : Members → source.Members
+  pub pairs_of : Members → source.Members
   pairs_of no_members = source.no_members
   pairs_of (member k d ms) = source.member k (data_of d) (pairs_of ms)
 
@@ -69,7 +71,7 @@ comma_same : (later : Bool) (s t : Seq ℕ) → s ≡ t → comma_if later ++ s 
 comma_same later s t e = ap (λ r. comma_if later ++ r) e
 
 mutual
-  same_text : (v : JsonValue) → compact_text (data_of v) ≡ compact v
+  pub same_text : (v : JsonValue) → compact_text (data_of v) ≡ compact v
   same_text null = refl
   same_text (bool b) = same_bool b
   same_text (whole z) = same_number z
@@ -96,12 +98,8 @@ mutual
 
 -- ---- whole numbers of 64 bits are read back
 
-abbrev pub IsOf64 : ℤ → Type 0
-IsOf64 (pos n) = n < 2 ^ 63
-IsOf64 (negsuc n) = n < 2 ^ 63
-
 abbrev mutual
-  AreOf64 : JsonValue → Type 0
+  pub AreOf64 : JsonValue → Type 0
   AreOf64 null = ⊤
   AreOf64 (bool b) = ⊤
   AreOf64 (whole z) = IsOf64 z
@@ -109,15 +107,15 @@ abbrev mutual
   AreOf64 (list ds) = ElementsAreOf64 ds
   AreOf64 (object ms) = MembersAreOf64 ms
 
-  ElementsAreOf64 : Elements → Type 0
+  pub ElementsAreOf64 : Elements → Type 0
   ElementsAreOf64 no_elements = ⊤
   ElementsAreOf64 (element d ds) = AreOf64 d × ElementsAreOf64 ds
 
-  MembersAreOf64 : Members → Type 0
+  pub MembersAreOf64 : Members → Type 0
   MembersAreOf64 no_members = ⊤
   MembersAreOf64 (member k d ms) = AreOf64 d × MembersAreOf64 ms
 
-number_back : (z : ℤ) → IsOf64 z → whole_of (number_of (number_text (number_data z))) ≡ z
+pub number_back : (z : ℤ) → IsOf64 z → whole_of (number_of (number_text (number_data z))) ≡ z
 number_back (pos n) h = ap whole_of (number_of-decimal n (omega arith))
 number_back (negsuc n) h = ap whole_of (number_of-negative n h)
 
@@ -145,7 +143,7 @@ number_is (pos n) h = IsNumber-decimal n (omega arith)
 number_is (negsuc n) h = IsNumber-signed_decimal (negsuc n) h
 
 mutual
-  has_numbers : (v : JsonValue) → AreOf64 v → HasNumbers (outline (data_of v))
+  pub has_numbers : (v : JsonValue) → AreOf64 v → HasNumbers (outline (data_of v))
   has_numbers null h = tt
   has_numbers (bool b) h = tt
   has_numbers (whole z) h = number_is z h
@@ -161,15 +159,29 @@ mutual
   pairs_have_numbers no_members h = tt
   pairs_have_numbers (member k d ms) h = (has_numbers d h.0, pairs_have_numbers ms h.1)
 
-abbrev levels : JsonValue → ℕ
-levels v = tree.depth (outline (data_of v))
+mutual
+  pub same_depth : (v : JsonValue) → tree.depth (outline (data_of v)) ≡ levels v
+  same_depth null = refl
+  same_depth (bool b) = refl
+  same_depth (whole z) = refl
+  same_depth (text s) = refl
+  same_depth (list ds) = ap suc (same_items_depth ds)
+  same_depth (object ms) = ap suc (same_pairs_depth ms)
+
+  same_items_depth : (ds : Elements) → tree.items_depth (items_outline (items_of ds)) ≡ elements_levels ds
+  same_items_depth no_elements = refl
+  same_items_depth (element d ds) = ap₂ max (same_depth d) (same_items_depth ds)
+
+  same_pairs_depth : (ms : Members) → tree.members_depth (members_outline (pairs_of ms)) ≡ members_levels ms
+  same_pairs_depth no_members = refl
+  same_pairs_depth (member k d ms) = ap₂ max (same_depth d) (same_pairs_depth ms)
 
 said_by_compact : (v : JsonValue) → AreOf64 v → levels v ≤ max_depth → said_by (compact v) ≡ v
 unfolding said_by
 said_by_compact v h shallow =
     let j = outline (data_of v) in
     ap (λ s. said_if (document s)) (sym (print-outline (data_of v) ∙ same_text v))
-    ∙ ap said_if (document-print j (has_numbers v h) shallow)
+    ∙ ap said_if (document-print j (has_numbers v h) (omega (arith, same_depth v, shallow)))
     ∙ said_back v h
 
 -- ---- what was read has whole numbers of 64 bits
@@ -283,10 +295,10 @@ abbrev Fits : ℕ → JsonValue → Type 0
 Fits n v = AreOf64 v × (levels v ≤ n)
 
 abbrev ItemsFit : ℕ → Elements → Type 0
-ItemsFit n ds = ElementsAreOf64 ds × (tree.items_depth (items_outline (items_of ds)) ≤ n)
+ItemsFit n ds = ElementsAreOf64 ds × (elements_levels ds ≤ n)
 
 abbrev PairsFit : ℕ → Members → Type 0
-PairsFit n ms = MembersAreOf64 ms × (tree.members_depth (members_outline (pairs_of ms)) ≤ n)
+PairsFit n ms = MembersAreOf64 ms × (members_levels ms ≤ n)
 
 unsigned_fits : (n : ℕ) (b : Bool) → nat_lt n (2 ^ 63) ≡ b → Where IsOf64 (if b then Some (pos n) else None)
 unsigned_fits n true e = ltb-true n (2 ^ 63) e
@@ -318,9 +330,18 @@ mutual
       and_more (Fits n) (PairsFit n) _ (λ e x. mapped (PairsFit n) (PairsFit n) (member k e) (λ es y. ((x.0, y.0), omega (arith, x.1, y.1))) (whole_members ms) (members_fit ms n h.1 (omega arith))) (whole_value d)
       (value_fits d n h.0 (omega arith))
 
+-- a value that was read
+read_fits : (bytes : Seq ℕ) (v : JsonValue) → SaysText (read bytes) v → Fits most_levels v
+read_fits bytes v found =
+    let numbers : AreRead found.says = subst (Where AreRead) found.parses (text_read bytes) in
+    subst (Where (Fits most_levels)) found.whole (value_fits found.says most_levels numbers (depth-read bytes found.says found.parses))
+
 -- the text of a value that was read says it
 pub said_by-compact : (bytes : Seq ℕ) (v : JsonValue) → SaysText (read bytes) v → said_by (compact v) ≡ v
 said_by-compact bytes v found =
-    let numbers : AreRead found.says = subst (Where AreRead) found.parses (text_read bytes) in
-    let fits : Fits 127 v = subst (Where (Fits 127)) found.whole (value_fits found.says 127 numbers (depth-read bytes found.says found.parses)) in
+    let fits = read_fits bytes v found in
     said_by_compact v fits.0 (omega (arith, fits.1))
+
+-- a value that was read has few levels
+pub levels_read : (bytes : Seq ℕ) (v : JsonValue) → SaysText (read bytes) v → levels v ≤ most_levels
+levels_read bytes v found = (read_fits bytes v found).1

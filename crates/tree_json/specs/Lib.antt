@@ -1,4 +1,6 @@
 pub mod Value
+pub mod Levels
+pub mod Sound
 pub mod Code
 pub mod Names
 pub mod View

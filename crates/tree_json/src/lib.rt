@@ -7,6 +7,7 @@
 
 mod compact_text;
 mod compactor;
+mod law;
 mod one_text;
 mod out_text;
 mod printer;
@@ -19,6 +20,7 @@ mod value;
 mod whole;
 
 pub use compact_text::CompactText;
+pub use law::what_is_read_has_few_levels;
 pub use one_text::OneText;
 pub use out_text::{NoMemory, OutText};
 pub use printer::{compact_len, print, put};

@@ -1,7 +1,11 @@
 //! From a value to its compact text. The length comes first: then the text goes into room that is there, and that
 //! can't fail.
 ghost use Rattle.std.specs.Prelude.{◌≡◌, ◌-◌, ◌≤◌, ◌^◌, ◌++◌, ◌+◌, min, length, OnOk, OnErr, IsOk, true, false};
+ghost use Rattle.std.specs.Str.{IsUtf8};
+ghost use Rattle.tree_json.specs.Levels.{levels, most_levels};
 ghost use Rattle.tree_json.specs.Output.{room_of};
+ghost use Rattle.tree_json.specs.Reading.{reading, value as is_value};
+ghost use Rattle.tree_json.specs.Sound.{IsSound, AreSound, MembersAreSound};
 ghost use Rattle.tree_json.specs.Text.{compact, compact_elements, compact_members, compact_member, comma_if};
 ghost use Rattle.tree_json.specs.Value.{elements_of, members_of};
 ghost use Rattle.tree_json.specs.View.{view, values, entries};
@@ -12,11 +16,14 @@ use crate::value::{Json, JsonText};
 use crate::whole::{put_whole, whole_len};
 
 /// Appends the compact text of the value: no blanks, an object's names in byte order. It makes room for the whole
-/// text first, so that after NoMemory nothing is written.
+/// text first, so that after NoMemory nothing is written. The text of a value that nests as little as what is read reads
+/// back as that value.
+#[tactic(auto, using(crate::proofs::RoundTrip::reads_back))]
 pub fn print(value: &Json, into: &mut OutText) -> Result<(), NoMemory>
     ensures ok { OnOk result (into.new.bytes ≡ into.old.bytes ++ compact (view value.now)) }
     ensures unchanged { OnErr result (into.new ≡ into.old) }
     ensures succeeds { length (compact (view value.now)) ≤ into.old.spare → IsOk result }
+    ensures again { OnOk result (levels (view value.now) ≤ most_levels → reading (compact (view value.now)) ≡ is_value (view value.now)) }
     ensures room { room_of into.old ≤ room_of into.new }
 {
     into.reserve(compact_len(value))?;
@@ -28,7 +35,8 @@ pub fn print(value: &Json, into: &mut OutText) -> Result<(), NoMemory>
 #[cycle(measure)]
 #[tactic(auto, using(crate::proofs::Sizes::sizes))]
 pub fn compact_len(value: &Json) -> u64
-    ensures { result ≡ min (length (compact (view value.now))) (2 ^ 64 - 1) }
+    ensures length { result ≡ min (length (compact (view value.now))) (2 ^ 64 - 1) }
+    ensures sound { IsSound (view value.now) }
 {
     match value {
         Json::Null => 4,
@@ -45,7 +53,8 @@ pub fn compact_len(value: &Json) -> u64
 #[cycle(measure)]
 #[tactic(auto, using(crate::proofs::Sizes::sizes))]
 fn elements_len(elements: &[Json]) -> u64
-    ensures { result ≡ min (length (compact_elements false (elements_of (values elements.now)))) (2 ^ 64 - 1) }
+    ensures length { result ≡ min (length (compact_elements false (elements_of (values elements.now)))) (2 ^ 64 - 1) }
+    ensures sound { AreSound (elements_of (values elements.now)) }
 {
     let mut total: u64 = 0;
     let mut later = false;
@@ -62,7 +71,8 @@ fn elements_len(elements: &[Json]) -> u64
 #[cycle(measure)]
 #[tactic(auto, using(crate::proofs::Sizes::sizes))]
 fn members_len(members: &[(JsonText, Json)]) -> u64
-    ensures { result ≡ min (length (compact_members false (members_of (entries members.now)))) (2 ^ 64 - 1) }
+    ensures length { result ≡ min (length (compact_members false (members_of (entries members.now)))) (2 ^ 64 - 1) }
+    ensures sound { MembersAreSound (members_of (entries members.now)) }
 {
     let mut total: u64 = 0;
     let mut later = false;
@@ -78,7 +88,8 @@ fn members_len(members: &[(JsonText, Json)]) -> u64
 #[cycle(measure)]
 #[tactic(auto, using(crate::proofs::Sizes::sizes))]
 fn member_len(member: &(JsonText, Json)) -> u64
-    ensures { result ≡ min (length (compact_member member.now.0 (view member.now.1))) (2 ^ 64 - 1) }
+    ensures length { result ≡ min (length (compact_member member.now.0 (view member.now.1))) (2 ^ 64 - 1) }
+    ensures sound { IsUtf8 member.now.0 × IsSound (view member.now.1) }
 {
     let (name, value) = member;
     quoted_len(name.as_slice())

@@ -7,3 +7,5 @@ pub mod Numerals
 pub mod Terms
 pub mod Further
 pub mod Kept
+pub mod Faultless
+pub mod Weights

@@ -48,14 +48,17 @@ holds_objects Plain = true
 holds_objects Nested = true
 holds_objects kind = false
 
--- Of a value at a field, whose path is given: a list stands for its elements, but for a join; null is no value; and an
--- object under a plain object or a nested field is walked. What has no field in the generation is no fault.
+-- of an object as the value of a field
+abbrev pub fault_of_object : Mapping → ℕ → ℕ → Kind → Members → Option Fault
+fault_of_object m g f kind ms = if holds_objects kind then None else fault_single m g f kind (object ms)
+
+-- Of a value at a field, whose path is given: a list stands for its elements, but for a join; null is no value; and what
+-- stands in an object is walked. What has no field in the generation is no fault.
 abbrev mutual
   pub fault_at : Mapping → ℕ → List ℕ → ℕ → Kind → JsonValue → Option Fault
   fault_at m g path f kind null = None
   fault_at m g path f kind (list ds) = if is_join kind then Some BadJoin else fault_in m g path f kind ds
-  fault_at m g path f kind (object ms) =
-      if holds_objects kind then fault_among m g path ms else fault_single m g f kind (object ms)
+  fault_at m g path f kind (object ms) = first_of (fault_of_object m g f kind ms) (fault_among m g path ms)
   fault_at m g path f kind (bool b) = fault_single m g f kind (bool b)
   fault_at m g path f kind (whole z) = fault_single m g f kind (whole z)
   fault_at m g path f kind (text s) = fault_single m g f kind (text s)

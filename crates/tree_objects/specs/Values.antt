@@ -88,6 +88,11 @@ has_values Nested = false
 has_values Join = false
 has_values kind = true
 
+-- the bytes that a value is written by; a number has none
+abbrev pub written_bytes : FieldValue → ℕ
+written_bytes (Number z) = 0
+written_bytes (Written s) = length s
+
 -- ---- the values of a field at an object
 
 -- at an object that stands at the field's home: what is found along the names of the field, converted

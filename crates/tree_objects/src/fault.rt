@@ -109,17 +109,18 @@ fn fault_at(
         Json::Null => Ok(None),
         Json::List(list) => fault_of_list(alloc, mapping, generation, field, list.as_slice()),
         Json::Object(object) => {
-            if holds_objects(mapping.kind(field)) {
-                fault_among(
-                    alloc,
-                    mapping,
-                    generation,
-                    mapping.path(field),
-                    object.as_slice(),
-                )
-            } else {
-                fault_single(alloc, mapping, generation, field, value)
+            if !holds_objects(mapping.kind(field)) {
+                if let Some(fault) = fault_single(alloc, mapping, generation, field, value)? {
+                    return Ok(Some(fault));
+                }
             }
+            fault_among(
+                alloc,
+                mapping,
+                generation,
+                mapping.path(field),
+                object.as_slice(),
+            )
         }
         _ => fault_single(alloc, mapping, generation, field, value),
     }

@@ -1,15 +1,18 @@
 //! Laws: what holds of the objects of every tree, as the contract of a function that does nothing.
-ghost use Rattle.std.specs.Prelude.{◌≡◌, ◌≢◌, ℕ, ◌<◌, ◌≤◌, ◌+◌, [], ◌∷◌, length, filter, get_or, true};
-ghost use Rattle.std.specs.List.{Contains, flat_map};
+ghost use Rattle.std.specs.Prelude.{◌≡◌, ◌≢◌, ℕ, ◌<◌, ◌≤◌, ◌+◌, [], ◌∷◌, length, filter, get_or, true, false, None};
+ghost use Rattle.std.specs.List.{All, Contains, flat_map, sum_by};
+ghost use Rattle.tree_json.specs.Text.{compact};
+ghost use Rattle.tree_json.specs.Value.{is_object};
 ghost use Rattle.tree_objects.specs.Enclosing.{IsEnclosing, stands_at};
 ghost use Rattle.mapping.specs.Growth.{HasFurtherBodies};
 ghost use Rattle.mapping.specs.IsMapping.{IsMapping};
-ghost use Rattle.mapping.specs.Mapping.{Mapping, IsAbove, generation_of, home_of, outer, shows};
+ghost use Rattle.mapping.specs.Reached.{AreReached};
+ghost use Rattle.mapping.specs.Mapping.{Mapping, IsAbove, generation_of, home_of, kind_at, outer, shows};
 ghost use Rattle.tree_json.specs.Value.{JsonValue};
-ghost use Rattle.tree_objects.specs.Fault.{first_fault};
+ghost use Rattle.tree_objects.specs.Fault.{first_fault, has_long_term};
 ghost use Rattle.tree_objects.specs.Object.{Object, around, below, block_objects, children, objects, place, root, scope, tree_of};
 ghost use Rattle.tree_objects.specs.Tree.{Tree};
-ghost use Rattle.tree_objects.specs.Values.{join_of, own_values, values};
+ghost use Rattle.tree_objects.specs.Values.{join_of, own_values, values, written_bytes};
 
 /// The objects of a tree have different places, and are parted by their scopes: each stands at one scope of the mapping, at
 /// the root's scope there is the root alone, and at a nested path there are, in document order, the objects below the
@@ -37,4 +40,12 @@ pub fn further_bodies_leave_trees()
     ensures later { (m m2 : Mapping) (f : ℕ) (o : Object) → HasFurtherBodies m m2 → (tree_of o).generation ≤ generation_of m → length m.fields ≤ f → f < length m2.fields → values m2 f o ≡ [] }
     ensures join { (m m2 : Mapping) (tree : Tree) → HasFurtherBodies m m2 → tree.generation ≤ generation_of m → join_of m2 tree ≡ join_of m tree }
     ensures faults { (m m2 : Mapping) (generation : ℕ) (source : JsonValue) → HasFurtherBodies m m2 → generation ≤ generation_of m → first_fault m2 generation source ≡ first_fault m generation source }
+{}
+
+/// An object shows at most as many values of a field as its tree's source has bytes as compact text, and they have together
+/// at most as many bytes. Where the source has no fault none of them has a long term.
+pub fn values_are_bounded()
+    ensures count { (m : Mapping) (tree : Tree) (o : Object) (f : ℕ) → Contains (block_objects m tree) o → length (values m f o) ≤ length (compact tree.source) }
+    ensures bytes { (m : Mapping) (tree : Tree) (o : Object) (f : ℕ) → Contains (block_objects m tree) o → sum_by written_bytes (values m f o) ≤ length (compact tree.source) }
+    ensures short { (m : Mapping) (tree : Tree) (o : Object) (f : ℕ) → IsMapping m → AreReached m → is_object tree.source ≡ true → first_fault m tree.generation tree.source ≡ None → Contains (block_objects m tree) o → f < length m.fields → All (λ v. has_long_term (kind_at m f) v ≡ false) (values m f o) }
 {}

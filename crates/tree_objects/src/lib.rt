@@ -17,6 +17,6 @@ mod tests;
 pub use convert::{is_of_kind, value_of};
 pub use fault::{Fault, first_fault};
 pub use field_value::FieldValue;
-pub use law::{further_bodies_leave_trees, objects_nest};
+pub use law::{further_bodies_leave_trees, objects_nest, values_are_bounded};
 pub use mapping::Bytes;
 pub use refusal::ValueRefusal;

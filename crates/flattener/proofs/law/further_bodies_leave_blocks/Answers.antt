@@ -1,4 +1,4 @@
-use Rattle.flattener.proofs.Further.{KeepsTrees, block_same, entry_same}
+use Rattle.flattener.proofs.Further.{block_of_same, block_same, entry_same}
 use Rattle.flattener.proofs.FitsFurther.{segment_fits_further}
 use Rattle.flattener.proofs.law.further_bodies_leave_blocks.Goals as goal
 
@@ -26,3 +26,14 @@ returns-clause-block c = λ m m2 block is is2 has fits.
       join = λ tree before. c.further_bodies_leave_trees.ensures.join m m2 tree has before;
       faults = λ g source before. c.further_bodies_leave_trees.ensures.faults m m2 g source has before;
     }) fits
+
+pub returns-clause-same : goal.returns-clause-same
+returns-clause-same c = λ m m2 tree is is2 has old.
+    block_of_same m m2 tree has
+    (record {
+      objects = λ tree before. c.further_bodies_leave_trees.ensures.objects m m2 tree is is2 has before;
+      shown = λ f o h. c.further_bodies_leave_trees.ensures.values m m2 f o is has h;
+      later = λ f o before h k. c.further_bodies_leave_trees.ensures.later m m2 f o has before h k;
+      join = λ tree before. c.further_bodies_leave_trees.ensures.join m m2 tree has before;
+      faults = λ g source before. c.further_bodies_leave_trees.ensures.faults m m2 g source has before;
+    }) old

@@ -11,7 +11,6 @@ use Rattle.mapping_growth.specs.Judged.{lies_deep, holds_objects, is_join_outlin
 use Rattle.mapping_growth.proofs.Adding.{additions_more}
 use Rattle.mapping_growth.proofs.Counted.{count_append, new_any, new_counted, new_many}
 use Rattle.mapping_growth.proofs.Fitting.{fit}
-use Rattle.mapping_growth.proofs.Keeping.{more_than}
 use Rattle.mapping_growth.proofs.limit.is_deep.Goals as goal
 
 pub returns : goal.returns

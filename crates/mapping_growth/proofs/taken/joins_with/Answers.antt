@@ -1,29 +1,21 @@
-use Rattle.std.proofs.Common.{◌≡◌, ◌+◌, ◌≤◌, ◌∙◌, sym, ap, subst, map, length, arith, List, ℕ, filter, not, ◌||◌, Bool, false}
-use Rattle.std.proofs.lemmas.List.{length-append}
-use Rattle.std.proofs.lemmas.List.Folds.{list_any-append}
-use Rattle.std.specs.List.{list_any, count_by}
+use Rattle.std.proofs.Common.{◌≡◌, ◌++◌, ◌∷◌, [], ◌∙◌, sym, ap, length, List, count_by}
 use Rattle.tree_json.specs.Value.{JsonValue}
 use Rattle.tree_json.specs.View.{view}
-use Rattle.mapping_growth.specs.Bodies.{is_bad_join, is_deep, says_join, says_nested}
-use Rattle.mapping_body.specs.Body.{Property, properties_of}
+use Rattle.mapping_body.specs.Body.{properties_of}
+use Rattle.mapping_growth.specs.Bodies.{says_join}
 use Rattle.mapping_growth.specs.Fields.{additions_of, draft_paths, drafts_of, properties_added}
-use Rattle.mapping_growth.specs.Judged.{lies_deep, holds_objects, is_join_outline, is_bad_outline}
+use Rattle.mapping_growth.specs.Judged.{is_join_outline}
+use Rattle.mapping_growth.specs.Kept.{counted}
 use Rattle.mapping_growth.proofs.Adding.{additions_more}
-use Rattle.mapping_growth.proofs.Counted.{count_append, new_any, new_counted, new_many}
-use Rattle.mapping_growth.proofs.Fitting.{fit}
-use Rattle.mapping_growth.proofs.Keeping.{more_than}
-use Rattle.std.proofs.Common.{◌++◌, ◌∷◌, []}
+use Rattle.mapping_growth.proofs.Counted.{count_append, new_counted}
+use Rattle.mapping_growth.proofs.Keeping.{counted_more}
 use Rattle.mapping_growth.proofs.taken.joins_with.Goals as goal
 
-sum : (c : goal.After-join_count) → count_by says_join (additions_of (c.args.said.now ++ view c.args.candidate.now.body.now ∷ [])) ≡ c.said.inside.counts.joins + c.join_count.result
-sum c =
-    let few : c.said.inside.counts.joins ≡ count_by says_join (additions_of c.args.said.now) = c.said.invariant.1.joins_is ∙ ap (λ (bs : List JsonValue). count_by says_join (additions_of bs)) c.said.view_is in
-    let many : c.join_count.result ≡ count_by says_join (properties_added (draft_paths (drafts_of c.args.said.now)) (view c.args.candidate.now.body.now)) =
-    rw c.as_slice.ensures.value at c.join_count.ensures ∙ new_counted (draft_paths (drafts_of c.args.said.now)) c.args.candidate.now.outlines.items (properties_of (view c.args.candidate.now.body.now)) c.requires.candidate.properties is_join_outline in
-    ap (count_by says_join) (additions_more c.args.said.now (view c.args.candidate.now.body.now)) ∙ count_append says_join (additions_of c.args.said.now) (properties_added (draft_paths (drafts_of c.args.said.now)) (view c.args.candidate.now.body.now)) ∙ omega (arith, few, many)
-
-pub overflow_add-result : goal.overflow_add-result
-overflow_add-result c = omega (arith, sum c, (fit _ c.requires.within).joins)
-
 pub returns : goal.returns
-returns c = sym (sum c)
+returns c =
+    let few : c.said.inside.counts.joins ≡ counted (count_by says_join (additions_of c.args.said.now)) = c.said.invariant.1.joins_is ∙ ap (λ (bs : List JsonValue). counted (count_by says_join (additions_of bs))) c.said.view_is in
+    let many : c.join_count-more.result ≡ count_by says_join (properties_added (draft_paths (drafts_of c.args.said.now)) (view c.args.candidate.now.body.now)) =
+    rw c.as_slice.ensures.value at c.join_count-more.ensures ∙ new_counted (draft_paths (drafts_of c.args.said.now)) c.args.candidate.now.outlines.items (properties_of (view c.args.candidate.now.body.now)) c.requires.properties is_join_outline in
+    let whole = ap (count_by says_join) (additions_more c.args.said.now (view c.args.candidate.now.body.now)) ∙ count_append says_join (additions_of c.args.said.now) (properties_added (draft_paths (drafts_of c.args.said.now)) (view c.args.candidate.now.body.now)) in
+    let sum = counted_more (count_by says_join (additions_of c.args.said.now)) (count_by says_join (properties_added (draft_paths (drafts_of c.args.said.now)) (view c.args.candidate.now.body.now))) (count_by says_join (additions_of (c.args.said.now ++ view c.args.candidate.now.body.now ∷ []))) whole in
+    (rw (few, many) at c.saturating_add.ensures) ∙ sum

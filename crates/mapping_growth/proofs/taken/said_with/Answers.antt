@@ -13,5 +13,5 @@ invariant_of-result c =
     rw c.in_ok-bodies.ensures (
       kept_by_orders (c.args.said.now ++ view c.args.candidate.now.body.now ∷ []) c.in_ok-fields.fields.items c.in_ok-by_path.by_path.items c.args.relations.items c.in_ok-by_name.by_name.items
           c.in_ok-fields.ensures c.requires.relations (rw c.as_slice.ensures.value at c.in_ok-by_path.ensures) (rw c.as_slice-2.ensures.value at c.in_ok-by_name.ensures) few_fields few_relations,
-      c.counts_with-counts.ensures,
+      c.requires.counts,
     )

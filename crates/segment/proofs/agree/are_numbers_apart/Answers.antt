@@ -1,6 +1,6 @@
 use Rattle.std.proofs.Common.{◌∙◌, ap, ℕ, ℤ, List, IsNone, arith}
-use Rattle.segment.specs.Fields.{column_of}
-use Rattle.segment.proofs.Passes.{pass_more, answer_all, none_seen}
+use Rattle.segment_parts.specs.Fields.{column_of}
+use Rattle.segment_parts.specs.Passes.{pass_more, answer_all, none_seen}
 use Rattle.segment.proofs.agree.are_numbers_apart.Goals as goal
 
 pub columns-preserved : goal.columns-preserved

@@ -1,6 +1,6 @@
-use Rattle.segment.proofs.Passes.{PassBefore}
+use Rattle.segment_parts.specs.Passes.{PassBefore}
 use Rattle.std.proofs.Common.{ℕ, ℤ, List, IsNone}
-use Rattle.segment.specs.Fields.{column_of}
+use Rattle.segment_parts.specs.Fields.{column_of}
 use Rattle.segment.proofs.agree.are_numbers_apart.Given as goal
 
 abbrev pub invariant-columns : goal.invariant-columns

@@ -1,6 +1,6 @@
 use Rattle.std.proofs.Common.{ℕ, ℤ, List, subst, arith}
-use Rattle.segment.specs.Agree.{AreWithin}
-use Rattle.segment.proofs.Passes.{pass_more, answer_all}
+use Rattle.segment_parts.specs.Agree.{AreWithin}
+use Rattle.segment_parts.specs.Passes.{pass_more, answer_all}
 use Rattle.segment.proofs.agree.are_numbers_within.Goals as goal
 
 pub columns-preserved : goal.columns-preserved

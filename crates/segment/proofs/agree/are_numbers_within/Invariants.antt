@@ -1,6 +1,6 @@
-use Rattle.segment.proofs.Passes.{PassBefore}
+use Rattle.segment_parts.specs.Passes.{PassBefore}
 use Rattle.std.proofs.Common.{ℕ, ℤ, List}
-use Rattle.segment.specs.Agree.{AreWithin}
+use Rattle.segment_parts.specs.Agree.{AreWithin}
 use Rattle.segment.proofs.agree.are_numbers_within.Given as goal
 
 abbrev pub invariant-columns : goal.invariant-columns

@@ -1,5 +1,5 @@
-use Rattle.segment.proofs.Passes.{PassBefore}
-use Rattle.segment.specs.Agree.{IsStored}
+use Rattle.segment_parts.specs.Passes.{PassBefore}
+use Rattle.segment_parts.specs.Agree.{IsStored}
 use Rattle.segment.proofs.agree.are_stored.Given as goal
 
 abbrev pub invariant-roots : goal.invariant-roots

@@ -1,6 +1,6 @@
-use Rattle.segment.proofs.Passes.{PassBefore}
-use Rattle.segment.specs.Agree.{IsKeyed}
-use Rattle.segment.specs.Lists.{terms_of, postings_of}
+use Rattle.segment_parts.specs.Passes.{PassBefore}
+use Rattle.segment_parts.specs.Agree.{IsKeyed}
+use Rattle.segment_parts.specs.Lists.{terms_of, postings_of}
 use Rattle.segment.proofs.agree_columns.are_keyed.Given as goal
 
 abbrev pub invariant-values : goal.invariant-values

@@ -1,7 +1,7 @@
 use Rattle.std.proofs.Common.{◌∙◌, Some, ℕ, ℤ, List, All, sym, ap, arith}
-use Rattle.segment.specs.Agree.{IsKeyed}
-use Rattle.segment.specs.Lists.{terms_of, postings_of}
-use Rattle.segment.proofs.Passes.{pass_more, answer_all, answer_not}
+use Rattle.segment_parts.specs.Agree.{IsKeyed}
+use Rattle.segment_parts.specs.Lists.{terms_of, postings_of}
+use Rattle.segment_parts.specs.Passes.{pass_more, answer_all, answer_not}
 use Rattle.segment.proofs.agree_columns.are_keyed_rows.Goals as goal
 
 pub returns-then-not-are_keyed : goal.returns-then-not-are_keyed

@@ -1,7 +1,7 @@
-use Rattle.segment.proofs.Passes.{PassBefore}
+use Rattle.segment_parts.specs.Passes.{PassBefore}
 use Rattle.std.proofs.Common.{ℕ, ℤ, List, All}
-use Rattle.segment.specs.Agree.{IsKeyed}
-use Rattle.segment.specs.Lists.{terms_of, postings_of}
+use Rattle.segment_parts.specs.Agree.{IsKeyed}
+use Rattle.segment_parts.specs.Lists.{terms_of, postings_of}
 use Rattle.segment.proofs.agree_columns.are_keyed_rows.Given as goal
 
 abbrev pub invariant-rows : goal.invariant-rows

@@ -1,7 +1,7 @@
-use Rattle.segment.proofs.Passes.{PassBefore}
+use Rattle.segment_parts.specs.Passes.{PassBefore}
 use Rattle.std.proofs.Common.{ℕ, List, All}
-use Rattle.segment.specs.Agree.{IsOrdinalAt}
-use Rattle.segment.specs.Lists.{terms_of, postings_of}
+use Rattle.segment_parts.specs.Agree.{IsOrdinalAt}
+use Rattle.segment_parts.specs.Lists.{terms_of, postings_of}
 use Rattle.segment.proofs.agree_columns.are_ordinal_rows.Given as goal
 
 abbrev pub invariant-rows : goal.invariant-rows

@@ -1,7 +1,7 @@
 use Rattle.std.proofs.Common.{arith}
-use Rattle.segment.specs.Agree.{IsOrdinalAt}
-use Rattle.segment.specs.Lists.{terms_of, postings_of}
-use Rattle.segment.proofs.Passes.{pass_more, answer_all}
+use Rattle.segment_parts.specs.Agree.{IsOrdinalAt}
+use Rattle.segment_parts.specs.Lists.{terms_of, postings_of}
+use Rattle.segment_parts.specs.Passes.{pass_more, answer_all}
 use Rattle.segment.proofs.agree_columns.are_ordinals.Goals as goal
 
 pub values-preserved : goal.values-preserved

@@ -1,6 +1,6 @@
-use Rattle.segment.proofs.Passes.{PassBefore}
-use Rattle.segment.specs.Agree.{IsOrdinalAt}
-use Rattle.segment.specs.Lists.{terms_of, postings_of}
+use Rattle.segment_parts.specs.Passes.{PassBefore}
+use Rattle.segment_parts.specs.Agree.{IsOrdinalAt}
+use Rattle.segment_parts.specs.Lists.{terms_of, postings_of}
 use Rattle.segment.proofs.agree_columns.are_ordinals.Given as goal
 
 abbrev pub invariant-values : goal.invariant-values

@@ -1,7 +1,7 @@
 use Rattle.std.proofs.Common.{arith}
-use Rattle.segment.specs.Agree.{HaveKeys}
-use Rattle.segment.specs.Lists.{terms_of, postings_of}
-use Rattle.segment.proofs.Passes.{pass_more, answer_all, answer_not}
+use Rattle.segment_parts.specs.Agree.{HaveKeys}
+use Rattle.segment_parts.specs.Lists.{terms_of, postings_of}
+use Rattle.segment_parts.specs.Passes.{pass_more, answer_all, answer_not}
 use Rattle.segment.proofs.agree_columns.have_keys.Goals as goal
 
 pub returns-then-not-are_keyed_rows : goal.returns-then-not-are_keyed_rows

@@ -2,8 +2,8 @@ use Rattle.std.proofs.Common.{◌≡◌, ◌∙◌, Some, refl, slice_get, Conta
 use Rattle.std.proofs.lemmas.Int.{to_z-of_z}
 use Rattle.term_table.specs.Keys.{number_key}
 use Rattle.term_table.specs.Terms.{AreAscending}
-use Rattle.segment.specs.Lists.{terms_of, postings_of}
-use Rattle.segment.proofs.Ordered.{keyed_at, keyed_nowhere}
+use Rattle.segment_parts.specs.Lists.{terms_of, postings_of}
+use Rattle.segment_parts.specs.Keyed.{keyed_at, keyed_nowhere}
 use Rattle.segment.proofs.agree_columns.is_keyed.Goals as goal
 
 pub returns-in-Some : goal.returns-in-Some

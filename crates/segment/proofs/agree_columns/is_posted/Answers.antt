@@ -1,5 +1,5 @@
 use Rattle.std.proofs.Common.{◌∙◌, ap, [], slice_index_or, ℕ, List}
-use Rattle.segment.specs.Lists.{postings_of}
+use Rattle.segment_parts.specs.Lists.{postings_of}
 use Rattle.segment.proofs.Ordered.{posted_some, posted_none}
 use Rattle.segment.proofs.agree_columns.is_posted.Goals as goal
 

@@ -1,8 +1,8 @@
 use Rattle.std.proofs.Common.{◌≡◌, ◌<◌, ◌∙◌, length, get_or, slice_get, Some, [], refl, sym, ap, subst, inl, inr, arith}
 use Rattle.std.proofs.lemmas.Bool.{false≢true, cases_lt}
 use Rattle.std.proofs.lemmas.Option.{slice_get-get_or, slice_get_within}
-use Rattle.segment.specs.Agree.{IsTermAt}
-use Rattle.segment.specs.Lists.{terms_of}
+use Rattle.segment_parts.specs.Agree.{IsTermAt}
+use Rattle.segment_parts.specs.Lists.{terms_of}
 use Rattle.segment.proofs.agree_terms.are_terms.Goals as goal
 
 pub returns-then-not-is_term_at : goal.returns-then-not-is_term_at

@@ -1,6 +1,6 @@
 use Rattle.std.proofs.Common.{◌≡◌, ℕ, List, ◌<◌, slice_get, Some}
-use Rattle.segment.specs.Agree.{IsTermAt}
-use Rattle.segment.specs.Lists.{terms_of}
+use Rattle.segment_parts.specs.Agree.{IsTermAt}
+use Rattle.segment_parts.specs.Lists.{terms_of}
 use Rattle.segment.proofs.agree_terms.are_terms.Given as goal
 
 abbrev pub invariant-ordinals : goal.invariant-ordinals

@@ -1,7 +1,7 @@
 use Rattle.std.proofs.Common.{rules, w64, FitsSigned, refl}
 use Rattle.std.proofs.lemmas.Bool.{false≢true}
 use Rattle.std.proofs.lemmas.Int.{to_z-of_z}
-use Rattle.segment.proofs.NumberKeys.{contains-key, contains-no_key}
+use Rattle.segment_parts.specs.NumberKeys.{contains-key, contains-no_key}
 use Rattle.segment.proofs.agree_terms.has_key.Goals as goal
 
 pub returns-in-Some : goal.returns-in-Some

@@ -1,7 +1,7 @@
 use Rattle.std.proofs.Common.{◌≡◌, ◌∙◌, ap, get_or, [], List, ℕ}
 use Rattle.postings.specs.Postings.{Standing}
-use Rattle.segment.specs.Fields.{column_of}
-use Rattle.segment.specs.Lists.{postings_of}
+use Rattle.segment_parts.specs.Fields.{column_of}
+use Rattle.segment_parts.specs.Lists.{postings_of}
 use Rattle.segment.proofs.TermKinds.{of_word, of_keyword, of_number, numbers_fit}
 use Rattle.segment.proofs.agree_terms.is_term_of.Goals as goal
 

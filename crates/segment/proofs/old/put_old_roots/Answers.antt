@@ -1,7 +1,7 @@
 use Rattle.std.proofs.Common.{refl, sym, ◌∙◌, arith}
 use Rattle.stored_sources.specs.Text.{old_root_text}
 use Rattle.stored_sources.specs.Stands.{IsOldRoot}
-use Rattle.segment.specs.Once.{many_nowhere}
+use Rattle.segment_parts.specs.Once.{many_nowhere}
 use Rattle.segment.proofs.Renewal.{put_more}
 use Rattle.segment.proofs.old.put_old_roots.Goals as goal
 

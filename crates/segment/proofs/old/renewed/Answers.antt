@@ -1,6 +1,6 @@
 use Rattle.std.proofs.Common.{◌≡◌, ◌∙◌, ◌++◌, ℕ, List, set, drop, refl, sym, ap, subst}
 use Rattle.std.proofs.lemmas.Bool.{false≢true}
-use Rattle.segment.specs.Text.{magic}
+use Rattle.segment_parts.specs.Text.{magic}
 use Rattle.segment.specs.Renewals.{IsRenewal}
 use Rattle.segment.proofs.Renewal.{BeginsOld, begins_new, same_columns, no_columns, no_begin}
 use Rattle.segment.proofs.old.renewed.Goals as goal

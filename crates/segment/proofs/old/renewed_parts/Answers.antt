@@ -1,7 +1,7 @@
 use Rattle.std.proofs.Common.{Bool, List, ap, subst, refl, ◌≡◌, ◌∙◌, arith}
 use Rattle.std.specs.List.{count_by}
 use Rattle.block_bits.specs.Flags.{is_marked}
-use Rattle.segment.specs.Parts.{root_flags}
+use Rattle.segment_parts.specs.Parts.{root_flags}
 use Rattle.segment.specs.Renewals.{IsShown}
 use Rattle.segment.proofs.Renewal.{no_old_head, no_shown, no_roots}
 use Rattle.segment.proofs.old.renewed_parts.Goals as goal

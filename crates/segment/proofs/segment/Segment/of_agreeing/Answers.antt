@@ -1,7 +1,7 @@
 use Rattle.std.proofs.Common.{◌≡◌, ◌∙◌, sym, subst}
-use Rattle.segment.specs.Agree.{AreColumns}
-use Rattle.segment.specs.Whole.{segment_once}
-use Rattle.segment.specs.declared.columns.Columns.{Columns}
+use Rattle.segment_parts.specs.Agree.{AreColumns}
+use Rattle.segment_parts.specs.Whole.{segment_once}
+use Rattle.segment_parts.specs.declared.columns.Columns.{Columns}
 use Rattle.segment.proofs.TermKinds.{when_ok}
 use Rattle.segment.proofs.segment.Segment.of_agreeing.Goals as goal
 

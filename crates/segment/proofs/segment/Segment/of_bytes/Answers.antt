@@ -1,7 +1,7 @@
 use Rattle.std.proofs.Common.{◌≡◌, ◌∙◌, sym, subst}
 use Rattle.std.proofs.lemmas.Bool.{false≢true}
-use Rattle.segment.specs.Agree.{AreColumns}
-use Rattle.segment.specs.Whole.{segment_once}
+use Rattle.segment_parts.specs.Agree.{AreColumns}
+use Rattle.segment_parts.specs.Whole.{segment_once}
 use Rattle.segment.proofs.segment.Segment.of_bytes.Goals as goal
 
 pub returns-then-not-are_columns-clause-none : goal.returns-then-not-are_columns-clause-none

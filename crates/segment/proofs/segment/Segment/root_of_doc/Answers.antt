@@ -1,7 +1,7 @@
 use Rattle.std.proofs.Common.{◌≡◌, ◌∙◌, ◌<◌, ◌≤◌, ℕ, length, sym, subst, arith}
-use Rattle.segment.specs.Agree.{AreColumns}
+use Rattle.segment_parts.specs.Agree.{AreColumns}
 use Rattle.segment.specs.Live.{root_of, block_start, block_end}
-use Rattle.segment.specs.Parts.{root_flags}
+use Rattle.segment_parts.specs.Parts.{root_flags}
 use Rattle.segment.proofs.Places.{ArePlaces, places-rise, root_before, root_of-within, root_block}
 use Rattle.segment.proofs.segment.Segment.root_of_doc.Goals as goal
 

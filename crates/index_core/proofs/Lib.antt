@@ -1,3 +1,0 @@
--- What is done to a layout commutes with putting other items in place, and which items are live afterwards.
-pub mod Images
-pub mod Keeps

@@ -1,0 +1,5 @@
+-- To be believed: how items are laid out in segments, what is done to a layout, and numbers that ascend.
+pub mod Layout
+pub mod Ascending
+-- These serve proofs alone: a layout of other items.
+pub mod As

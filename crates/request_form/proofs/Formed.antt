@@ -1,0 +1,216 @@
+-- Every write that is asked for has an id, and its sources are objects.
+use Rattle.std.proofs.Common.{◌≡◌, ◌≤◌, ◌<◌, ℕ, zero, suc, ◌/◌, ◌%◌, ◌==◌, pos, negsuc, true, false, Bool, not, cond, List, [], ◌∷◌, length, codes, decimal, Option, Some, None, is_some, IfSome, option_and_then, option_map, unwrap_or, refl, ap, subst, arith}
+use Rattle.std.proofs.lemmas.Bool.{and_parts}
+use Rattle.std.proofs.lemmas.Slice.Eq.{bytes_eq-Decides}
+use Rattle.std.specs.Fmt.{digits, digits_onto, digit_glyph}
+use Rattle.std.specs.Str.{bytes_eq}
+use Rattle.line_reader.specs.Request.{ReadLine, in_full, too_long, SourceLine}
+use Rattle.tree_json.specs.Reading.{Reading, reading, bad_json, fraction, value}
+use Rattle.tree_json.specs.Value.{JsonValue, null, bool, whole, text, list, object, Members, no_members, member, member_of, is_object}
+use Rattle.request_form.specs.declared.form.Form.{Form}
+use Rattle.request_form.specs.declared.form.Name.{Name}
+use Rattle.request_form.specs.declared.form.Presence.{Presence}
+use Rattle.request_form.specs.Asked.{Asked, asked_in, asked_by, asked_of, asks, refused, asks_or_bad, sourced, operation_of, update_in, changes_of, is_at_odds, SourceValue, no_value, is_value, value_of}
+use Rattle.request_form.specs.Command.{Target, Write, Action, Operation, index, create, update, delete, Command, alone, indexes, creates, updates, if_formed, id_by, id_in, target_of, part_of, part_in, command_by, command_under, command_named, command_in, command_of, name_among}
+use Rattle.request_form.specs.Command as asked
+use Rattle.request_form.specs.Form.{are_taken, is_taken, has_required, has_lines, members_in, single_of}
+use Rattle.request_form.specs.Formed.{IsFormed, HasObjects}
+use Rattle.request_form.specs.Table.{names, is_id, create_lines, write_lines, update_lines}
+
+-- ---- what comes out of an option
+
+formed_if : {A : Type 0} (b : Bool) (it c : A) → if_formed b it ≡ Some c → (b ≡ true) × (it ≡ c)
+formed_if true it c e = (refl, ap (λ o. unwrap_or o it) e)
+formed_if false it c e = absurd (cc)
+
+some_of : {A B : Type 0} (f : A → Option B) (o : Option A) (c : B) → option_and_then f o ≡ Some c → (x : A) × (o ≡ Some x) × (f x ≡ Some c)
+some_of f None c e = absurd (cc)
+some_of f (Some x) c e = (x, refl, e)
+
+mapped_of : {A B : Type 0} (f : A → B) (o : Option A) (c : B) → option_map f o ≡ Some c → (x : A) × (o ≡ Some x) × (f x ≡ c)
+mapped_of f None c e = absurd (cc)
+mapped_of f (Some x) c e = (x, refl, ap (λ o. unwrap_or o (f x)) e)
+
+-- ---- objects that have the names of a table
+
+abbrev Lines : Type 0
+Lines = List (List ℕ × Presence × Form)
+
+taken_at : (lines : Lines) (ms : Members) (name : List ℕ) (v : JsonValue) → are_taken lines ms ≡ true → member_of ms name ≡ Some v → is_taken lines name v ≡ true
+taken_at lines no_members name v all there = absurd (cc)
+taken_at lines (member k d ms) name v all there =
+    let parts = and_parts (is_taken lines k d) (are_taken lines ms) all in
+    elim (bytes_eq k name) as (λ b. bytes_eq k name ≡ b → cond b (Some d) (member_of ms name) ≡ Some v → is_taken lines name v ≡ true) [
+      | true ↦ λ same here. subst (λ n. is_taken lines n v ≡ true) ((bytes_eq-Decides k name).0 same) (subst (λ w. is_taken lines k w ≡ true) (ap (λ o. unwrap_or o d) here) parts.0)
+      | false ↦ λ other here. taken_at lines ms name v parts.1 here
+    ] refl there
+
+-- ---- ids
+
+either_some : (b : Bool) (x : ℕ) (xs ys : List ℕ) → 0 < length ys → 0 < length (cond b (x ∷ xs) ys)
+either_some true x xs ys some = omega arith
+either_some false x xs ys some = some
+
+digits_onto_some : (k n x : ℕ) (acc : List ℕ) → 0 < length (digits_onto k 10 false n (x ∷ acc))
+digits_onto_some zero n x acc = omega arith
+digits_onto_some (suc k) n x acc = let d = digit_glyph false (n % 10) in either_some (n / 10 == 0) d (x ∷ acc) _ (digits_onto_some k (n / 10) d (x ∷ acc))
+
+decimal_some : (n : ℕ) → 0 < length (decimal n)
+unfolding digits
+decimal_some n = let d = digit_glyph false (n % 10) in either_some (n / 10 == 0) d [] _ (digits_onto_some 63 (n / 10) d [])
+
+id_some : (v : JsonValue) → is_id v ≡ true → 1 ≤ length (id_by v)
+id_some null h = absurd (cc)
+id_some (bool b) h = absurd (cc)
+id_some (whole (pos n)) h = decimal_some n
+id_some (whole (negsuc n)) h = absurd (cc)
+id_some (text []) h = absurd (cc)
+id_some (text (x ∷ s)) h = omega arith
+id_some (list ds) h = absurd (cc)
+id_some (object ms) h = absurd (cc)
+
+id_named : (o : Option JsonValue) → is_some o ≡ true → ((v : JsonValue) → o ≡ Some v → is_id v ≡ true) → 1 ≤ length (id_in o)
+id_named None some all = absurd (cc)
+id_named (Some v) some all = id_some v (all v refl)
+
+write_id : (ms : Members) → has_lines write_lines ms ≡ true → 1 ≤ length (target_of ms).id
+write_id ms h =
+    let p = and_parts (has_required write_lines ms) (are_taken write_lines ms) h in
+    let id = member_of ms (codes "_id") in
+    id_named id (and_parts (is_some id) true p.0).0 (λ v there. taken_at write_lines ms (codes "_id") v p.1 there)
+
+create_id : (ms : Members) → has_lines create_lines ms ≡ true → 1 ≤ length (target_of ms).id
+create_id ms h =
+    let p = and_parts (has_required create_lines ms) (are_taken create_lines ms) h in
+    let id = member_of ms (codes "_id") in
+    id_named id (and_parts (is_some id) true p.0).0 (λ v there. taken_at create_lines ms (codes "_id") v p.1 there)
+
+-- ---- commands
+
+abbrev ActionIsFormed : Action → Type 0
+ActionIsFormed (asked.write it) = IsFormed it
+ActionIsFormed action = Unit {0}
+
+abbrev CommandIsFormed : Command → Type 0
+CommandIsFormed (alone action) = ActionIsFormed action
+CommandIsFormed (indexes target) = 1 ≤ length target.id
+CommandIsFormed (creates target) = 1 ≤ length target.id
+CommandIsFormed (updates target) = 1 ≤ length target.id
+
+-- a part of a merge is no write
+one_of : (b : Bool) (x y : Option Action) (a : Action) → (x ≡ Some a → ActionIsFormed a) → (y ≡ Some a → ActionIsFormed a) → cond b x y ≡ Some a → ActionIsFormed a
+one_of true x y a first second e = first e
+one_of false x y a first second e = second e
+
+none_formed : (a : Action) → None ≡ Some a → ActionIsFormed a
+none_formed a e = absurd (cc)
+
+part_formed : (name : List ℕ) (ms : Members) (a : Action) → part_of name ms ≡ Some a → ActionIsFormed a
+part_formed name ms a =
+    one_of (bytes_eq name (codes "start")) _ _ a (λ e. subst ActionIsFormed (formed_if _ _ a e).1 tt)
+    (one_of (bytes_eq name (codes "advance")) _ _ a (λ e. subst ActionIsFormed (formed_if _ _ a e).1 tt)
+    (one_of (bytes_eq name (codes "finish")) _ _ a (λ e. subst ActionIsFormed (formed_if _ _ a e).1 tt)
+    (one_of (bytes_eq name (codes "abort")) _ None a (λ e. subst ActionIsFormed (formed_if _ _ a e).1 tt) (none_formed a))))
+
+merge_formed : (o : Option (List ℕ × JsonValue)) (a : Action) → part_in o ≡ Some a → ActionIsFormed a
+merge_formed None a e = absurd (cc)
+merge_formed (Some it) a e = let m = some_of (part_of it.0) (members_in it.1) a e in part_formed it.0 m.0 a m.2
+
+by_name : (name : Name) (ms : Members) (c : Command) → command_by name ms ≡ Some c → CommandIsFormed c
+by_name Name.Index ms c e = let f = formed_if _ _ c e in subst CommandIsFormed f.1 (write_id ms f.0)
+by_name Name.Create ms c e = let f = formed_if _ _ c e in subst CommandIsFormed f.1 (create_id ms f.0)
+by_name Name.Update ms c e = let f = formed_if _ _ c e in subst CommandIsFormed f.1 (write_id ms f.0)
+by_name Name.Delete ms c e = let f = formed_if _ _ c e in subst CommandIsFormed f.1 (record { id = write_id ms f.0; sources = tt })
+by_name Name.Mapping ms c e = subst CommandIsFormed (ap (λ o. unwrap_or o (alone (asked.map_body (object ms)))) e) tt
+by_name Name.Search ms c e = subst CommandIsFormed (formed_if _ _ c e).1 tt
+by_name Name.Refresh ms c e = subst CommandIsFormed (formed_if _ _ c e).1 tt
+by_name Name.Segments ms c e = subst CommandIsFormed (formed_if _ _ c e).1 tt
+by_name Name.OpenPit ms c e = subst CommandIsFormed (formed_if _ _ c e).1 tt
+by_name Name.ClosePit ms c e = subst CommandIsFormed (formed_if _ _ c e).1 tt
+by_name Name.ForceMerge ms c e = subst CommandIsFormed (formed_if _ _ c e).1 tt
+by_name Name.Merge ms c e = let m = mapped_of alone (part_in (single_of ms)) c e in subst CommandIsFormed m.2 (merge_formed (single_of ms) m.0 m.1)
+by_name Name.Commit ms c e = subst CommandIsFormed (formed_if _ _ c e).1 tt
+by_name Name.Automerge ms c e = subst CommandIsFormed (formed_if _ _ c e).1 tt
+
+under_formed : (ms : Members) (name : Option Name) (c : Command) → command_under ms name ≡ Some c → CommandIsFormed c
+under_formed ms None c e = absurd (cc)
+under_formed ms (Some name) c e = by_name name ms c e
+
+in_formed : (o : Option (List ℕ × JsonValue)) (c : Command) → command_in o ≡ Some c → CommandIsFormed c
+in_formed None c e = absurd (cc)
+in_formed (Some it) c e = let m = some_of (command_named it.0) (members_in it.1) c e in under_formed m.0 (name_among it.0 names) c m.2
+
+command_formed : (v : JsonValue) (c : Option Command) → command_of v ≡ c → IfSome c CommandIsFormed
+unfolding command_of
+command_formed v None e = tt
+command_formed v (Some c) e = in_formed (option_and_then single_of (members_in v)) c e
+
+-- ---- source lines
+
+object_named : (o : Option JsonValue) → is_some o ≡ true → ((v : JsonValue) → o ≡ Some v → is_object v ≡ true) → is_object (unwrap_or o null) ≡ true
+object_named None some all = absurd (cc)
+object_named (Some v) some all = all v refl
+
+object_if : (o : Option JsonValue) → ((v : JsonValue) → o ≡ Some v → is_object v ≡ true) → IfSome o (λ v. is_object v ≡ true)
+object_if None all = tt
+object_if (Some v) all = all v refl
+
+changes_objects : (ms : Members) → has_lines update_lines ms ≡ true → HasObjects (update (changes_of ms))
+changes_objects ms h =
+    let p = and_parts (has_required update_lines ms) (are_taken update_lines ms) h in
+    let doc = member_of ms (codes "doc") in (
+      object_named doc (and_parts (is_some doc) true p.0).0 (λ v there. taken_at update_lines ms (codes "doc") v p.1 there),
+      object_if (member_of ms (codes "upsert")) (λ v there. taken_at update_lines ms (codes "upsert") v p.1 there),
+    )
+
+update_objects : (target : Target) (o : Option Members) (op : Operation) → update_in target o ≡ Some op → HasObjects op
+update_objects target None op e = absurd (cc)
+update_objects target (Some ms) op e =
+    let f = formed_if _ _ op e in
+    subst HasObjects f.1 (changes_objects ms (and_parts (has_lines update_lines ms) (not (is_at_odds target (changes_of ms))) f.0).0)
+
+operation_objects : (command : Command) (v : JsonValue) (op : Operation) → operation_of command v ≡ Some op → HasObjects op
+operation_objects (alone action) v op e = absurd (cc)
+operation_objects (indexes target) v op e = let f = formed_if (is_object v) (index v) op e in subst HasObjects f.1 f.0
+operation_objects (creates target) v op e = let f = formed_if (is_object v) (create v) op e in subst HasObjects f.1 f.0
+operation_objects (updates target) v op e = update_objects target (members_in v) op e
+
+-- ---- what is asked for
+
+abbrev action_in : Action → Asked → Action
+action_in other (asks action) = action
+action_in other (refused why) = other
+
+abbrev write_in : Write → Action → Write
+write_in other (asked.write it) = it
+write_in other action = other
+
+asked_write : (it : Write) (action : Action) → asks action ≡ asks (asked.write it) → action ≡ asked.write it
+asked_write it action e = ap (action_in action) e
+
+bad_formed : (o : Option Operation) (target : Target) (it : Write) → 1 ≤ length target.id → ((op : Operation) → o ≡ Some op → HasObjects op) → asks_or_bad o target ≡ asks (asked.write it) → IsFormed it
+bad_formed None target it id all e = absurd (cc)
+bad_formed (Some op) target it id all e =
+    let given : Write = record { target = target; operation = op } in
+    subst IsFormed (ap (write_in given) (asked_write it (asked.write given) e)) (record { id = id; sources = all op refl })
+
+sourced_formed : (command : Command) (target : Target) (source : SourceValue) (it : Write) → 1 ≤ length target.id → sourced command target source ≡ asks (asked.write it) → IsFormed it
+sourced_formed command target (no_value why) it id e = absurd (cc)
+sourced_formed command target (is_value v) it id e = bad_formed (operation_of command v) target it id (operation_objects command v) e
+
+by_formed : (c : Option Command) (source : SourceLine) (it : Write) → IfSome c CommandIsFormed → asked_by c source ≡ asks (asked.write it) → IsFormed it
+by_formed None source it formed e = absurd (cc)
+by_formed (Some (alone action)) source it formed e = subst ActionIsFormed (asked_write it action e) formed
+by_formed (Some (indexes target)) source it formed e = sourced_formed (indexes target) target (value_of source) it formed e
+by_formed (Some (creates target)) source it formed e = sourced_formed (creates target) target (value_of source) it formed e
+by_formed (Some (updates target)) source it formed e = sourced_formed (updates target) target (value_of source) it formed e
+
+in_formed_line : (line : Reading) (source : SourceLine) (it : Write) → asked_in line source ≡ asks (asked.write it) → IsFormed it
+in_formed_line bad_json source it e = absurd (cc)
+in_formed_line fraction source it e = absurd (cc)
+in_formed_line (value v) source it e = by_formed (command_of v) source it (command_formed v (command_of v) refl) e
+
+pub asked_formed : (first : ReadLine) (source : SourceLine) (it : Write) → asked_of first source ≡ asks (asked.write it) → IsFormed it
+unfolding asked_of
+asked_formed too_long source it e = absurd (cc)
+asked_formed (in_full bytes) source it e = in_formed_line (reading bytes) source it e

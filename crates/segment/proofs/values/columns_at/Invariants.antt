@@ -1,8 +1,0 @@
-use Rattle.std.proofs.Common.{◌≡◌, length, drop}
-use Rattle.segment.specs.Kept.{AreTaking}
-use Rattle.segment.proofs.values.columns_at.Given as goal
-
-abbrev pub invariant-columns : goal.invariant-columns
-invariant-columns g l =
-    AreTaking g.T.Ord.cmp g.T.ColumnValue.Fits g.T.ColumnValue.text g.T.ColumnValue.read l.bytes (drop l.initial.place l.bytes) l.columns.items l.place
-    × (length l.columns.items ≡ l.counter)

@@ -1,7 +1,0 @@
-use Rattle.segment.specs.Whole.{all_written}
-use Rattle.segment.proofs.written.segment_bytes.Goals as goal
-
-pub returns : goal.returns
-returns c =
-    all_written c.args.columns.now c.new-bytes.result.items c.put_head.new.into.items c.put_rows.new.into.items c.put_ordinals.new.into.items c.put_numbers.new.into.items c.put_present.new.into.items c.new-bytes.ensures.items
-    c.in_ok-put_head.ensures c.in_ok-put_rows.ensures c.in_ok-put_ordinals.ensures c.in_ok-put_numbers.ensures (rw c.as_slice.ensures.columns at c.in_ok-put_present.ensures)

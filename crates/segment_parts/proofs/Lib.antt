@@ -1,0 +1,4 @@
+mod Listed
+mod Loops
+mod Numbered
+mod Searches

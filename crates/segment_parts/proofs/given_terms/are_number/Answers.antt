@@ -1,0 +1,10 @@
+use Rattle.std.proofs.Common.{rules, tests}
+use Rattle.std.proofs.lemmas.Iterator.{cases_from_all, YieldsList-from_slice}
+use Rattle.segment_parts.specs.Agree.{IsNumberAt}
+use Rattle.segment_parts.specs.Passes.{all_iff}
+use Rattle.segment_parts.proofs.given_terms.are_number.Goals as goal
+
+pub returns : goal.returns
+returns c =
+    all_iff (IsNumberAt c.args.column.now.1 c.args.key.now) c.args.postings.now c.all.result
+    (cases_from_all _ _ _ (IsNumberAt c.args.column.now.1 c.args.key.now) (λ own. (IsNumberAt c.args.column.now.1 c.args.key.now) own → ⊥) c.all.ensures.ran (YieldsList-from_slice c.args.postings.now cc) (λ x q k. search (rules, tests)) (λ x q k. search (rules, tests)))
