@@ -20,12 +20,12 @@ use Rattle.segment.specs.Fields.{column_of}
 use Rattle.segment.specs.Flat.{FlatDocument}
 use Rattle.segment.specs.Lists.{terms_of, postings_of}
 use Rattle.segment.specs.Marks.{count-mark}
-use Rattle.segment.specs.declared.columns.Columns.{Columns}
+use Rattle.segment_parts.specs.declared.columns.Columns.{Columns}
 use Rattle.term_table.specs.Keys.{number_key}
 use Rattle.term_table.specs.Terms.{term_cmp, AreAscending}
 use Rattle.term_table.specs.declared.rows.TermRow.{TermRow}
 use Rattle.flattener.specs.Block.{BlockState}
-use Rattle.segment_builder.specs.Columns.{column_terms, row_terms, named, named_row, named_group, marks_of}
+use Rattle.segment_builder.specs.Columns.{terms_in, column_terms, row_terms, named, named_row, named_group, marks_of}
 use Rattle.segment_builder.specs.Entries.{EntriesState, flats_in, no_entries, with_blocks}
 use Rattle.segment_builder.specs.Groups.{of_key, keys, AreGroups}
 use Rattle.segment_builder.specs.Made.{IsMade, all_terms, marked_groups}
@@ -154,7 +154,7 @@ values_map g none doc (row ∷ rows) =
 
 -- ---- terms that stand among those of documents
 
-abbrev is_of : ℕ → ℕ × List ℕ → Bool
+abbrev pub is_of : ℕ → ℕ × List ℕ → Bool
 is_of doc posting = posting.0 == doc
 
 term_there : (field doc : ℕ) (bytes : List ℕ) (words : List (List ℕ)) → list_any (bytes_eq bytes) words ≡ true → list_any (is_of doc) (of_key term_cmp (field, bytes) (terms_at field doc words)) ≡ true
@@ -183,7 +183,7 @@ first_more doc term xs ys there = ap (list_any (is_of doc)) (of_append term_cmp 
 later_more : (doc : ℕ) (term : ℕ × List ℕ) (xs ys : List TermEntry) → list_any (is_of doc) (of_key term_cmp term ys) ≡ true → list_any (is_of doc) (of_key term_cmp term (xs ++ ys)) ≡ true
 later_more doc term xs ys there = ap (list_any (is_of doc)) (of_append term_cmp term xs ys) ∙ any_later (is_of doc) (of_key term_cmp term xs) (of_key term_cmp term ys) there
 
-abbrev AreAmong : List TermEntry → ℕ → ℕ → List (List ℕ) → Type 0
+abbrev pub AreAmong : List TermEntry → ℕ → ℕ → List (List ℕ) → Type 0
 AreAmong all field doc values = AllByRecursion (λ (bytes : List ℕ). list_any (is_of doc) (of_key term_cmp (field, bytes) all) ≡ true) values
 
 keywords_among : (entries : List (ℕ × (ℕ × List (List ℕ)))) → AllByRecursion (λ (entry : ℕ × (ℕ × List (List ℕ))). AreAmong (keyword_terms entries) entry.0 entry.1.0 entry.1.1) entries
@@ -247,6 +247,39 @@ marked_one [] d is = absurd (cc (is))
 marked_one (flag ∷ flags) zero is = let more : count_by is_marked (flag ∷ flags) ≡ cond flag 1 0 + count_by is_marked flags = count-mark flag flags in rw (more, is) (omega arith)
 marked_one (flag ∷ flags) (suc d) is = omega (arith, count-mark flag flags, marked_one flags d is)
 
+-- ---- terms are found by what documents carry
+
+module _ (it : EntriesState) (rows : List TermRow) (are : AreGroups term_cmp (all_terms it) (map row_group rows)) where
+  pub found_term : (term : ℕ × List ℕ) → 0 < length (of_key term_cmp term (all_terms it)) → (ordinal : ℕ) × (slice_get (terms_in rows) ordinal ≡ Some term)
+  found_term term some =
+      let any = found_at term_cmp term_order (map row_group rows) term (all_terms it) are.found some in
+      let one = one_of (λ (group : (ℕ × List ℕ) × List (ℕ × List ℕ)). eq_by_cmp term_cmp term group.0) (map row_group rows) any in
+      let row = map_at row_group rows one.at one.own one.is in
+      let same : row.0.term ≡ term = ap (λ (group : (ℕ × List ℕ) × List (ℕ × List ℕ)). group.0) row.2 ∙ sym (key_is term_cmp term_order term one.own.0 one.passes) in
+      (one.at, at_map (λ (r : TermRow). r.term) rows one.at row.0 row.1 ∙ ap Some same)
+
+  pub keywords_here : AllByRecursion (λ (entry : ℕ × (ℕ × List (List ℕ))). AreAmong (all_terms it) entry.0 entry.1.0 entry.1.1) it.keywords
+  keywords_here =
+      each_then (λ (entry : ℕ × (ℕ × List (List ℕ))). AreAmong (keyword_terms it.keywords) entry.0 entry.1.0 entry.1.1) (λ (entry : ℕ × (ℕ × List (List ℕ))). AreAmong (all_terms it) entry.0 entry.1.0 entry.1.1)
+      (λ entry own. each_then (λ (bytes : List ℕ). list_any (is_of entry.1.0) (of_key term_cmp (entry.0, bytes) (keyword_terms it.keywords)) ≡ true) (λ (bytes : List ℕ). list_any (is_of entry.1.0) (of_key term_cmp (entry.0, bytes) (all_terms it)) ≡ true)
+      (λ bytes there. first_more entry.1.0 (entry.0, bytes) (it.words ++ keyword_terms it.keywords) (number_terms it.numbers) (later_more entry.1.0 (entry.0, bytes) it.words (keyword_terms it.keywords) there)) entry.1.1 own)
+      it.keywords (keywords_among it.keywords)
+
+  pub numbers_here : AllByRecursion (λ (entry : ℕ × (ℕ × List ℤ)). AreAmong (all_terms it) entry.0 entry.1.0 (map number_key entry.1.1)) it.numbers
+  numbers_here =
+      each_then (λ (entry : ℕ × (ℕ × List ℤ)). AreAmong (number_terms it.numbers) entry.0 entry.1.0 (map number_key entry.1.1)) (λ (entry : ℕ × (ℕ × List ℤ)). AreAmong (all_terms it) entry.0 entry.1.0 (map number_key entry.1.1))
+      (λ entry own. each_then (λ (bytes : List ℕ). list_any (is_of entry.1.0) (of_key term_cmp (entry.0, bytes) (number_terms it.numbers)) ≡ true) (λ (bytes : List ℕ). list_any (is_of entry.1.0) (of_key term_cmp (entry.0, bytes) (all_terms it)) ≡ true)
+      (λ bytes there. later_more entry.1.0 (entry.0, bytes) (it.words ++ keyword_terms it.keywords) (number_terms it.numbers) there) (map number_key entry.1.1) own)
+      it.numbers (numbers_among it.numbers)
+
+  -- each keyword has its term
+  pub keywords_found : AllByRecursion (λ (entry : ℕ × (ℕ × List (List ℕ))). AllByRecursion (λ (bytes : List ℕ). Contains (terms_in rows) (entry.0, bytes)) entry.1.1) it.keywords
+  keywords_found =
+      each_then (λ (entry : ℕ × (ℕ × List (List ℕ))). AreAmong (all_terms it) entry.0 entry.1.0 entry.1.1) (λ (entry : ℕ × (ℕ × List (List ℕ))). AllByRecursion (λ (bytes : List ℕ). Contains (terms_in rows) (entry.0, bytes)) entry.1.1)
+      (λ entry own. each_then (λ (bytes : List ℕ). list_any (is_of entry.1.0) (of_key term_cmp (entry.0, bytes) (all_terms it)) ≡ true) (λ (bytes : List ℕ). Contains (terms_in rows) (entry.0, bytes))
+      (λ bytes there. let found = found_term (entry.0, bytes) (some_any (is_of entry.1.0) (of_key term_cmp (entry.0, bytes) (all_terms it)) there) in there_at (terms_in rows) found.0 (entry.0, bytes) found.1) entry.1.1 own)
+      it.keywords keywords_here
+
 module _ (k : Kinds) (apart : AreApart k) (it : EntriesState) (blocks : List BlockState) (is : it ≡ with_blocks no_entries blocks) (all : AllByRecursion (IsWritten k) (flats_in blocks))
     (columns : Columns) (made : IsMade it columns) (up : AreAscending (terms_of columns)) (many : columns.documents ≡ length (flats_in blocks)) where
   abbrev every : List TermEntry
@@ -280,41 +313,11 @@ module _ (k : Kinds) (apart : AreApart k) (it : EntriesState) (blocks : List Blo
         some = subst (λ ps. 0 < length ps) is_of_term some;
       }
 
-  found_term : (term : ℕ × List ℕ) → 0 < length (of_key term_cmp term every) → (ordinal : ℕ) × (slice_get (terms_of columns) ordinal ≡ Some term)
-  found_term term some =
-      let any = found_at term_cmp term_order (map row_group columns.terms) term every made.rows.found some in
-      let one = one_of (λ (group : (ℕ × List ℕ) × List (ℕ × List ℕ)). eq_by_cmp term_cmp term group.0) (map row_group columns.terms) any in
-      let row = map_at row_group columns.terms one.at one.own one.is in
-      let same : row.0.term ≡ term = ap (λ (group : (ℕ × List ℕ) × List (ℕ × List ℕ)). group.0) row.2 ∙ sym (key_is term_cmp term_order term one.own.0 one.passes) in
-      (one.at, at_map (λ (r : TermRow). r.term) columns.terms one.at row.0 row.1 ∙ ap Some same)
-
   -- a document among what stands at a term is one of the term's
   posted : (ordinal doc : ℕ) (term : ℕ × List ℕ) → slice_get (terms_of columns) ordinal ≡ Some term → list_any (is_of doc) (of_key term_cmp term every) ≡ true → Contains (documents (slice_index_or (postings_of columns) ordinal [])) doc
   posted ordinal doc term there some =
       subst (λ ps. Contains (documents ps) doc) (sym (row_at ordinal term there).postings)
       (any_number doc (documents (of_key term_cmp term every)) (any_mapped (λ (p : ℕ × List ℕ). p.0) (λ d. d == doc) (of_key term_cmp term every) ∙ some))
-
-  keywords_here : AllByRecursion (λ (entry : ℕ × (ℕ × List (List ℕ))). AreAmong every entry.0 entry.1.0 entry.1.1) it.keywords
-  keywords_here =
-      each_then (λ (entry : ℕ × (ℕ × List (List ℕ))). AreAmong (keyword_terms it.keywords) entry.0 entry.1.0 entry.1.1) (λ (entry : ℕ × (ℕ × List (List ℕ))). AreAmong every entry.0 entry.1.0 entry.1.1)
-      (λ entry own. each_then (λ (bytes : List ℕ). list_any (is_of entry.1.0) (of_key term_cmp (entry.0, bytes) (keyword_terms it.keywords)) ≡ true) (λ (bytes : List ℕ). list_any (is_of entry.1.0) (of_key term_cmp (entry.0, bytes) every) ≡ true)
-      (λ bytes there. first_more entry.1.0 (entry.0, bytes) (it.words ++ keyword_terms it.keywords) (number_terms it.numbers) (later_more entry.1.0 (entry.0, bytes) it.words (keyword_terms it.keywords) there)) entry.1.1 own)
-      it.keywords (keywords_among it.keywords)
-
-  numbers_here : AllByRecursion (λ (entry : ℕ × (ℕ × List ℤ)). AreAmong every entry.0 entry.1.0 (map number_key entry.1.1)) it.numbers
-  numbers_here =
-      each_then (λ (entry : ℕ × (ℕ × List ℤ)). AreAmong (number_terms it.numbers) entry.0 entry.1.0 (map number_key entry.1.1)) (λ (entry : ℕ × (ℕ × List ℤ)). AreAmong every entry.0 entry.1.0 (map number_key entry.1.1))
-      (λ entry own. each_then (λ (bytes : List ℕ). list_any (is_of entry.1.0) (of_key term_cmp (entry.0, bytes) (number_terms it.numbers)) ≡ true) (λ (bytes : List ℕ). list_any (is_of entry.1.0) (of_key term_cmp (entry.0, bytes) every) ≡ true)
-      (λ bytes there. later_more entry.1.0 (entry.0, bytes) (it.words ++ keyword_terms it.keywords) (number_terms it.numbers) there) (map number_key entry.1.1) own)
-      it.numbers (numbers_among it.numbers)
-
-  -- each keyword has its term
-  pub keywords_found : AllByRecursion (λ (entry : ℕ × (ℕ × List (List ℕ))). AllByRecursion (λ (bytes : List ℕ). Contains (terms_of columns) (entry.0, bytes)) entry.1.1) it.keywords
-  keywords_found =
-      each_then (λ (entry : ℕ × (ℕ × List (List ℕ))). AreAmong every entry.0 entry.1.0 entry.1.1) (λ (entry : ℕ × (ℕ × List (List ℕ))). AllByRecursion (λ (bytes : List ℕ). Contains (terms_of columns) (entry.0, bytes)) entry.1.1)
-      (λ entry own. each_then (λ (bytes : List ℕ). list_any (is_of entry.1.0) (of_key term_cmp (entry.0, bytes) every) ≡ true) (λ (bytes : List ℕ). Contains (terms_of columns) (entry.0, bytes))
-      (λ bytes there. let found = found_term (entry.0, bytes) (some_any (is_of entry.1.0) (of_key term_cmp (entry.0, bytes) every) there) in there_at (terms_of columns) found.0 (entry.0, bytes) found.1) entry.1.1 own)
-      it.keywords keywords_here
 
   -- ---- the kinds of columns
 
@@ -577,7 +580,7 @@ module _ (k : Kinds) (apart : AreApart k) (it : EntriesState) (blocks : List Blo
       All-from_recursion (HaveOrdinals (terms_of columns) (postings_of columns)) columns.ordinals
       (each_then (λ (column : ℕ × List (ℕ × List ℕ)). AreOrdinals column.0 column.1) (HaveOrdinals (terms_of columns) (postings_of columns))
       (λ column are.
-      let posted_rows : AllByRecursion (IsPosted column.0) are.own = subst (AllByRecursion (IsPosted column.0)) (sym are.gather) (each_of_key nat_cmp nat_order (λ field row. IsPosted field row) column.0 it.keywords keywords_here) in
+      let posted_rows : AllByRecursion (IsPosted column.0) are.own = subst (AllByRecursion (IsPosted column.0)) (sym are.gather) (each_of_key nat_cmp nat_order (λ field row. IsPosted field row) column.0 it.keywords (keywords_here it columns.terms made.rows)) in
       All-from_recursion (λ (row : ℕ × List ℕ). All (λ ordinal. IsOrdinalAt (terms_of columns) (postings_of columns) column.0 row.0 ordinal) row.1) column.1
       (each_along (row_terms (terms_of columns)) (named_row column.0) (IsPosted column.0) (λ (row : ℕ × List ℕ). All (λ ordinal. IsOrdinalAt (terms_of columns) (postings_of columns) column.0 row.0 ordinal) row.1)
       (λ row own same among. ordinals_row column.0 row own same among) column.1 are.own are.same posted_rows))
@@ -585,7 +588,7 @@ module _ (k : Kinds) (apart : AreApart k) (it : EntriesState) (blocks : List Blo
 
   keyed : (field doc : ℕ) (number : ℤ) → list_any (is_of doc) (of_key term_cmp (field, number_key number) every) ≡ true → IsKeyed (terms_of columns) (postings_of columns) field doc number
   keyed field doc number among =
-      let found = found_term (field, number_key number) (some_any (is_of doc) (of_key term_cmp (field, number_key number) every) among) in
+      let found = found_term it columns.terms made.rows (field, number_key number) (some_any (is_of doc) (of_key term_cmp (field, number_key number) every) among) in
       record { ordinal = found.0; is = found.1; posted = posted found.0 doc (field, number_key number) found.1 among }
 
   keyed_row : (field doc : ℕ) (numbers : List ℤ) → AreAmong every field doc (map number_key numbers) → AllByRecursion (λ number. IsKeyed (terms_of columns) (postings_of columns) field doc number) numbers
@@ -597,7 +600,7 @@ module _ (k : Kinds) (apart : AreApart k) (it : EntriesState) (blocks : List Blo
       All-from_recursion (HaveKeys (terms_of columns) (postings_of columns)) columns.numbers
       (each_then (λ (column : ℕ × List (ℕ × List ℤ)). column.1 ≡ of_key nat_cmp column.0 it.numbers) (HaveKeys (terms_of columns) (postings_of columns))
       (λ column gather.
-      let posted_rows : AllByRecursion (λ (row : ℕ × List ℤ). AreAmong every column.0 row.0 (map number_key row.1)) column.1 = subst (AllByRecursion (λ (row : ℕ × List ℤ). AreAmong every column.0 row.0 (map number_key row.1))) (sym gather) (each_of_key nat_cmp nat_order (λ field row. AreAmong every field row.0 (map number_key row.1)) column.0 it.numbers numbers_here) in
+      let posted_rows : AllByRecursion (λ (row : ℕ × List ℤ). AreAmong every column.0 row.0 (map number_key row.1)) column.1 = subst (AllByRecursion (λ (row : ℕ × List ℤ). AreAmong every column.0 row.0 (map number_key row.1))) (sym gather) (each_of_key nat_cmp nat_order (λ field row. AreAmong every field row.0 (map number_key row.1)) column.0 it.numbers (numbers_here it columns.terms made.rows)) in
       All-from_recursion (λ (row : ℕ × List ℤ). All (λ number. IsKeyed (terms_of columns) (postings_of columns) column.0 row.0 number) row.1) column.1
       (each_then (λ (row : ℕ × List ℤ). AreAmong every column.0 row.0 (map number_key row.1)) (λ (row : ℕ × List ℤ). All (λ number. IsKeyed (terms_of columns) (postings_of columns) column.0 row.0 number) row.1)
       (λ row among. All-from_recursion (λ number. IsKeyed (terms_of columns) (postings_of columns) column.0 row.0 number) row.1 (keyed_row column.0 row.0 row.1 among)) column.1 posted_rows))

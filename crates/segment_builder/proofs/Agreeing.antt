@@ -19,14 +19,13 @@ use Rattle.segment.specs.Flat.{FlatDocument, FlatRoot, flat_root, roots_of}
 use Rattle.segment.specs.Lists.{terms_of}
 use Rattle.segment.specs.Marks.{count-mark}
 use Rattle.segment.specs.Parts.{AreParts, IsHead, IsPresence, IsNumberColumn, IsOrdinalColumn, root_flags}
-use Rattle.segment.specs.declared.columns.Columns.{Columns}
+use Rattle.segment_parts.specs.declared.columns.Columns.{Columns}
 use Rattle.stored_sources.specs.Stands.{AreRoots, IsJoin}
 use Rattle.stored_sources.specs.declared.root.Join.{Join}
 use Rattle.stored_sources.specs.declared.root.Join.TheVariants.{Unjoined, Named, Child}
 use Rattle.stored_sources.specs.declared.root.Root.{Root}
 use Rattle.term_table.specs.Part.{AreRows}
-use Rattle.segment_builder.specs.Entries.{EntriesState, flats_in, most_objects, no_entries, with_blocks}
-use Rattle.segment_builder.specs.Form.{IsOrdered, IsSmall, IsFit}
+use Rattle.segment_builder.specs.Entries.{EntriesState, flats_in, no_entries, with_blocks}
 use Rattle.segment_builder.specs.Given.{AreGiven, IsNumbered}
 use Rattle.segment_builder.specs.Made.{IsMade}
 use Rattle.segment_builder.specs.Roots.{FitsRoot, FitRoots}

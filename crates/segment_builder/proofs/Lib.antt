@@ -16,7 +16,7 @@ pub mod Columned
 pub mod Taking
 pub mod Agreed
 pub mod Lent
-pub mod Ordinals
+pub mod Ranks
 pub mod Found
 pub mod Finding
 pub mod Scoped
@@ -30,3 +30,5 @@ pub mod Cut
 pub mod Agreeing
 pub mod Stands
 pub mod Deaths
+pub mod Lengths
+pub mod Suited

@@ -9,7 +9,8 @@ use Rattle.doc_values.specs.Values.{AreValues}
 use Rattle.segment.specs.Flat.{FlatDocument}
 use Rattle.term_table.specs.Postings.{AreAscending}
 use Rattle.term_table.specs.Terms.{term_cmp}
-use Rattle.segment_builder.specs.Form.{IsOrdered, IsSmall, IsFit}
+use Rattle.flattener.specs.Small.{IsSmall}
+use Rattle.segment_builder.specs.Form.{IsOrdered, IsFit}
 use Rattle.segment_builder.specs.Groups.{keys}
 use Rattle.segment_builder.proofs.Shown.{each_by}
 

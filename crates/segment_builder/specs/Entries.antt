@@ -7,10 +7,6 @@ use Rattle.segment_builder.specs.Parts.{tagged, fields_with}
 use Rattle.flattener.specs.Block.{BlockState}
 use Rattle.segment_builder.specs.declared.entries.Entries.{Entries}
 
--- a segment is built of at most 2^26 objects
-abbrev pub most_objects : ℕ
-most_objects = 67_108_864
-
 -- the documents of blocks, one block behind the other
 abbrev pub flats_in : List BlockState → List FlatDocument
 flats_in blocks = flat_map (λ (block : BlockState). block.flats) blocks

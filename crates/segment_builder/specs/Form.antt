@@ -1,6 +1,6 @@
 -- Documents that can be written: what each carries comes in order, no list that it carries is empty, and a document with a
 -- word of a text field has a value of the field.
-use Rattle.std.specs.Prelude.{◌≡◌, ℕ, ℤ, ◌<◌, ◌≤◌, ◌^◌, true, List, length, map, Contains, FitsSigned}
+use Rattle.std.specs.Prelude.{◌≡◌, ℕ, ℤ, ◌<◌, ◌^◌, true, List, length, map, Contains, FitsSigned}
 use Rattle.std.specs.Int.{w64}
 use Rattle.std.specs.Cmp.Lexicographic.{slice_cmp}
 use Rattle.std.specs.List.{All}
@@ -28,13 +28,6 @@ pub record IsOrdered (flat : FlatDocument) : Type 0 where
   pub keywords_rise : All (λ (entry : ℕ × List (List ℕ)). IsSorted (slice_cmp nat_cmp) entry.1) flat.keywords
   pub positions_rise : All (λ (word : (ℕ × List ℕ) × List ℕ). IsStrictlyIncreasing word.1) flat.words
   pub valued : All (λ (word : (ℕ × List ℕ) × List ℕ). Contains flat.texts word.0.0) flat.words
-
--- How much a document may carry: fewer than 2^32 values of a field and positions of a word, and terms of at most 32,766
--- bytes.
-pub record IsSmall (flat : FlatDocument) : Type 0 where
-  pub numbers : All (λ (entry : ℕ × List ℤ). length entry.1 < 2 ^ 32) flat.numbers
-  pub keywords : All (λ (entry : ℕ × List (List ℕ)). (length entry.1 < 2 ^ 32) × All (λ (bytes : List ℕ). length bytes ≤ 32766) entry.1) flat.keywords
-  pub words : All (λ (word : (ℕ × List ℕ) × List ℕ). (length word.0.1 ≤ 32766) × (length word.1 < 2 ^ 32)) flat.words
 
 -- what a document carries fits its types, as it does where it was made
 pub record IsFit (flat : FlatDocument) : Type 0 where

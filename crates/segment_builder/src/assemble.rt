@@ -4,7 +4,7 @@ ghost use Rattle.std.specs.Prelude.{◌≡◌, ◌<◌, ◌≤◌, ◌^◌, ◌+
 ghost use Rattle.std.specs.List.{All, flat_map};
 ghost use Rattle.block_bits.specs.Blocks.{documents_of};
 ghost use Rattle.flattener.specs.Block.{BlockState};
-ghost use Rattle.flattener.specs.Fits.{BlockFits, SegmentFits};
+ghost use Rattle.flattener.specs.Fits.{BlockFits, SegmentFits, most_live};
 ghost use Rattle.flattener.specs.Seen.{block_seen};
 ghost use Rattle.mapping.specs.Mapping.{Mapping};
 ghost use Rattle.segment.specs.Fields.{AreByField};
@@ -12,8 +12,8 @@ ghost use Rattle.segment.specs.Flat.{flats_of, roots_of};
 ghost use Rattle.segment.specs.Parts.{IsNumberColumn, IsOrdinalColumn, IsPresence};
 ghost use Rattle.term_table.specs.Part.{AreRows};
 ghost use Rattle.term_table.specs.Terms.{term_cmp};
-ghost use Rattle.segment_builder.specs.Blocks.{blocks_of};
-ghost use Rattle.segment_builder.specs.Entries.{entries_lent, flats_in, keywords_lent, most_objects, no_entries, numbers_lent, with_blocks, words_lent};
+ghost use Rattle.segment_builder.specs.Blocks.{blocks_of, objects_of};
+ghost use Rattle.segment_builder.specs.Entries.{entries_lent, flats_in, keywords_lent, no_entries, numbers_lent, with_blocks, words_lent};
 ghost use Rattle.segment_builder.specs.Given.{AreGiven};
 ghost use Rattle.segment_builder.specs.Groups.{AreGroups};
 ghost use Rattle.segment_builder.specs.Made.{IsMade};
@@ -30,24 +30,26 @@ use crate::roots::roots_of;
 use crate::rows::rows_of;
 use crate::scopes::scope_sets;
 use crate::terms::{add_keyword_terms, add_number_terms, number_keys};
-use flattener::{Block, blocks_are_of_their_mapping};
-use mapping::Mapping;
+use flattener::{Block, blocks_are_of_their_mapping, blocks_are_small};
+use mapping::{Mapping, names_lead_to_fields};
 use segment::{Columns, Segment, scopes_are_of_documents};
 use std::alloc::Global;
 use term_table::{RowList, keys_are_ordered};
 
 /// The segment of these blocks, in their order: its documents are theirs, one block behind the other. The mapping is the one
-/// that they were made with.
+/// that they were made with. The blocks are lent: they stay as they are.
 pub fn built(alloc: Global, mapping: &Mapping, blocks: &[Block]) -> Result<Segment, NoMemory>
     requires fit { All (BlockFits mapping.now) (map block_seen blocks.now) }
     requires some { 0 < length blocks.now }
-    requires few { length (flats_in (map block_seen blocks.now)) ≤ most_objects }
+    requires few { objects_of (map block_seen blocks.now) ≤ most_live }
     ensures flats { IfOk result (λ segment. flats_of segment ≡ flats_in (map block_seen blocks.now)) }
     ensures roots { IfOk result (λ segment. roots_of segment ≡ map (λ block. block.root) (map block_seen blocks.now)) }
     ensures fits { IfOk result (λ segment. SegmentFits mapping.now segment) }
     ensures blocks { IfOk result (λ segment. blocks_of segment ≡ map block_seen blocks.now) }
 {
     blocks_are_of_their_mapping();
+    blocks_are_small();
+    names_lead_to_fields();
     blocks_fit(blocks);
     let _scopes = mapping.scope_count();
     let _fields = mapping.field_count();

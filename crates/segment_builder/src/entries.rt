@@ -1,8 +1,9 @@
 //! The documents of blocks, taken apart.
 
 ghost use Rattle.std.specs.Prelude.{◌≡◌, ◌≤◌, ◌+◌, ◌++◌, length, map, IfOk, OnOk};
-ghost use Rattle.segment_builder.specs.Entries.{entries_lent, flats_in, keywords_lent, most_objects, no_entries, numbers_lent, with_blocks, with_document, with_documents, words_lent};
+ghost use Rattle.segment_builder.specs.Entries.{entries_lent, flats_in, keywords_lent, no_entries, numbers_lent, with_blocks, with_document, with_documents, words_lent};
 ghost use Rattle.segment_builder.specs.Parts.{tagged, fields_with};
+ghost use Rattle.flattener.specs.Fits.{most_live};
 ghost use Rattle.flattener.specs.Seen.{block_seen, document_seen, keyword_seen, number_seen, word_seen};
 
 use crate::NoMemory;
@@ -21,7 +22,7 @@ pub(crate) struct Entries<'a> {
 
 /// The entries of the documents of blocks.
 pub(crate) fn entries_of<'a>(alloc: Global, blocks: &'a [Block]) -> Result<Entries<'a>, NoMemory>
-    requires { length (flats_in (map block_seen blocks.now)) ≤ most_objects }
+    requires { length (flats_in (map block_seen blocks.now)) ≤ most_live }
     ensures { IfOk result (λ entries. entries_lent entries ≡ with_blocks no_entries (map block_seen blocks.now)) }
 {
     let mut entries = Entries {
@@ -39,7 +40,7 @@ pub(crate) fn entries_of<'a>(alloc: Global, blocks: &'a [Block]) -> Result<Entri
 
 /// Adds documents.
 fn add_documents<'a>(documents: &'a [Document], into: &mut Entries<'a>) -> Result<(), NoMemory>
-    requires { length into.old.scopes.items + length documents.now ≤ most_objects }
+    requires { length into.old.scopes.items + length documents.now ≤ most_live }
     ensures entries { OnOk result (entries_lent into.new ≡ with_documents (entries_lent into.old) (map document_seen documents.now)) }
     ensures count { OnOk result (length into.new.scopes.items ≡ length into.old.scopes.items + length documents.now) }
 {
@@ -51,7 +52,7 @@ fn add_documents<'a>(documents: &'a [Document], into: &mut Entries<'a>) -> Resul
 
 /// Adds a document, which gets the next number.
 fn add_document<'a>(document: &'a Document, into: &mut Entries<'a>) -> Result<(), NoMemory>
-    requires { length into.old.scopes.items ≤ most_objects }
+    requires { length into.old.scopes.items ≤ most_live }
     ensures entries { OnOk result (entries_lent into.new ≡ with_document (entries_lent into.old) (document_seen document.now)) }
     ensures count { OnOk result (length into.new.scopes.items ≡ length into.old.scopes.items + 1) }
 {

@@ -1,0 +1,35 @@
+use Rattle.std.proofs.Common.{◌≡◌, ◌+◌, ◌<◌, ◌≤◌, length, map, sym, ap, subst, ◌∙◌, arith}
+use Rattle.std.specs.Cmp.Lexicographic.{slice_cmp}
+use Rattle.std.specs.Ordering.{nat_cmp, int_cmp}
+use Rattle.segment_builder.specs.Entries.{entries_lent, flats_in}
+use Rattle.segment_builder.specs.Taken.{AreTextEntries}
+use Rattle.segment_builder.proofs.Agreeing.{all_written, apart_of, few_documents, kinds_of, scopes_below}
+use Rattle.segment_builder.proofs.Parted.{count}
+use Rattle.segment_builder.proofs.Taking.{keyword_entries, keywords_have_terms, number_entries, term_entries, text_entries}
+use Rattle.segment_builder.proofs.assemble.made.Goals as goal
+
+pub scope_sets-requires-clause-below : goal.scope_sets-requires-clause-below
+scope_sets-requires-clause-below c = rw c.as_slice.ensures.value (scopes_below c.requires.0 (entries_lent c.args.entries) c.requires.1 c.requires.3 c.requires.2)
+
+pub scope_sets-requires-clause-few : goal.scope_sets-requires-clause-few
+scope_sets-requires-clause-few c = omega (arith, ap length c.as_slice.ensures.value, count (entries_lent c.args.entries) c.requires.1 c.requires.3, few_documents c.requires.0 c.requires.1 c.requires.2)
+
+pub terms_of-requires : goal.terms_of-requires
+terms_of-requires c =
+    (length (flats_in c.requires.1),
+    rw (c.as_slice-2.ensures.value, c.as_slice-3.ensures.value)
+    (term_entries (kinds_of c.requires.0) (entries_lent c.args.entries) c.requires.1 c.requires.3 (all_written c.requires.0 c.requires.1 c.requires.2) (apart_of c.requires.0) c.keys_are_ordered.ensures c.requires.2.numbered.fields (few_documents c.requires.0 c.requires.1 c.requires.2)))
+
+pub number_columns-requires : goal.number_columns-requires
+number_columns-requires c =
+    (length (flats_in c.requires.1),
+    number_entries (kinds_of c.requires.0) (entries_lent c.args.entries) c.requires.1 c.requires.3 (all_written c.requires.0 c.requires.1 c.requires.2) c.requires.2.numbered.fields (few_documents c.requires.0 c.requires.1 c.requires.2))
+
+pub present_of-requires : goal.present_of-requires
+present_of-requires c =
+    text_entries_of c
+  where
+    text_entries_of : goal.present_of-requires
+    text_entries_of d =
+        let many : length (flats_in d.requires.1) ≡ length d.args.entries.scopes.items = sym (count (entries_lent d.args.entries) d.requires.1 d.requires.3) in
+        subst (λ n. AreTextEntries n d.args.entries.texts.items) many (text_entries (kinds_of d.requires.0) (entries_lent d.args.entries) d.requires.1 d.requires.3 (all_written d.requires.0 d.requires.1 d.requires.2) d.requires.2.numbered.fields)
