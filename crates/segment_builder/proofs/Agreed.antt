@@ -39,7 +39,7 @@ use Rattle.segment_builder.proofs.InOrder.{each_then, each_both}
 use Rattle.segment_builder.proofs.Keys.{split}
 use Rattle.segment_builder.proofs.Merged.{IsExact}
 use Rattle.segment_builder.proofs.Onced.{kept_once, same_bytes}
-use Rattle.segment_builder.proofs.Orders.{nat_order, term_order}
+use Rattle.segment_builder.proofs.Orders.{nat_order, pair_same, term_order}
 use Rattle.segment_builder.proofs.Parted.{text_tags, texts_are}
 use Rattle.segment_builder.proofs.Rising.{each_of_key, key_is, rises_within}
 use Rattle.segment_builder.proofs.Shown.{found_at}
@@ -139,11 +139,12 @@ module _ {K P : Type 0} (cmp : K → K → Ordering) (o : IsExact cmp) where
   back_of_key : (Q : K → P → Type 0) (entries : List (K × P)) → ((key : K) → AllByRecursion (Q key) (of_key cmp key entries)) → AllByRecursion (λ (entry : K × P). Q entry.0 entry.1) entries
   back_of_key Q [] all = tt
   back_of_key Q (entry ∷ entries) all =
-      ((rw ((eq_by_cmp_equiv o.total).refl entry.0) at (all entry.0)).0,
+      let here : AllByRecursion (Q entry.0) (entry.1 ∷ of_key cmp entry.0 entries) = rw ((eq_by_cmp_equiv o.total).refl entry.0) at (all entry.0) in
+      (here.0,
       back_of_key Q entries
       (λ key. split (eq_by_cmp cmp key entry.0)
-      (λ is. (rw is at (all key)).1)
-      (λ isnt. rw isnt at (all key))))
+      (λ is. (let more : AllByRecursion (Q key) (entry.1 ∷ of_key cmp key entries) = rw is at (all key) in more.1))
+      (λ isnt. (let same : AllByRecursion (Q key) (of_key cmp key entries) = rw isnt at (all key) in same))))
 
 values_map : {X Y : Type 0} (g : List X → List Y) → g [] ≡ [] → (doc : ℕ) (rows : List (ℕ × List X)) → values_of doc (map (λ (row : ℕ × List X). (row.0, g row.1)) rows) ≡ g (values_of doc rows)
 values_map g none doc [] = sym none
@@ -441,7 +442,8 @@ module _ (k : Kinds) (apart : AreApart k) (it : EntriesState) (blocks : List Blo
         let lists : map (slice_get (terms_of columns)) (values_of posting.0 rows) ≡ named term.0 values =
         values_named term.0 posting.0 rows are.own are.same ∙ ap (λ own. named term.0 (values_of posting.0 own)) are.gather in
         let found = map_at (slice_get (terms_of columns)) (values_of posting.0 rows) place.0 (Some (term.0, term.1)) (ap (λ xs. slice_get xs place.0) lists ∙ as_named) in
-        let same : found.0 ≡ ordinal = one_place (terms_of columns) found.0 ordinal term up found.2 there in
+        let written_out : slice_get (terms_of columns) ordinal ≡ Some (term.0, term.1) = there ∙ ap Some (pair_same term (term.0, term.1) refl refl) in
+        let same : found.0 ≡ ordinal = one_place (terms_of columns) found.0 ordinal (term.0, term.1) up found.2 written_out in
         there_at (values_of posting.0 rows) place.0 ordinal (found.1 ∙ ap Some same);
   }
 

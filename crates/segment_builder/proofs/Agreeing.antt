@@ -170,7 +170,9 @@ flats_end m block (next ∷ blocks) all = ends_behind block.flats (flats_in (nex
 
 last_mark : (flats : List FlatDocument) → EndsSo flats → (1 ≤ length flats) × (get_or (map root_mark flats) (length flats - 1) false ≡ true)
 last_mark [] ends = absurd ends
-last_mark (flat ∷ []) ends = (omega arith, eq-eqb flat.scope 0 ends)
+last_mark (flat ∷ []) ends =
+    let place : length (flat ∷ []) - 1 ≡ zero = omega arith in
+    (omega arith, rw place (eq-eqb flat.scope 0 ends))
 last_mark (flat ∷ next ∷ flats) ends =
     let rest = last_mark (next ∷ flats) ends in
     let place : length (flat ∷ next ∷ flats) - 1 ≡ suc (length (next ∷ flats) - 1) = omega arith in
