@@ -9,7 +9,6 @@ use Rattle.std.specs.declared.cmp.Ordering.{Ordering}
 use Rattle.std.specs.declared.cmp.Ordering.TheVariants.{Less, Equal, Greater}
 use Rattle.std.proofs.lemmas.Cmp.{eq_by_cmp_equiv, nat_list_cmp_total, ranked, by_ranked}
 use Rattle.std.proofs.lemmas.Map.Keys.{IsStrictlyIncreasing-from_sorted}
-use Rattle.analysis.specs.Words.{words}
 use Rattle.flattener.specs.Flat.{placed, ascending, bytes_cmp, token_cmp, tokens, tokens_by, later_tokens, placed_words, position_gap, together, grouped, words_of_field}
 use Rattle.segment_builder.proofs.InOrder.{each_then, each_both, sorted_push}
 use Rattle.segment_builder.proofs.Keys.{split}
@@ -102,7 +101,7 @@ module _ (cut : List ℕ → List (List ℕ)) where
 
 tokens_apart : (texts : List (List ℕ)) → AreApart (tokens texts)
 unfolding tokens
-tokens_apart texts = tokens_apart_by words texts
+tokens_apart texts = tokens_apart_by _ texts
 
 -- ---- sorted, they stay apart
 

@@ -1,11 +1,14 @@
 use Rattle.std.proofs.Common.{◌≡◌, ◌+◌, ◌<◌, ◌≤◌, length, map, sym, ap, subst, ◌∙◌, arith}
 use Rattle.std.specs.Cmp.Lexicographic.{slice_cmp}
 use Rattle.std.specs.Ordering.{nat_cmp, int_cmp}
+use Rattle.term_table.specs.Terms.{AreAscending}
+use Rattle.segment_builder.specs.Columns.{terms_in}
 use Rattle.segment_builder.specs.Entries.{entries_lent, flats_in}
 use Rattle.segment_builder.specs.Taken.{AreTextEntries}
 use Rattle.segment_builder.proofs.Agreeing.{all_written, apart_of, few_documents, kinds_of, scopes_below}
 use Rattle.segment_builder.proofs.Parted.{count}
-use Rattle.segment_builder.proofs.Taking.{keyword_entries, keywords_have_terms, number_entries, term_entries, text_entries}
+use Rattle.segment_builder.proofs.Agreed.{keywords_found}
+use Rattle.segment_builder.proofs.Taking.{keyword_entries, number_entries, term_entries, text_entries}
 use Rattle.segment_builder.proofs.assemble.made.Goals as goal
 
 pub scope_sets-requires-clause-below : goal.scope_sets-requires-clause-below
@@ -25,11 +28,20 @@ number_columns-requires c =
     (length (flats_in c.requires.1),
     number_entries (kinds_of c.requires.0) (entries_lent c.args.entries) c.requires.1 c.requires.3 (all_written c.requires.0 c.requires.1 c.requires.2) c.requires.2.numbered.fields (few_documents c.requires.0 c.requires.1 c.requires.2))
 
+pub ordinal_columns-requires-clause-ascending : goal.ordinal_columns-requires-clause-ascending
+ordinal_columns-requires-clause-ascending c = subst (λ rows. AreAscending (terms_in rows)) (sym c.as_slice-4.ensures.rows) c.as_slice-4.ensures.are.ascending
+
+pub ordinal_columns-requires-clause-entries : goal.ordinal_columns-requires-clause-entries
+ordinal_columns-requires-clause-entries c =
+    (length (flats_in c.requires.1),
+    keyword_entries (kinds_of c.requires.0) (entries_lent c.args.entries) c.requires.1 c.requires.3 (all_written c.requires.0 c.requires.1 c.requires.2) (terms_in c.as_slice-4.result.now)
+    (keywords_found (entries_lent c.args.entries) c.as_slice-4.result.now
+    (rw c.as_slice-4.ensures.rows (rw (c.as_slice-2.ensures.value, c.as_slice-3.ensures.value) at c.in_ok-terms.ensures.groups)))
+    c.requires.2.numbered.fields (few_documents c.requires.0 c.requires.1 c.requires.2))
+
 pub present_of-requires : goal.present_of-requires
 present_of-requires c =
-    text_entries_of c
-  where
-    text_entries_of : goal.present_of-requires
-    text_entries_of d =
-        let many : length (flats_in d.requires.1) ≡ length d.args.entries.scopes.items = sym (count (entries_lent d.args.entries) d.requires.1 d.requires.3) in
-        subst (λ n. AreTextEntries n d.args.entries.texts.items) many (text_entries (kinds_of d.requires.0) (entries_lent d.args.entries) d.requires.1 d.requires.3 (all_written d.requires.0 d.requires.1 d.requires.2) d.requires.2.numbered.fields)
+    let many : length (flats_in c.requires.1) ≡ length c.args.entries.scopes.items = sym (count (entries_lent c.args.entries) c.requires.1 c.requires.3) in
+    let fit : AreTextEntries (length c.args.entries.scopes.items) c.args.entries.texts.items =
+    subst (λ n. AreTextEntries n c.args.entries.texts.items) many (text_entries (kinds_of c.requires.0) (entries_lent c.args.entries) c.requires.1 c.requires.3 (all_written c.requires.0 c.requires.1 c.requires.2) c.requires.2.numbered.fields) in
+    rw c.len.ensures fit
