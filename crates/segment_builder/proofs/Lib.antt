@@ -32,3 +32,4 @@ pub mod Stands
 pub mod Deaths
 pub mod Lengths
 pub mod Suited
+pub mod Stored

@@ -1,12 +1,12 @@
 -- Ordinals of keywords ascend as the keywords do, and make columns that can be written.
-use Rattle.std.proofs.Common.{◌≡◌, ℕ, zero, suc, ◌+◌, ◌<◌, ◌≤◌, ◌^◌, true, false, List, [], ◌∷◌, length, map, get_or, slice_get, Option, Some, Contains, refl, sym, ap, subst, ◌∙◌, arith}
+use Rattle.std.proofs.Common.{◌≡◌, ℕ, zero, suc, ◌+◌, ◌<◌, ◌≤◌, ◌^◌, true, false, List, [], ◌∷◌, length, map, get_or, slice_get, Option, Some, Contains, refl, sym, ap, subst, ◌∙◌, arith, Vec}
 use Rattle.std.specs.Cmp.Lexicographic.{slice_cmp}
 use Rattle.std.specs.List.{All, AllByRecursion}
 use Rattle.std.specs.List.Sorted.{IsSorted, IsStrictlySortedBy, IsStrictlyIncreasing}
 use Rattle.std.specs.Ordering.{is_lt, nat_cmp}
 use Rattle.std.specs.declared.cmp.Ordering.{Ordering}
 use Rattle.std.specs.declared.cmp.Ordering.TheVariants.{Less, Equal, Greater}
-use Rattle.std.proofs.lemmas.List.{length-map}
+use Rattle.std.proofs.lemmas.List.{get_or-map, length-map}
 use Rattle.std.proofs.lemmas.List.Elements.{All-from_recursion, recursion_from_All}
 use Rattle.std.proofs.lemmas.Map.Keys.{Less-from_sorted, IsStrictlyIncreasing-from_sorted}
 use Rattle.std.proofs.lemmas.Option.{get_or_from_slice_get, same_Some, slice_get-get_or, slice_get_within}
@@ -15,7 +15,8 @@ use Rattle.doc_values.specs.Values.{AreValues, IsOrdinal, documents}
 use Rattle.segment.specs.Fields.{AreByField, fields}
 use Rattle.term_table.specs.Terms.{AreAscending, term_cmp}
 use Rattle.segment_builder.specs.Columns.{column_terms, named, named_group, named_row, row_terms, IsKeywordColumn}
-use Rattle.segment_builder.specs.Groups.{keys, AreGroups}
+use Rattle.segment_builder.specs.Entries.{bytes_lent}
+use Rattle.segment_builder.specs.Groups.{AreGroups}
 use Rattle.segment_builder.specs.Taken.{AreValueEntries}
 use Rattle.segment_builder.proofs.Agreed.{at_map}
 use Rattle.segment_builder.proofs.Among.{each_along}
@@ -69,6 +70,13 @@ ordinals_are terms field ordinals values up same are =
       fewer = omega (arith, are.fewer, count);
       ascending = ordinals_up terms field ordinals values up same are.ascending;
     }
+
+-- one of bytes that are lent
+pub lent_at : {A : Type 0} (P : List ℕ → Type 0) (values : List (Vec ℕ A)) (i : ℕ) (item : Vec ℕ A) → i < length values → item ≡ get_or values i item → All P (bytes_lent values) → P item.items
+lent_at {A} P values i item inside is all =
+    let count : i < length (bytes_lent values) = omega (arith, inside, length-map values (λ (bytes : Vec ℕ A). bytes.items)) in
+    let own : get_or (bytes_lent values) i [] ≡ (get_or values i item).items = get_or-map (λ (bytes : Vec ℕ A). bytes.items) values i item [] inside in
+    subst P (own ∙ ap (λ (bytes : Vec ℕ A). bytes.items) (sym is)) (all i [] count)
 
 -- ---- rows and columns
 

@@ -1,6 +1,6 @@
 //! The documents of each scope.
 
-ghost use Rattle.std.specs.Prelude.{◌≡◌, ℕ, ◌+◌, ◌-◌, ◌<◌, ◌≤◌, ◌^◌, if◌then◌else◌, true, slice_set, length, map, Contains, IfOk};
+ghost use Rattle.std.specs.Prelude.{◌≡◌, ℕ, ◌+◌, ◌-◌, ◌<◌, ◌≤◌, ◌^◌, ◌⊎◌, if◌then◌else◌, true, slice_set, length, map, Contains, IfOk};
 ghost use Rattle.std.specs.List.{All, range_with_len};
 ghost use Rattle.block_bits.specs.Blocks.{documents_of};
 
@@ -30,14 +30,23 @@ fn scope_count(scopes: &[u32]) -> u32
     requires { All (λ scope. scope + 1 < 2 ^ 32) scopes.now }
     ensures within { All (λ scope. scope < result) scopes.now }
     ensures greatest { 0 < length scopes.now → Contains scopes.now (result - 1) }
+    ensures fewer { result < 2 ^ 32 }
 {
     let mut count = 0;
     'scopes: for scope in scopes {
-        if *scope >= count {
-            count = *scope + 1;
-        }
+        count = count_with(count, *scope);
     }
     count
+}
+
+/// A count that is more than a scope too.
+fn count_with(count: u32, scope: u32) -> u32
+    requires { scope + 1 < 2 ^ 32 }
+    ensures within { scope < result }
+    ensures more { count ≤ result }
+    ensures which { (result ≡ count) ⊎ (result ≡ scope + 1) }
+{
+    if scope < count { count } else { scope + 1 }
 }
 
 /// The documents of a scope.
