@@ -7,6 +7,9 @@ use Rattle.segment_builder.proofs.Agreeing.{columns_agree, fit_roots}
 use Rattle.segment_builder.proofs.Whole.{flats_are}
 use Rattle.segment_builder.proofs.assemble.made_of.Goals as goal
 
+pub entries_of-requires : goal.entries_of-requires
+entries_of-requires c = c.requires.1.few
+
 pub roots_of-requires : goal.roots_of-requires
 roots_of-requires c = fit_roots c.requires.0 (map block_seen c.args.blocks.now) c.requires.1
 
