@@ -21,7 +21,7 @@ use Rattle.machine.specs.MappingLine.{first_refusals, first_done, growing_refusa
 use Rattle.machine.specs.Searching.{searched, search_over, search_by, body_refusal, search_step}
 use Rattle.machine.specs.State.{State, sealed_state, IsLaid}
 use Rattle.machine.specs.Step.{refresh_step, action_step, asked_step, step}
-use Rattle.machine.specs.Write.{live_tree, early_refusals, nothing_to_do, leaves_source, new_source, added_body, grown_by, put_refusals, put_result, changed, put_tree, new_tree, full, with_put, take_out, change, answered_or, change_or_nothing, write_step}
+use Rattle.machine.specs.Write.{live_tree, live_number, early_refusals, nothing_to_do, leaves_source, new_source, added_body, grown_by, put_refusals, put_result, changed, put_tree, new_tree, full, with_put, take_out, change, answered_or, change_or_nothing, write_step}
 
 -- where nothing is refused the state afterwards is laid out
 abbrev IsLaidAfter : Answer → Type 0
@@ -82,7 +82,7 @@ write_laid : (limits : Limits) (m : Mapping) (it : Write) (state : State) → Is
 unfolding write_step
 write_laid limits m it state laid =
     let live = live_tree it.target.id state.content.live in
-    refused_laid (first_of (early_refusals m it live)) (change_or_nothing limits m it live state)
+    refused_laid (first_of (early_refusals m it (live_number live))) (change_or_nothing limits m it live state)
     (answered_laid (nothing_to_do (leaves_source it.operation live) it.target.id it.operation live) state (change limits m it.target.id (new_source it.operation live) live state) laid
     (changes_laid limits m it.target.id (new_source it.operation live) live state laid))
 
