@@ -15,3 +15,4 @@ pub mod Fitted
 pub mod Cut
 pub mod Stands
 pub mod Deaths
+pub mod Lengths

@@ -21,5 +21,5 @@ mod scopes;
 mod terms;
 
 pub use assemble::built;
-pub use law::{blocks_stand_for_trees, deaths_mark_blocks};
+pub use law::{blocks_are_whole, blocks_stand_for_trees, deaths_mark_blocks};
 pub use refusal::BuildRefusal;
