@@ -34,7 +34,7 @@ has_old entries buffer made next numbers id old are known is = record { end = ne
 
 found_number : (o : Option BlockState) (number : ℕ) → option_map block_number o ≡ Some number → (block : BlockState) × (o ≡ Some block) × (block_number block ≡ number)
 found_number None number e = absurd (cc (e))
-found_number (Some block) number e = (block, refl, same (block_number block) number e)
+found_number (Some block) number e = (block, (refl, same (block_number block) number e))
   where
     same : (x y : ℕ) → Some x ≡ Some y → x ≡ y
     same x y h = cc (h)

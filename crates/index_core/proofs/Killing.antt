@@ -37,7 +37,8 @@ pub marked_at : (blocks : List BlockState) (marks : List Bool) (place : ℕ) (m 
 marked_at [] marks place m at = absurd (cc (at))
 marked_at (block ∷ blocks) [] place m at = absurd (cc (at))
 marked_at (block ∷ blocks) (mark ∷ marks) zero m at =
-    let same : record { item = block; live = mark } ≡ m = some_is (record { item = block; live = mark }) m at in
+    let first : Marked BlockState = record { item = block; live = mark } in
+    let same : first ≡ m = some_is first m at in
     record { block = ap (λ (x : Marked BlockState). Some x.item) same; mark = λ d. ap (λ (x : Marked BlockState). x.live) same }
 marked_at (block ∷ blocks) (mark ∷ marks) (suc place) m at = let rest = marked_at blocks marks place m at in record { block = rest.block; mark = rest.mark }
 

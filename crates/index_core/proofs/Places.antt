@@ -138,7 +138,7 @@ module _ (entries : List EntryState) (buffer : List BlockState) (end : ℕ) (is 
     one_ascends : (segments : List (SegmentOf BlockState)) (from to index : ℕ) (s : SegmentOf BlockState) → Ascend from (flat_map numbers_in segments) to → slice_get segments index ≡ Some s → (low : ℕ) × (high : ℕ) × Ascend low (numbers_in s) high
     one_ascends [] from to index s ascend at = absurd (cc (at))
     one_ascends (first ∷ segments) from to zero s ascend at =
-        (from, middle from (numbers_in first), subst (λ (x : SegmentOf BlockState). Ascend from (numbers_in x) (middle from (numbers_in first))) (some_is first s at) (ascend_first (numbers_in first) (flat_map numbers_in segments) from to ascend))
+        (from, (middle from (numbers_in first), subst (λ (x : SegmentOf BlockState). Ascend from (numbers_in x) (middle from (numbers_in first))) (some_is first s at) (ascend_first (numbers_in first) (flat_map numbers_in segments) from to ascend)))
     one_ascends (first ∷ segments) from to (suc index) s ascend at =
         one_ascends segments (middle from (numbers_in first)) to index s (ascend_second (numbers_in first) (flat_map numbers_in segments) from to ascend) at
 
