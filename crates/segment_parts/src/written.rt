@@ -37,7 +37,8 @@ fn put_head(columns: &Columns, into: &mut Vec<u8>) -> Result<(), NoMemory>
     put_head_of(columns.documents, columns.scopes.as_slice(), into)
 }
 
-/// Appends a number of documents, and the documents of each of these scopes.
+/// Appends a number of documents, and the documents of each of these scopes. Where memory runs out, a part of them may stand
+/// there.
 #[tactic(auto, unfolding(crate::specs::Text::head_text))]
 pub fn put_head_of(documents: u32, scopes: &[BitSet], into: &mut Vec<u8>) -> Result<(), NoMemory>
     requires { length scopes.now < 2 ^ 32 }
