@@ -26,6 +26,8 @@ pub fn segment_bytes(alloc: Global, columns: &Columns) -> Result<Vec<u8>, NoMemo
     put_ordinals(columns, &mut bytes)?;
     put_numbers(columns, &mut bytes)?;
     put_present(columns.present.as_slice(), &mut bytes)?;
+    // a segment lives long: it keeps no room that it grew by
+    bytes.shrink_to_fit();
     Ok(bytes)
 }
 
