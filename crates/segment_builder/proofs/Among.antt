@@ -1,6 +1,7 @@
 -- Things that are among others, and what each of them is.
-use Rattle.std.proofs.Common.{◌≡◌, ℕ, zero, suc, ◌+◌, ◌<◌, ◌≤◌, ◌==◌, Bool, true, false, ◌||◌, List, [], ◌∷◌, ◌++◌, length, map, slice_get, Option, Some, None, Contains, refl, sym, ap, subst, ◌∙◌, arith, eqb-true, eq-eqb}
+use Rattle.std.proofs.Common.{◌≡◌, ℕ, zero, suc, ◌+◌, ◌<◌, ◌≤◌, ◌==◌, Bool, true, false, ◌||◌, List, [], ◌∷◌, ◌++◌, length, map, get_or, slice_get, Option, Some, None, Contains, refl, sym, ap, subst, ◌∙◌, append_assoc, arith, eqb-true, eq-eqb}
 use Rattle.std.specs.List.{All, AllByRecursion, list_any}
+use Rattle.std.proofs.lemmas.List.{get_or-map, length-map}
 use Rattle.std.proofs.lemmas.Option.{get_or_from_slice_get, slice_get_within}
 use Rattle.std.proofs.lemmas.List.Elements.{Contains-append_right}
 use Rattle.segment_builder.proofs.Keys.{split}
@@ -72,6 +73,7 @@ tail_of (w ∷ ws) = ws
 -- are so one by one
 pub each_along : {X Y Z : Type 0} (f : X → Z) (g : Y → Z) (P : Y → Type 0) (Q : X → Type 0) → ((x : X) (y : Y) → f x ≡ g y → P y → Q x)
     → (xs : List X) (ys : List Y) → map f xs ≡ map g ys → AllByRecursion P ys → AllByRecursion Q xs
+unfolding head_or tail_of
 each_along f g P Q goes [] ys same all = tt
 each_along f g P Q goes (x ∷ xs) [] same all = absurd (cc (same))
 each_along f g P Q goes (x ∷ xs) (y ∷ ys) same all =
@@ -79,8 +81,21 @@ each_along f g P Q goes (x ∷ xs) (y ∷ ys) same all =
 
 -- and where each one gives the other, the one list gives the other
 pub map_along : {X Y Z : Type 0} (f : X → Z) (g : Y → Z) (h : X → Y) → ((x : X) (y : Y) → f x ≡ g y → h x ≡ y) → (xs : List X) (ys : List Y) → map f xs ≡ map g ys → map h xs ≡ ys
+unfolding head_or tail_of
 map_along f g h gives [] [] same = refl
 map_along f g h gives [] (y ∷ ys) same = absurd (cc (same))
 map_along f g h gives (x ∷ xs) [] same = absurd (cc (same))
 map_along f g h gives (x ∷ xs) (y ∷ ys) same =
     rw (gives x y (ap (head_or (f x)) same), map_along f g h gives xs ys (ap tail_of same)) refl
+
+-- ---- what a list is seen as, at one of its places
+
+pub seen_at : {X Y : Type 0} (f : X → Y) (P : Y → Type 0) (xs : List X) (i : ℕ) (d : X) → i < length xs → All P (map f xs) → P (f (get_or xs i d))
+seen_at f P xs i d inside all = subst P (get_or-map f xs i d (f d) inside) (all i (f d) (omega (arith, inside, length-map xs f)))
+
+pub item_at : {X Y : Type 0} (f : X → Y) (P : Y → Type 0) (xs : List X) (i : ℕ) (item : X) → i < length xs → item ≡ get_or xs i item → All P (map f xs) → P (f item)
+item_at f P xs i item inside is all = subst (λ x. P (f x)) (sym is) (seen_at f P xs i item inside all)
+
+-- one more of a list is done
+pub goes_on : {Y : Type 0} (done next new rest whole : List Y) (y : Y) → next ≡ y ∷ rest → new ≡ done ++ y ∷ [] → done ++ next ≡ whole → new ++ rest ≡ whole
+goes_on done next new rest whole y is more goes = rw more (append_assoc done (y ∷ []) rest ∙ ap (λ ys. done ++ ys) (sym is) ∙ goes)

@@ -6,9 +6,12 @@ use Rattle.std.specs.declared.cmp.Ordering.{Ordering}
 use Rattle.std.specs.declared.cmp.Ordering.TheVariants.{Less, Equal, Greater}
 use Rattle.std.proofs.lemmas.Bool.{cases_lt}
 use Rattle.std.proofs.lemmas.Cmp.{eq_by_cmp_equiv}
+use Rattle.std.proofs.lemmas.List.{get_or-map, length-map}
 use Rattle.std.proofs.lemmas.Map.Keys.{Less-from_sorted}
 use Rattle.std.proofs.lemmas.Option.{get_or_from_slice_get, slice_get-get_or, slice_get_within}
 use Rattle.term_table.specs.Terms.{AreAscending, term_cmp}
+use Rattle.term_table.specs.declared.rows.TermRow.{TermRow}
+use Rattle.segment_builder.specs.Columns.{terms_in}
 use Rattle.segment_builder.proofs.Orders.{term_order}
 
 -- a term stands at a place from `low` on and below `high`
@@ -84,3 +87,12 @@ pub found_at_last : (terms : List (ℕ × List ℕ)) (term : ℕ × List ℕ) (l
 found_at_last terms term low high between one =
     let place : low ≡ between.at = omega (arith, between.from, between.below, one) in
     ap (slice_get terms) place ∙ between.is
+
+abbrev own_term : TermRow → ℕ × List ℕ
+own_term row = row.term
+
+-- the term of the row at a place
+pub term_there : (rows : List TermRow) (place : ℕ) (row : TermRow) → place < length rows → row ≡ get_or rows place row → slice_get (terms_in rows) place ≡ Some row.term
+term_there rows place row inside is =
+    slice_get-get_or (terms_in rows) place row.term (omega (arith, inside, length-map rows own_term))
+    ∙ ap Some (get_or-map own_term rows place row row.term inside ∙ sym (ap own_term is))

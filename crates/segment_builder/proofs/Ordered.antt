@@ -299,7 +299,7 @@ module _ (texts : ℕ → List (List ℕ)) where
     where
       without : (ts : List (List ℕ)) → has_some (f, ts) ≡ false → words_of_field f (tokens ts) ≡ []
       without [] empty = refl
-      without (t ∷ ts) empty = absurd (cc (empty))
+      without (t ∷ ts) empty = absurd (grind (arith, nat_tests, empty))
 
   abbrev valued_fields : List ℕ → List ℕ
   valued_fields fs = keys (carried (λ f. texts f) fs)

@@ -13,12 +13,12 @@ ghost use Rattle.segment.specs.Parts.{IsNumberColumn, IsOrdinalColumn, IsPresenc
 ghost use Rattle.term_table.specs.Part.{AreRows};
 ghost use Rattle.term_table.specs.Terms.{term_cmp};
 ghost use Rattle.segment_builder.specs.Blocks.{blocks_of, objects_of};
-ghost use Rattle.segment_builder.specs.Entries.{entries_lent, flats_in, keywords_lent, no_entries, numbers_lent, with_blocks, words_lent};
+ghost use Rattle.segment_builder.specs.Entries.{entries_lent, flats_in, keywords_lent, no_entries, with_blocks, words_lent};
 ghost use Rattle.segment_builder.specs.Given.{AreGiven};
 ghost use Rattle.segment_builder.specs.Groups.{AreGroups};
 ghost use Rattle.segment_builder.specs.Made.{IsMade};
 ghost use Rattle.segment_builder.specs.Taken.{AreTermEntries};
-ghost use Rattle.segment_builder.specs.Terms.{keyword_terms, number_terms, row_group};
+ghost use Rattle.segment_builder.specs.Terms.{keyword_terms, keys_kept, row_group};
 
 use crate::NoMemory;
 use crate::entries::{Entries, entries_of};
@@ -29,7 +29,7 @@ use crate::present::present_of;
 use crate::roots::roots_of;
 use crate::rows::rows_of;
 use crate::scopes::scope_sets;
-use crate::terms::{add_keyword_terms, add_number_terms, number_keys};
+use crate::terms::{add_keyword_terms, add_number_terms, add_word_terms, number_keys};
 use flattener::{Block, blocks_are_of_their_mapping, blocks_are_small};
 use mapping::{Mapping, names_lead_to_fields};
 use segment::{Columns, Segment, scopes_are_of_documents};
@@ -80,7 +80,7 @@ fn made(
     roots: stored_sources::RowList,
 ) -> Result<Columns, NoMemory>
     requires { (m : Mapping) × (blocks : List BlockState) × AreGiven m blocks × (entries_lent entries ≡ with_blocks no_entries blocks) }
-    ensures made { IfOk result (λ columns. IsMade (entries_lent entries) columns) }
+    ensures made { IfOk result (λ columns. IsMade (entries_lent entries.entry) columns) }
     ensures roots { IfOk result (λ columns. columns.roots ≡ roots) }
     ensures terms { IfOk result (λ columns. AreRows columns.terms) }
     ensures ordinals { IfOk result (λ columns. AreByField IsOrdinalColumn columns.ordinals) }
@@ -98,7 +98,8 @@ fn made(
     } = entries;
     let documents = scopes.len() as u32;
     let scopes = scope_sets(alloc, scopes.as_slice())?;
-    let terms = terms_of(alloc, numbers.as_slice(), keywords.as_slice(), words)?;
+    let keys = number_keys(alloc, numbers.as_slice())?;
+    let terms = terms_of(alloc, words.as_slice(), keywords.as_slice(), keys.as_slice())?;
     let ordinals = ordinal_columns(alloc, terms.as_slice(), keywords)?;
     let numbers = number_columns(alloc, numbers)?;
     let present = present_of(alloc, documents, texts)?;
@@ -113,20 +114,20 @@ fn made(
     })
 }
 
-/// The terms of all documents with their postings.
+/// The terms of all documents with their postings; numbers stand there by their keys.
 fn terms_of<'a>(
     alloc: Global,
-    numbers: &[(u32, (u32, &'a [i64]))],
-    keywords: &[(u32, (u32, &'a [Vec<u8>]))],
-    words: Vec<((u32, &'a [u8]), (u32, &'a [u32]))>,
+    words: &'a [((u32, &'a [u8]), (u32, &'a [u32]))],
+    keywords: &'a [(u32, (u32, &'a [Vec<u8>]))],
+    keys: &'a [(u32, (u32, [u8; 8]))],
 ) -> Result<RowList, NoMemory>
-    requires { (documents : ℕ) × AreTermEntries documents ((words_lent words.items ++ keyword_terms (keywords_lent keywords.now)) ++ number_terms (numbers_lent numbers.now)) }
-    ensures groups { IfOk result (λ rows. AreGroups term_cmp ((words_lent words.items ++ keyword_terms (keywords_lent keywords.now)) ++ number_terms (numbers_lent numbers.now)) (map row_group rows)) }
+    requires { (documents : ℕ) × AreTermEntries documents ((words_lent words.now ++ keyword_terms (keywords_lent keywords.now)) ++ keys_kept keys.now) }
+    ensures groups { IfOk result (λ rows. AreGroups term_cmp ((words_lent words.now ++ keyword_terms (keywords_lent keywords.now)) ++ keys_kept keys.now) (map row_group rows)) }
     ensures are { IfOk result (λ rows. AreRows rows) }
 {
-    let keys = number_keys(alloc, numbers)?;
-    let mut terms = words;
+    let mut terms = Vec::new(alloc);
+    add_word_terms(words, &mut terms)?;
     add_keyword_terms(keywords, &mut terms)?;
-    add_number_terms(keys.as_slice(), &mut terms)?;
+    add_number_terms(keys, &mut terms)?;
     Ok(rows_of(alloc, terms)?)
 }

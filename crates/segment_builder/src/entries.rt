@@ -32,7 +32,7 @@ pub(crate) fn entries_of<'a>(alloc: Global, blocks: &'a [Block]) -> Result<Entri
         words: Vec::new(alloc),
         texts: Vec::new(alloc),
     };
-    'blocks: for block in blocks {
+    'each: for block in blocks {
         add_documents(block.documents.as_slice(), &mut entries)?;
     }
     Ok(entries)

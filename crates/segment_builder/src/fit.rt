@@ -12,7 +12,7 @@ use flattener::{Block, Document, NumberField, Word};
 pub(crate) fn blocks_fit(blocks: &[Block])
     ensures { All (λ block. All (λ document. IsFit (document_seen document)) block.documents.items) blocks.now }
 {
-    'blocks: for block in blocks {
+    'each: for block in blocks {
         documents_fit(block.documents.as_slice());
     }
 }
@@ -55,15 +55,6 @@ fn words_fit(words: &[Word])
 /// Says that numbers fit their type.
 fn values_fit(values: &[i64])
     ensures { All (FitsSigned w64) values.now }
-{
-    'values: for value in values {
-        value_fits(*value);
-    }
-}
-
-/// Says that a number fits its type.
-fn value_fits(value: i64)
-    ensures { FitsSigned w64 value }
 {}
 
 /// Says that positions fit their type.

@@ -24,7 +24,7 @@ pub(crate) fn number_columns(
     numbers: Vec<(u32, (u32, &[i64]))>,
 ) -> Result<ColumnList<i64>, NoMemory>
     requires { (documents : ℕ) × AreValueEntries int_cmp (λ field number. FitsSigned w64 number) documents (numbers_lent numbers.items) }
-    ensures groups { IfOk result (λ columns. AreGroups nat_cmp (numbers_lent numbers.items) columns) }
+    ensures groups { IfOk result (λ columns. AreGroups nat_cmp (numbers_lent numbers.entry.items) columns) }
     ensures are { IfOk result (λ columns. AreByField (IsColumn int_cmp (FitsSigned w64)) columns) }
 {
     let groups = grouped(alloc, numbers)?;

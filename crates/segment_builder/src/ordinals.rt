@@ -29,7 +29,7 @@ pub(crate) fn ordinal_columns(
 ) -> Result<ColumnList<u64>, NoMemory>
     requires ascending { AreAscending (terms_in terms.now) }
     requires entries { (documents : ℕ) × AreValueEntries (slice_cmp nat_cmp) (λ field bytes. Contains (terms_in terms.now) (field, bytes)) documents (keywords_lent keywords.items) }
-    ensures groups { IfOk result (λ columns. (groups : List (ℕ × List (ℕ × List (List ℕ)))) × AreGroups nat_cmp (keywords_lent keywords.items) groups
+    ensures groups { IfOk result (λ columns. (groups : List (ℕ × List (ℕ × List (List ℕ)))) × AreGroups nat_cmp (keywords_lent keywords.entry.items) groups
         × (map (column_terms (terms_in terms.now)) columns ≡ map named_group groups)) }
     ensures are { IfOk result (λ columns. AreByField (IsColumn nat_cmp IsOrdinal) columns) }
 {

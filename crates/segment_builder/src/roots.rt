@@ -26,7 +26,7 @@ fn roots_from(alloc: Global, blocks: &[Block]) -> Result<Vec<Root>, NoMemory>
     ensures { IfOk result (λ roots. map root_seen roots.items ≡ map (λ block. block.root) (map block_seen blocks.now)) }
 {
     let mut roots = Vec::new(alloc);
-    'blocks: for block in blocks {
+    'each: for block in blocks {
         roots.push(root_of(alloc, &block.root)?)?;
     }
     Ok(roots)

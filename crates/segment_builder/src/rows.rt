@@ -19,7 +19,7 @@ pub(crate) fn rows_of(
     terms: Vec<((u32, &[u8]), (u32, &[u32]))>,
 ) -> Result<RowList, NoMemory>
     requires { (documents : ℕ) × AreTermEntries documents (words_lent terms.items) }
-    ensures groups { IfOk result (λ rows. AreGroups term_cmp (words_lent terms.items) (map row_group rows)) }
+    ensures groups { IfOk result (λ rows. AreGroups term_cmp (words_lent terms.entry.items) (map row_group rows)) }
     ensures are { IfOk result (λ rows. AreRows rows) }
 {
     let groups = grouped(alloc, terms)?;
@@ -33,7 +33,7 @@ fn rows_from(
     alloc: Global,
     groups: Vec<((u32, &[u8]), Vec<(u32, &[u32])>)>,
 ) -> Result<Vec<TermRow>, NoMemory>
-    ensures { IfOk result (λ rows. map row_group rows.items ≡ rows_lent groups.items) }
+    ensures { IfOk result (λ rows. map row_group rows.items ≡ rows_lent groups.entry.items) }
 {
     let mut rows = Vec::new(alloc);
     'groups: for ((field, bytes), postings) in groups {

@@ -9,6 +9,19 @@ use crate::NoMemory;
 use std::alloc::Global;
 use term_table::number_key;
 
+/// Adds the words of all documents to the terms.
+pub(crate) fn add_word_terms<'a>(
+    words: &[((u32, &'a [u8]), (u32, &'a [u32]))],
+    into: &mut Vec<((u32, &'a [u8]), (u32, &'a [u32]))>,
+) -> Result<(), NoMemory>
+    ensures { OnOk result (words_lent into.new.items ≡ words_lent into.old.items ++ words_lent words.now) }
+{
+    'words: for word in words {
+        into.push(*word)?;
+    }
+    Ok(())
+}
+
 /// Adds the keywords of all documents to the terms.
 pub(crate) fn add_keyword_terms<'a>(
     keywords: &[(u32, (u32, &'a [Vec<u8>]))],

@@ -10,23 +10,23 @@ scopes-preserved c =
 
 pub returns-clause-sets : goal.returns-clause-sets
 returns-clause-sets c =
-    let all : c.of.result ≡ map (documents_of c.args.scopes.now) (range_with_len 0 c.scope_count.result) = search rules in
-    all ∙ ap (λ n. map (documents_of c.args.scopes.now) (range_with_len 0 n)) (sym (ap length all ∙ length-map-range_with_len (documents_of c.args.scopes.now) 0 c.scope_count.result))
+    let all : c.of.result ≡ map (documents_of c.args.scopes.now) (range_with_len 0 c.scope_count-count.result) = search rules in
+    all ∙ ap (λ n. map (documents_of c.args.scopes.now) (range_with_len 0 n)) (sym (ap length all ∙ length-map-range_with_len (documents_of c.args.scopes.now) 0 c.scope_count-count.result))
 
 pub returns-clause-within : goal.returns-clause-within
 returns-clause-within c =
-    let all : c.of.result ≡ map (documents_of c.args.scopes.now) (range_with_len 0 c.scope_count.result) = search rules in
-    let count : c.scope_count.result ≡ length c.of.result = sym (ap length all ∙ length-map-range_with_len (documents_of c.args.scopes.now) 0 c.scope_count.result) in
-    subst (λ n. All (λ scope. scope < n) c.args.scopes.now) count c.scope_count.ensures.within
+    let all : c.of.result ≡ map (documents_of c.args.scopes.now) (range_with_len 0 c.scope_count-count.result) = search rules in
+    let count : c.scope_count-count.result ≡ length c.of.result = sym (ap length all ∙ length-map-range_with_len (documents_of c.args.scopes.now) 0 c.scope_count-count.result) in
+    subst (λ n. All (λ scope. scope < n) c.args.scopes.now) count c.scope_count-count.ensures.within
 
 pub returns-clause-greatest : goal.returns-clause-greatest
 returns-clause-greatest c =
-    let all : c.of.result ≡ map (documents_of c.args.scopes.now) (range_with_len 0 c.scope_count.result) = search rules in
-    let count : c.scope_count.result ≡ length c.of.result = sym (ap length all ∙ length-map-range_with_len (documents_of c.args.scopes.now) 0 c.scope_count.result) in
-    λ some. subst (λ n. Contains c.args.scopes.now (n - 1)) count (c.scope_count.ensures.greatest some)
+    let all : c.of.result ≡ map (documents_of c.args.scopes.now) (range_with_len 0 c.scope_count-count.result) = search rules in
+    let count : c.scope_count-count.result ≡ length c.of.result = sym (ap length all ∙ length-map-range_with_len (documents_of c.args.scopes.now) 0 c.scope_count-count.result) in
+    λ some. subst (λ n. Contains c.args.scopes.now (n - 1)) count (c.scope_count-count.ensures.greatest some)
 
 pub returns-clause-fewer : goal.returns-clause-fewer
 returns-clause-fewer c =
-    let all : c.of.result ≡ map (documents_of c.args.scopes.now) (range_with_len 0 c.scope_count.result) = search rules in
-    let count : c.scope_count.result ≡ length c.of.result = sym (ap length all ∙ length-map-range_with_len (documents_of c.args.scopes.now) 0 c.scope_count.result) in
-    omega (arith, count, c.scope_count.ensures.fewer)
+    let all : c.of.result ≡ map (documents_of c.args.scopes.now) (range_with_len 0 c.scope_count-count.result) = search rules in
+    let count : c.scope_count-count.result ≡ length c.of.result = sym (ap length all ∙ length-map-range_with_len (documents_of c.args.scopes.now) 0 c.scope_count-count.result) in
+    omega (arith, count, c.scope_count-count.ensures.fewer)
