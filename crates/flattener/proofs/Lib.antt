@@ -16,3 +16,4 @@ pub mod Fitting
 pub mod Further
 pub mod FitsFurther
 pub mod Smallness
+pub mod Lightness

@@ -4,7 +4,7 @@ ghost use Rattle.tree_json.specs.Text.{compact};
 ghost use Rattle.tree_json.specs.View.{view};
 ghost use Rattle.tree_objects.specs.Fault.{first_fault};
 ghost use Rattle.flattener.specs.Block.{block_of, block_refusal, most_documents, root_of_tree, tree_given};
-ghost use Rattle.flattener.specs.Fits.{BlockFits, IsGiven};
+ghost use Rattle.flattener.specs.Fits.{BlockFits, IsGiven, most_source};
 ghost use Rattle.flattener.specs.Seen.{block_seen, document_seen, root_seen};
 ghost use Rattle.flattener.specs.Walked.{flat_pair, walked};
 
@@ -70,11 +70,13 @@ fn documents(
     generation: u32,
     source: &Json,
 ) -> Result<Vec<Document>, FlattenRefusal>
+    requires { length (compact (view source.now)) ≤ most_source }
     ensures documents { IfOk result (λ v. map document_seen v.items ≡ map (flat_pair mapping.now generation) (walked mapping.now generation (length mapping.now.scopes) 0 (view source.now))) }
     ensures few { IsOk result → length (walked mapping.now generation (length mapping.now.scopes) 0 (view source.now)) ≤ most_documents }
     ensures many { IfErr result (λ e. (e ≡ FlattenRefusal.NoMemory) ⊎ ((e ≡ FlattenRefusal.TooManyObjects) × (most_documents < length (walked mapping.now generation (length mapping.now.scopes) 0 (view source.now))))) }
 {
     let levels = mapping.scope_count();
+    let mut found = Vec::new(alloc);
     let mut documents = Vec::new(alloc);
     match walk(
         alloc,
@@ -83,6 +85,7 @@ fn documents(
         levels,
         0,
         source,
+        &mut found,
         &mut documents,
     ) {
         Ok(()) => Ok(documents),
