@@ -1,14 +1,10 @@
 -- What an object shows of a text field has room among positions, and what stands inside a value is no longer than it.
 use Rattle.std.proofs.Common.{◌≡◌, ℕ, ◌+◌, ◌*◌, ◌<◌, ◌≤◌, ◌^◌, ◌==◌, ℤ, nat_le, true, false, List as Seq, [], ◌∷◌, ◌++◌, length, map, filter, refl, sym, ap, ◌∙◌, subst, arith}
-use Rattle.std.proofs.lemmas.List.Concat.{flat_map-append}
-use Rattle.std.proofs.lemmas.List.Elements.{All-from_recursion}
-use Rattle.std.specs.List.{All, AllByRecursion, flat_map}
+use Rattle.std.specs.List.{flat_map}
 use Rattle.mapping_body.proofs.Walks.{split}
 use Rattle.mapping.specs.Mapping.{Mapping, home_of, knows, names_to, scope_at, shows}
 use Rattle.tree_json.specs.Text.{compact}
 use Rattle.tree_json.specs.Value.{JsonValue, null, bool, whole, text, list, object, is_object}
-use Rattle.tree_json.specs.View.{view}
-use Rattle.tree_json.specs.declared.value.Json.{Json}
 use Rattle.tree_objects.specs.Object.{items, way}
 use Rattle.tree_objects.specs.Values.{text_of}
 use Rattle.tree_objects.proofs.Weights.{items_light, number_long, quoted_long, total, total_append, total_filter, weight_of}
@@ -21,7 +17,7 @@ flat_light : (f : JsonValue → Seq JsonValue) → ((w : JsonValue) → total we
 flat_light f each [] = omega arith
 flat_light f each (w ∷ ws) = omega (arith, each w, flat_light f each ws, total_append weight_of (f w) (flat_map f ws))
 
-children_light : (m : Mapping) (g n : ℕ) (v : JsonValue) → total weight_of (children_at m g n v) ≤ weight_of v
+pub children_light : (m : Mapping) (g n : ℕ) (v : JsonValue) → total weight_of (children_at m g n v) ≤ weight_of v
 children_light m g n v =
     split (nat_le (scope_at m n).since g)
     (λ held. rw held (omega (arith, total_filter weight_of is_object (items v (scope_at m n).names), items_light v (scope_at m n).names)))
@@ -61,13 +57,4 @@ texts_room (w ∷ ws) = omega (arith, text_room w, texts_room ws, room_next w ws
 pub shown_room : (m : Mapping) (g f s : ℕ) (v : JsonValue) → length (compact v) ≤ most_source → room (texts_among (shown_items m g f s v)) < 2 ^ 32
 shown_room m g f s v light = omega (arith, light, texts_room (shown_items m g f s v), shown_light m g f s v)
 
-each_within : {X : Type 0} (see : X → JsonValue) (most : ℕ) (js : Seq X) → total weight_of (map see js) ≤ most → AllByRecursion (λ (j : X). weight_of (see j) ≤ most) js
-each_within see most [] h = tt
-each_within see most (j ∷ js) h = (omega (arith, h), each_within see most js (omega (arith, h)))
-
-pub light_children : {X : Type 0} (see : X → JsonValue) (m : Mapping) (g n : ℕ) (v : JsonValue) (js : Seq X) → map see js ≡ children_at m g n v → All (λ (j : X). length (compact (see j)) ≤ length (compact v)) js
-light_children see m g n v js same =
-    All-from_recursion (λ (j : _). length (compact (see j)) ≤ length (compact v)) js
-    (each_within see (weight_of v) js (omega (arith, ap (total weight_of) same, children_light m g n v)))
-
-pub ruleset light = (shown_room, light_children)
+pub ruleset light = (shown_room)

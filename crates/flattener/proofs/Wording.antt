@@ -41,9 +41,9 @@ pub start_after : (end : Option ℕ) → start_of end ≤ end_of end + 100
 start_after None = omega arith
 start_after (Some end) = omega arith
 
-pub end_within : (end : Option ℕ) (count most : ℕ) → count ≤ most → end_of (end_after end count) ≤ end_of end + (most + 100)
-end_within None count most few = omega (arith, few)
-end_within (Some end) count most few =
+pub end_within : (end : Option ℕ) (count : ℕ) (text : List ℕ) → count ≤ length text → end_of (end_after end count) ≤ end_of end + room (text ∷ [])
+end_within None count text few = omega (arith, few)
+end_within (Some end) count text few =
     split (count == 0)
     (λ none. rw none (omega arith))
     (λ some. rw some (omega (arith, few)))

@@ -1,8 +1,7 @@
 //! The items of a field that an object shows.
-ghost use Rattle.std.specs.Prelude.{◌≡◌, ◌++◌, ◌<◌, ◌==◌, ◌≤◌, length, map, filter, option_map, nat_le, reverse, IfOk, OnOk};
+ghost use Rattle.std.specs.Prelude.{◌≡◌, ◌++◌, ◌<◌, ◌==◌, length, map, filter, option_map, nat_le, reverse, IfOk, OnOk};
 ghost use Rattle.std.specs.List.{All, flat_map, list_all};
 ghost use Rattle.tree_json.specs.Value.{is_object};
-ghost use Rattle.tree_json.specs.Text.{compact};
 ghost use Rattle.tree_json.specs.View.{view};
 ghost use Rattle.mapping.specs.Mapping.{outer, home_of, scope_at};
 ghost use Rattle.tree_objects.specs.Object.{items, way};
@@ -166,7 +165,6 @@ fn push_step<'a>(
 }
 
 /// The objects at a nested path in the content of an object of the scope around it, in document order.
-#[tactic(auto, using(crate::proofs::Lightness::light))]
 pub(crate) fn children<'a>(
     alloc: Global,
     mapping: &Mapping,
@@ -175,8 +173,7 @@ pub(crate) fn children<'a>(
     content: &'a Json,
 ) -> Result<Vec<&'a Json>, NoMemory>
     requires { scope < length mapping.now.scopes }
-    ensures children { IfOk result (λ v. map (λ j. view j.now) v.items ≡ children_at mapping.now generation scope (view content.now)) }
-    ensures light { IfOk result (λ v. All (λ j. length (compact (view j.now)) ≤ length (compact (view content.now))) v.items) }
+    ensures { IfOk result (λ v. map (λ j. view j.now) v.items ≡ children_at mapping.now generation scope (view content.now)) }
 {
     if !mapping.knows_scope(generation, scope) {
         return Ok(Vec::new(alloc));
