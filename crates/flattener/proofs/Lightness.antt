@@ -1,5 +1,5 @@
 -- What an object shows of a text field has room among positions, and what stands inside a value is no longer than it.
-use Rattle.std.proofs.Common.{◌≡◌, ℕ, ◌+◌, ◌*◌, ◌<◌, ◌≤◌, ◌^◌, ◌==◌, ℤ, nat_le, true, false, List as Seq, [], ◌∷◌, ◌++◌, length, map, filter, refl, sym, ap, ◌∙◌, subst, arith}
+use Rattle.std.proofs.Common.{ℕ, ◌*◌, ◌<◌, ◌≤◌, ◌^◌, ◌==◌, nat_le, true, false, List as Seq, [], ◌∷◌, length, arith}
 use Rattle.std.specs.List.{flat_map}
 use Rattle.mapping_body.proofs.Walks.{split}
 use Rattle.mapping.specs.Mapping.{Mapping, home_of, knows, names_to, scope_at, shows}
@@ -7,10 +7,11 @@ use Rattle.tree_json.specs.Text.{compact}
 use Rattle.tree_json.specs.Value.{JsonValue, null, bool, whole, text, list, object, is_object}
 use Rattle.tree_objects.specs.Object.{items, way}
 use Rattle.tree_objects.specs.Values.{text_of}
-use Rattle.tree_objects.proofs.Weights.{items_light, number_long, quoted_long, total, total_append, total_filter, weight_of}
+use Rattle.tree_objects.proofs.Weights.{total, total_append, weight_of}
 use Rattle.flattener.specs.Fits.{most_source}
 use Rattle.flattener.specs.Placing.{room, texts_among}
 use Rattle.flattener.specs.Walked.{along, children_at, one_text, own_items, shown_items}
+use Rattle.flattener.proofs.Weights.{items_light, number_long, quoted_long, total_filter}
 use Rattle.flattener.proofs.Wording.{room_next}
 
 flat_light : (f : JsonValue → Seq JsonValue) → ((w : JsonValue) → total weight_of (f w) ≤ weight_of w) → (ws : Seq JsonValue) → total weight_of (flat_map f ws) ≤ total weight_of ws

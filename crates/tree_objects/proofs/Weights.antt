@@ -32,7 +32,7 @@ pub total_append : {A : Type 0} (weight : A → ℕ) (xs ys : Seq A) → total w
 total_append weight [] ys = omega arith
 total_append weight (x ∷ xs) ys = omega (arith, total_append weight xs ys)
 
-pub total_filter : {A : Type 0} (weight : A → ℕ) (test : A → Bool) (xs : Seq A) → total weight (filter test xs) ≤ total weight xs
+total_filter : {A : Type 0} (weight : A → ℕ) (test : A → Bool) (xs : Seq A) → total weight (filter test xs) ≤ total weight xs
 total_filter weight test [] = omega arith
 total_filter weight test (x ∷ xs) =
     split (test x)
@@ -54,7 +54,7 @@ escape_long : (s : Seq ℕ) → length s ≤ length (escape s)
 escape_long [] = omega arith
 escape_long (byte ∷ s) = omega (arith, letter_long byte, escape_long s, length-append (escape_byte byte) (escape s))
 
-pub quoted_long : (s : Seq ℕ) → length s + 2 ≤ length (quoted s)
+quoted_long : (s : Seq ℕ) → length s + 2 ≤ length (quoted s)
 unfolding quoted
 quoted_long s = omega (arith, escape_long s, length-append (codes "\"") (escape s ++ codes "\""), length-append (escape s) (codes "\""))
 
@@ -75,7 +75,7 @@ decimal_long : (n : ℕ) → 1 ≤ length (decimal n)
 unfolding digits
 decimal_long n = onto_first 63 n
 
-pub number_long : (z : ℤ) → 1 ≤ length (signed_decimal z)
+number_long : (z : ℤ) → 1 ≤ length (signed_decimal z)
 number_long (pos n) = decimal_long n
 number_long (negsuc n) = omega arith
 
@@ -85,7 +85,7 @@ abbrev pub weight_of : JsonValue → ℕ
 weight_of v = length (compact v)
 
 mutual
-  pub items_light : (v : JsonValue) (names : Seq (Seq ℕ)) → total weight_of (items v names) ≤ weight_of v
+  items_light : (v : JsonValue) (names : Seq (Seq ℕ)) → total weight_of (items v names) ≤ weight_of v
   items_light null names = omega arith
   items_light (list ds) names =
       omega (arith, in_light false ds names, length-append (codes "[") (compact_elements false ds ++ codes "]"), length-append (compact_elements false ds) (codes "]"))
