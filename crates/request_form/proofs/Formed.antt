@@ -1,4 +1,4 @@
--- Every write that is asked for has an id, and its sources are objects.
+-- Every write that is asked for has an id, and its sources are objects; every search that is asked for has a search body.
 use Rattle.std.proofs.Common.{◌≡◌, ◌≤◌, ◌<◌, ℕ, zero, suc, ◌/◌, ◌%◌, ◌==◌, pos, negsuc, true, false, Bool, not, cond, List, [], ◌∷◌, length, codes, decimal, Option, Some, None, is_some, IfSome, option_and_then, option_map, unwrap_or, refl, ap, subst, arith}
 use Rattle.std.proofs.lemmas.Bool.{and_parts}
 use Rattle.std.proofs.lemmas.Slice.Eq.{bytes_eq-Decides}
@@ -16,6 +16,7 @@ use Rattle.request_form.specs.Command.{Target, Write, Action, Operation, index, 
 use Rattle.request_form.specs.Command as asked
 use Rattle.request_form.specs.Form.{are_taken, is_taken, has_required, has_lines, members_in, single_of}
 use Rattle.request_form.specs.Formed.{IsFormed, HasSources, IsSourceValue}
+use Rattle.search_form.specs.Form.{is_search_body}
 use Rattle.request_form.specs.Table.{names, is_id, create_lines, write_lines, update_lines}
 
 -- ---- what comes out of an option
@@ -90,6 +91,7 @@ create_id ms h =
 
 abbrev ActionIsFormed : Action → Type 0
 ActionIsFormed (asked.write it) = IsFormed it
+ActionIsFormed (asked.search body) = is_search_body body ≡ true
 ActionIsFormed action = Unit {0}
 
 abbrev CommandIsFormed : Command → Type 0
@@ -123,7 +125,7 @@ by_name Name.Create ms c e = let f = formed_if _ _ c e in subst CommandIsFormed 
 by_name Name.Update ms c e = let f = formed_if _ _ c e in subst CommandIsFormed f.1 (write_id ms f.0)
 by_name Name.Delete ms c e = let f = formed_if _ _ c e in subst CommandIsFormed f.1 (record { id = write_id ms f.0; sources = tt })
 by_name Name.Mapping ms c e = subst CommandIsFormed (ap (λ o. unwrap_or o (alone (asked.map_body (object ms)))) e) tt
-by_name Name.Search ms c e = subst CommandIsFormed (formed_if _ _ c e).1 tt
+by_name Name.Search ms c e = let f = formed_if _ _ c e in subst CommandIsFormed f.1 f.0
 by_name Name.Refresh ms c e = subst CommandIsFormed (formed_if _ _ c e).1 tt
 by_name Name.Segments ms c e = subst CommandIsFormed (formed_if _ _ c e).1 tt
 by_name Name.OpenPit ms c e = subst CommandIsFormed (formed_if _ _ c e).1 tt
@@ -167,9 +169,10 @@ source_if (Some v) all = all v refl
 changes_sources : (ms : Members) → levels (object ms) ≤ most_levels → has_lines update_lines ms ≡ true → HasSources (update (changes_of ms))
 changes_sources ms few h =
     let p = and_parts (has_required update_lines ms) (are_taken update_lines ms) h in
-    let doc = member_of ms (codes "doc") in
-    ( source_named doc (and_parts (is_some doc) true p.0).0 (λ v there. (taken_at update_lines ms (codes "doc") v p.1 there, omega (arith, few, member_within ms (codes "doc") v there)))
-    , source_if (member_of ms (codes "upsert")) (λ v there. (taken_at update_lines ms (codes "upsert") v p.1 there, omega (arith, few, member_within ms (codes "upsert") v there))) )
+    let doc = member_of ms (codes "doc") in (
+      source_named doc (and_parts (is_some doc) true p.0).0 (λ v there. (taken_at update_lines ms (codes "doc") v p.1 there, omega (arith, few, member_within ms (codes "doc") v there))),
+      source_if (member_of ms (codes "upsert")) (λ v there. (taken_at update_lines ms (codes "upsert") v p.1 there, omega (arith, few, member_within ms (codes "upsert") v there))),
+    )
 
 update_if : (target : Target) (ms : Members) (op : Operation) → levels (object ms) ≤ most_levels → update_in target (Some ms) ≡ Some op → HasSources op
 update_if target ms op few e =
@@ -245,3 +248,30 @@ pub asked_formed : (few : ReadsFew) (first : ReadLine) (source : SourceLine) (it
 unfolding asked_of
 asked_formed few too_long source it e = absurd (cc)
 asked_formed few (in_full bytes) source it e = in_formed_line few (reading bytes) source it e
+
+-- ---- searches
+
+not_written : (o : Option Operation) (target : Target) (body : JsonValue) → asks_or_bad o target ≡ asks (asked.search body) → ⊥
+not_written None target body e = cc
+not_written (Some op) target body e = cc
+
+not_sourced : (command : Command) (target : Target) (source : SourceValue) (body : JsonValue) → sourced command target source ≡ asks (asked.search body) → ⊥
+not_sourced command target (no_value why) body e = cc
+not_sourced command target (is_value v) body e = not_written (operation_of command v) target body e
+
+search_by : (c : Option Command) (source : SourceLine) (body : JsonValue) → IfSome c CommandIsFormed → asked_by c source ≡ asks (asked.search body) → is_search_body body ≡ true
+search_by None source body formed e = absurd (cc)
+search_by (Some (alone action)) source body formed e = subst ActionIsFormed (ap (action_in action) e) formed
+search_by (Some (indexes target)) source body formed e = absurd (not_sourced (indexes target) target (value_of source) body e)
+search_by (Some (creates target)) source body formed e = absurd (not_sourced (creates target) target (value_of source) body e)
+search_by (Some (updates target)) source body formed e = absurd (not_sourced (updates target) target (value_of source) body e)
+
+search_in : (line : Reading) (source : SourceLine) (body : JsonValue) → asked_in line source ≡ asks (asked.search body) → is_search_body body ≡ true
+search_in bad_json source body e = absurd (cc)
+search_in fraction source body e = absurd (cc)
+search_in (value v) source body e = search_by (command_of v) source body (command_formed v (command_of v) refl) e
+
+pub asked_search : (first : ReadLine) (source : SourceLine) (body : JsonValue) → asked_of first source ≡ asks (asked.search body) → is_search_body body ≡ true
+unfolding asked_of
+asked_search too_long source body e = absurd (cc)
+asked_search (in_full bytes) source body e = search_in (reading bytes) source body e
