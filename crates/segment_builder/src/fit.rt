@@ -55,7 +55,18 @@ fn words_fit(words: &[Word])
 /// Says that numbers fit their type.
 fn values_fit(values: &[i64])
     ensures { All (FitsSigned w64) values.now }
-{}
+{
+    'values: for value in values {
+        value_fits(value);
+    }
+}
+
+/// Says that a number fits its type.
+fn value_fits(value: &i64)
+    ensures { FitsSigned w64 value.now }
+{
+    let _value = *value;
+}
 
 /// Says that positions fit their type.
 fn positions_fit(positions: &[u32])

@@ -44,7 +44,8 @@ present_of-requires c =
     let many : length (flats_in c.requires.1) ≡ length c.args.entries.scopes.items = sym (count (entries_lent c.args.entries) c.requires.1 c.requires.3) in
     let fit : AreTextEntries (length c.args.entries.scopes.items) c.args.entries.texts.items =
     subst (λ n. AreTextEntries n c.args.entries.texts.items) many (text_entries (kinds_of c.requires.0) (entries_lent c.args.entries) c.requires.1 c.requires.3 (all_written c.requires.0 c.requires.1 c.requires.2) c.requires.2.numbered.fields) in
-    rw c.len-documents.ensures fit
+    let here : c.len-documents.result ≡ length c.args.entries.scopes.items = omega (arith, c.len-documents.ensures) in
+    subst (λ n. AreTextEntries n c.args.entries.texts.items) (sym here) fit
 
 pub overflow_cast-documents : goal.overflow_cast-documents
 overflow_cast-documents c = omega (arith, c.len-documents.ensures, count (entries_lent c.args.entries) c.requires.1 c.requires.3, few_documents c.requires.0 c.requires.1 c.requires.2)

@@ -6,8 +6,8 @@ use Rattle.segment_builder.proofs.find.find.Goals as goal
 
 pub places-init : goal.places-init
 places-init c =
-    (between_all (terms_in c.args.rows.now) (c.args.field, c.args.bytes.now) c.len-high.result c.requires.there (length-map c.args.rows.now (λ row. row.term)),
-    omega (arith, c.requires.there.1, length-map c.args.rows.now (λ row. row.term), c.len-high.ensures), omega (arith, c.len-high.ensures))
+    let count = length-map c.args.rows.now (λ row. row.term) in
+    (between_all (terms_in c.args.rows.now) (c.args.field, c.args.bytes.now) (length c.args.rows.now) c.requires.there count, omega (arith, c.requires.there.1, count), omega arith)
 
 pub places-preserved-then-is_after : goal.places-preserved-then-is_after
 places-preserved-then-is_after c =
