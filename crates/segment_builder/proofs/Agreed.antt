@@ -1,14 +1,12 @@
 -- Columns that are made of the entries of documents agree: terms, columns of fields, documents and roots say the same.
-use Rattle.std.proofs.Common.{◌≡◌, ℕ, ℤ, zero, suc, ◌+◌, ◌-◌, ◌<◌, ◌≤◌, ◌^◌, ◌==◌, Bool, true, false, ◌||◌, if◌then◌else◌, cond, List, [], ◌∷◌, ◌++◌, length, map, get_or, slice_get, slice_index_or, count_by, Option, Some, None, Contains, IsNone, IsTrue, IsSomeAnd, option_map, refl, sym, ap, subst, ◌∙◌, arith, eqb-true, eq-eqb, FitsSigned, w64}
-use Rattle.std.specs.Cmp.Lexicographic.{slice_cmp}
+use Rattle.std.proofs.Common.{◌≡◌, ℕ, ℤ, zero, suc, ◌+◌, ◌<◌, ◌≤◌, ◌==◌, Bool, true, false, cond, List, [], ◌∷◌, ◌++◌, length, map, get_or, slice_get, slice_index_or, count_by, Option, Some, None, Contains, IsNone, refl, sym, ap, subst, ◌∙◌, arith, eqb-true, eq-eqb}
 use Rattle.std.specs.List.{All, AllByRecursion, list_any}
 use Rattle.std.specs.List.Sorted.{IsStrictlySortedBy}
 use Rattle.std.specs.Ordering.{nat_cmp, eq_by_cmp}
 use Rattle.std.specs.Str.{bytes_eq}
 use Rattle.std.specs.declared.cmp.Ordering.{Ordering}
-use Rattle.std.specs.declared.cmp.Ordering.TheVariants.{Less, Equal, Greater}
+use Rattle.std.specs.declared.cmp.Ordering.TheVariants.{Less}
 use Rattle.std.proofs.lemmas.Cmp.{eq_by_cmp_equiv}
-use Rattle.std.proofs.lemmas.List.{length-map}
 use Rattle.std.proofs.lemmas.List.Elements.{All-from_recursion, All-contains_itself, recursion_from_All}
 use Rattle.std.proofs.lemmas.Map.Keys.{sorted_head, sorted_tail}
 use Rattle.std.proofs.lemmas.Option.{slice_get-get_or, get_or_from_slice_get, slice_get_within}
@@ -27,12 +25,12 @@ use Rattle.term_table.specs.declared.rows.TermRow.{TermRow}
 use Rattle.flattener.specs.Block.{BlockState}
 use Rattle.segment_builder.specs.Columns.{terms_in, column_terms, row_terms, named, named_row, named_group, marks_of}
 use Rattle.segment_builder.specs.Entries.{EntriesState, flats_in, no_entries, with_blocks}
-use Rattle.segment_builder.specs.Groups.{of_key, keys, AreGroups}
+use Rattle.segment_builder.specs.Groups.{of_key, AreGroups}
 use Rattle.segment_builder.specs.Made.{IsMade, all_terms, marked_groups}
 use Rattle.segment_builder.specs.Parts.{fields_with}
 use Rattle.segment_builder.specs.Rising.{AreRisingFrom}
 use Rattle.segment_builder.specs.Terms.{terms_at, once, keyword_terms, number_terms, row_group}
-use Rattle.segment_builder.proofs.Among.{each_at, any_first, any_later, IsOne, one_of, one_is, there_at, any_number, any_mapped, each_along}
+use Rattle.segment_builder.proofs.Among.{each_at, any_first, any_later, one_of, one_is, there_at, any_number, any_mapped, each_along}
 use Rattle.segment_builder.proofs.Columned.{first_is}
 use Rattle.segment_builder.proofs.Grown.{by_doc, of_append}
 use Rattle.segment_builder.proofs.InOrder.{each_then, each_both}
@@ -43,9 +41,9 @@ use Rattle.segment_builder.proofs.Orders.{nat_order, pair_same, term_order}
 use Rattle.segment_builder.proofs.Parted.{text_tags, texts_are}
 use Rattle.segment_builder.proofs.Rising.{each_of_key, key_is, rises_within}
 use Rattle.segment_builder.proofs.Shown.{found_at}
-use Rattle.segment_builder.proofs.Taking.{TermEntry, all_short, keyword_each, keyword_terms_each, keywords_kind, keywords_rise, number_each, number_terms_each, numbers_kind, numbers_rise, of_keyword, of_number, of_parts, of_word, text_each, word_each, words_kind}
+use Rattle.segment_builder.proofs.Taking.{TermEntry, all_short, keyword_each, keyword_terms_each, keywords_kind, keywords_rise, number_each, number_terms_each, numbers_kind, numbers_rise, of_keyword, of_number, of_word, text_each, word_each, words_kind}
 use Rattle.segment_builder.proofs.Texts.{marks_at}
-use Rattle.segment_builder.proofs.Written.{Kinds, AreApart, AreNumbers, AreKeywords, IsWordOf, IsTextOf, IsWritten}
+use Rattle.segment_builder.proofs.Written.{Kinds, AreApart, IsWritten}
 
 -- ---- places
 
@@ -127,10 +125,11 @@ rises_above {X} low high (p ∷ ps) up = (up.0, each_then (λ (q : ℕ × X). p.
 
 values_rise : {X : Type 0} (low high : ℕ) (ps : List (ℕ × List X)) → AreRisingFrom low high ps → AllByRecursion (λ (p : ℕ × List X). values_of p.0 ps ≡ p.1) ps
 values_rise low high [] up = tt
-values_rise {X} low high (p ∷ ps) up =
-    (rw (eq-eqb p.0 p.0 refl) refl,
-    each_both (λ (q : ℕ × List X). p.0 + 1 ≤ q.0) (λ (q : ℕ × List X). values_of q.0 ps ≡ q.1) (λ (q : ℕ × List X). values_of q.0 (p ∷ ps) ≡ q.1)
-    (λ q later own. rw (apart p.0 q.0 later) own) ps (rises_above (p.0 + 1) high ps up.2) (values_rise (p.0 + 1) high ps up.2))
+values_rise {X} low high (p ∷ ps) up = (
+  rw (eq-eqb p.0 p.0 refl) refl,
+  each_both (λ (q : ℕ × List X). p.0 + 1 ≤ q.0) (λ (q : ℕ × List X). values_of q.0 ps ≡ q.1) (λ (q : ℕ × List X). values_of q.0 (p ∷ ps) ≡ q.1)
+      (λ q later own. rw (apart p.0 q.0 later) own) ps (rises_above (p.0 + 1) high ps up.2) (values_rise (p.0 + 1) high ps up.2),
+)
   where
     apart : (a b : ℕ) → a + 1 ≤ b → (a == b) ≡ false
     apart a b le = split (a == b) (λ is. absurd (omega (arith, le, eqb-true a b is))) (λ isnt. isnt)
@@ -139,12 +138,13 @@ module _ {K P : Type 0} (cmp : K → K → Ordering) (o : IsExact cmp) where
   back_of_key : (Q : K → P → Type 0) (entries : List (K × P)) → ((key : K) → AllByRecursion (Q key) (of_key cmp key entries)) → AllByRecursion (λ (entry : K × P). Q entry.0 entry.1) entries
   back_of_key Q [] all = tt
   back_of_key Q (entry ∷ entries) all =
-      let here : AllByRecursion (Q entry.0) (entry.1 ∷ of_key cmp entry.0 entries) = rw ((eq_by_cmp_equiv o.total).refl entry.0) at (all entry.0) in
-      (here.0,
-      back_of_key Q entries
-      (λ key. split (eq_by_cmp cmp key entry.0)
-      (λ is. (let more : AllByRecursion (Q key) (entry.1 ∷ of_key cmp key entries) = rw is at (all key) in more.1))
-      (λ isnt. (let same : AllByRecursion (Q key) (of_key cmp key entries) = rw isnt at (all key) in same))))
+      let here : AllByRecursion (Q entry.0) (entry.1 ∷ of_key cmp entry.0 entries) = rw ((eq_by_cmp_equiv o.total).refl entry.0) at (all entry.0) in (
+        here.0,
+        back_of_key Q entries
+            (λ key. split (eq_by_cmp cmp key entry.0)
+            (λ is. (let more : AllByRecursion (Q key) (entry.1 ∷ of_key cmp key entries) = rw is at (all key) in more.1))
+            (λ isnt. (let same : AllByRecursion (Q key) (of_key cmp key entries) = rw isnt at (all key) in same))),
+      )
 
 values_map : {X Y : Type 0} (g : List X → List Y) → g [] ≡ [] → (doc : ℕ) (rows : List (ℕ × List X)) → values_of doc (map (λ (row : ℕ × List X). (row.0, g row.1)) rows) ≡ g (values_of doc rows)
 values_map g none doc [] = sym none
@@ -190,22 +190,24 @@ AreAmong all field doc values = AllByRecursion (λ (bytes : List ℕ). list_any 
 keywords_among : (entries : List (ℕ × (ℕ × List (List ℕ)))) → AllByRecursion (λ (entry : ℕ × (ℕ × List (List ℕ))). AreAmong (keyword_terms entries) entry.0 entry.1.0 entry.1.1) entries
 keywords_among [] = tt
 keywords_among (entry ∷ entries) =
-    let here = terms_at entry.0 entry.1.0 (once entry.1.1) in
-    (each_then (λ (bytes : List ℕ). list_any (is_of entry.1.0) (of_key term_cmp (entry.0, bytes) here) ≡ true) (λ (bytes : List ℕ). list_any (is_of entry.1.0) (of_key term_cmp (entry.0, bytes) (here ++ keyword_terms entries)) ≡ true)
-    (λ bytes there. first_more entry.1.0 (entry.0, bytes) here (keyword_terms entries) there) entry.1.1 (terms_there entry.0 entry.1.0 entry.1.1),
-    each_then (λ (e : ℕ × (ℕ × List (List ℕ))). AreAmong (keyword_terms entries) e.0 e.1.0 e.1.1) (λ (e : ℕ × (ℕ × List (List ℕ))). AreAmong (here ++ keyword_terms entries) e.0 e.1.0 e.1.1)
-    (λ e all. each_then (λ (bytes : List ℕ). list_any (is_of e.1.0) (of_key term_cmp (e.0, bytes) (keyword_terms entries)) ≡ true) (λ (bytes : List ℕ). list_any (is_of e.1.0) (of_key term_cmp (e.0, bytes) (here ++ keyword_terms entries)) ≡ true)
-    (λ bytes there. later_more e.1.0 (e.0, bytes) here (keyword_terms entries) there) e.1.1 all) entries (keywords_among entries))
+    let here = terms_at entry.0 entry.1.0 (once entry.1.1) in (
+      each_then (λ (bytes : List ℕ). list_any (is_of entry.1.0) (of_key term_cmp (entry.0, bytes) here) ≡ true) (λ (bytes : List ℕ). list_any (is_of entry.1.0) (of_key term_cmp (entry.0, bytes) (here ++ keyword_terms entries)) ≡ true)
+          (λ bytes there. first_more entry.1.0 (entry.0, bytes) here (keyword_terms entries) there) entry.1.1 (terms_there entry.0 entry.1.0 entry.1.1),
+      each_then (λ (e : ℕ × (ℕ × List (List ℕ))). AreAmong (keyword_terms entries) e.0 e.1.0 e.1.1) (λ (e : ℕ × (ℕ × List (List ℕ))). AreAmong (here ++ keyword_terms entries) e.0 e.1.0 e.1.1)
+          (λ e all. each_then (λ (bytes : List ℕ). list_any (is_of e.1.0) (of_key term_cmp (e.0, bytes) (keyword_terms entries)) ≡ true) (λ (bytes : List ℕ). list_any (is_of e.1.0) (of_key term_cmp (e.0, bytes) (here ++ keyword_terms entries)) ≡ true)
+          (λ bytes there. later_more e.1.0 (e.0, bytes) here (keyword_terms entries) there) e.1.1 all) entries (keywords_among entries),
+    )
 
 numbers_among : (entries : List (ℕ × (ℕ × List ℤ))) → AllByRecursion (λ (entry : ℕ × (ℕ × List ℤ)). AreAmong (number_terms entries) entry.0 entry.1.0 (map number_key entry.1.1)) entries
 numbers_among [] = tt
 numbers_among (entry ∷ entries) =
-    let here = terms_at entry.0 entry.1.0 (once (map number_key entry.1.1)) in
-    (each_then (λ (bytes : List ℕ). list_any (is_of entry.1.0) (of_key term_cmp (entry.0, bytes) here) ≡ true) (λ (bytes : List ℕ). list_any (is_of entry.1.0) (of_key term_cmp (entry.0, bytes) (here ++ number_terms entries)) ≡ true)
-    (λ bytes there. first_more entry.1.0 (entry.0, bytes) here (number_terms entries) there) (map number_key entry.1.1) (terms_there entry.0 entry.1.0 (map number_key entry.1.1)),
-    each_then (λ (e : ℕ × (ℕ × List ℤ)). AreAmong (number_terms entries) e.0 e.1.0 (map number_key e.1.1)) (λ (e : ℕ × (ℕ × List ℤ)). AreAmong (here ++ number_terms entries) e.0 e.1.0 (map number_key e.1.1))
-    (λ e all. each_then (λ (bytes : List ℕ). list_any (is_of e.1.0) (of_key term_cmp (e.0, bytes) (number_terms entries)) ≡ true) (λ (bytes : List ℕ). list_any (is_of e.1.0) (of_key term_cmp (e.0, bytes) (here ++ number_terms entries)) ≡ true)
-    (λ bytes there. later_more e.1.0 (e.0, bytes) here (number_terms entries) there) (map number_key e.1.1) all) entries (numbers_among entries))
+    let here = terms_at entry.0 entry.1.0 (once (map number_key entry.1.1)) in (
+      each_then (λ (bytes : List ℕ). list_any (is_of entry.1.0) (of_key term_cmp (entry.0, bytes) here) ≡ true) (λ (bytes : List ℕ). list_any (is_of entry.1.0) (of_key term_cmp (entry.0, bytes) (here ++ number_terms entries)) ≡ true)
+          (λ bytes there. first_more entry.1.0 (entry.0, bytes) here (number_terms entries) there) (map number_key entry.1.1) (terms_there entry.0 entry.1.0 (map number_key entry.1.1)),
+      each_then (λ (e : ℕ × (ℕ × List ℤ)). AreAmong (number_terms entries) e.0 e.1.0 (map number_key e.1.1)) (λ (e : ℕ × (ℕ × List ℤ)). AreAmong (here ++ number_terms entries) e.0 e.1.0 (map number_key e.1.1))
+          (λ e all. each_then (λ (bytes : List ℕ). list_any (is_of e.1.0) (of_key term_cmp (e.0, bytes) (number_terms entries)) ≡ true) (λ (bytes : List ℕ). list_any (is_of e.1.0) (of_key term_cmp (e.0, bytes) (here ++ number_terms entries)) ≡ true)
+          (λ bytes there. later_more e.1.0 (e.0, bytes) here (number_terms entries) there) (map number_key e.1.1) all) entries (numbers_among entries),
+    )
 
 -- ---- text fields of documents
 

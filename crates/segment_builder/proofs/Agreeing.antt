@@ -1,14 +1,13 @@
 -- Columns that are made of blocks are those of one segment.
-use Rattle.std.proofs.Common.{◌≡◌, ℕ, ℤ, zero, suc, ◌+◌, ◌-◌, ◌<◌, ◌≤◌, ◌^◌, ◌==◌, Bool, true, false, cond, List, [], ◌∷◌, ◌++◌, length, map, get_or, slice_get, slice_index_or, count_by, Contains, IsTrue, refl, sym, ap, subst, ◌∙◌, arith, eqb-true, eq-eqb, length-append}
-use Rattle.std.specs.List.{All, AllByRecursion, filter, flat_map, range_with_len}
-use Rattle.std.specs.Ordering.{nat_cmp}
+use Rattle.std.proofs.Common.{◌≡◌, ℕ, zero, suc, ◌+◌, ◌-◌, ◌<◌, ◌≤◌, ◌^◌, Bool, true, false, cond, List, [], ◌∷◌, ◌++◌, length, map, get_or, slice_index_or, count_by, Contains, refl, sym, ap, subst, ◌∙◌, arith, eq-eqb, length-append}
+use Rattle.std.specs.List.{All, AllByRecursion, filter, range_with_len}
 use Rattle.std.proofs.lemmas.List.{length-map, get_or-map, map-append}
 use Rattle.std.proofs.lemmas.List.Elements.{All-from_recursion, All-map}
-use Rattle.std.proofs.lemmas.List.FromFn.{get_or-map-range_with_len, length-map-range_with_len}
-use Rattle.block_bits.specs.Blocks.{documents_of, has_scope, HaveOneScope}
+use Rattle.std.proofs.lemmas.List.FromFn.{get_or-map-range_with_len}
+use Rattle.block_bits.specs.Blocks.{documents_of, has_scope}
 use Rattle.block_bits.specs.Flags.{is_marked}
 use Rattle.flattener.specs.Block.{BlockState}
-use Rattle.flattener.specs.Fits.{IsDocument, IsFieldAt, IsJoinOf, IsRootOf, IsSource, is_root}
+use Rattle.flattener.specs.Fits.{IsDocument, IsJoinOf, IsRootOf, is_root}
 use Rattle.flattener.specs.Flat.{has_numbers, is_keyword, is_text}
 use Rattle.mapping.specs.Mapping.{Mapping, kind_at}
 use Rattle.mapping_body.specs.declared.kind.Kind.{Kind}
@@ -16,9 +15,8 @@ use Rattle.mapping_body.specs.declared.kind.Kind.TheVariants.{Text, Keyword, Lon
 use Rattle.segment.specs.Agree.{AreColumns, AreRooted, IsId, HasParentId, IsStored}
 use Rattle.segment.specs.Fields.{AreByField}
 use Rattle.segment.specs.Flat.{FlatDocument, FlatRoot, flat_root, roots_of}
-use Rattle.segment.specs.Lists.{terms_of}
 use Rattle.segment.specs.Marks.{count-mark}
-use Rattle.segment.specs.Parts.{AreParts, IsHead, IsPresence, IsNumberColumn, IsOrdinalColumn, root_flags}
+use Rattle.segment.specs.Parts.{IsHead, IsPresence, IsNumberColumn, IsOrdinalColumn, root_flags}
 use Rattle.segment_parts.specs.declared.columns.Columns.{Columns}
 use Rattle.stored_sources.specs.Stands.{AreRoots, IsJoin}
 use Rattle.stored_sources.specs.declared.root.Join.{Join}
@@ -37,7 +35,7 @@ use Rattle.segment_builder.proofs.Keys.{split}
 use Rattle.segment_builder.proofs.Parted.{count, scopes_are}
 use Rattle.segment_builder.proofs.Shown.{each_by}
 use Rattle.segment_builder.proofs.Sorted.{each_append}
-use Rattle.segment_builder.proofs.Written.{Kinds, AreApart, AreOfKind, IsTextOf, IsWritten, written}
+use Rattle.segment_builder.proofs.Written.{Kinds, AreApart, AreOfKind, IsWritten, written}
 
 -- ---- the kinds of a mapping's fields
 

@@ -1,10 +1,10 @@
 -- Groups of entries that fit are columns and rows that can be written.
-use Rattle.std.proofs.Common.{◌≡◌, ℕ, suc, ◌+◌, ◌<◌, ◌≤◌, ◌^◌, Bool, List, [], ◌∷◌, length, map, get_or, refl, sym, ap, subst, ◌∙◌, arith}
+use Rattle.std.proofs.Common.{◌≡◌, ℕ, suc, ◌<◌, ◌^◌, List, [], ◌∷◌, length, map, refl, sym, ap, subst, arith}
 use Rattle.std.specs.List.{All, AllByRecursion}
 use Rattle.std.specs.List.Sorted.{IsStrictlySortedBy, IsStrictlyIncreasing}
 use Rattle.std.specs.Ordering.{nat_cmp}
 use Rattle.std.specs.declared.cmp.Ordering.{Ordering}
-use Rattle.std.proofs.lemmas.List.Elements.{All-from_recursion, recursion_from_All, All-map}
+use Rattle.std.proofs.lemmas.List.Elements.{All-from_recursion, All-map}
 use Rattle.std.proofs.lemmas.Map.Keys.{IsStrictlyIncreasing-from_sorted}
 use Rattle.doc_values.specs.Stands.{AreEntries, IsColumn}
 use Rattle.doc_values.specs.Values.{AreValues}
@@ -14,7 +14,6 @@ use Rattle.term_table.specs.Part.{AreRows, IsRow}
 use Rattle.term_table.specs.Postings.{AreAscending}
 use Rattle.term_table.specs.Terms.{term_cmp}
 use Rattle.term_table.specs.declared.rows.TermRow.{TermRow}
-use Rattle.segment_builder.specs.Columns.{marks_of}
 use Rattle.segment_builder.specs.Groups.{of_key, keys, AreGroups}
 use Rattle.segment_builder.specs.Made.{marked_groups}
 use Rattle.segment_builder.specs.Rising.{AreRisingFrom}

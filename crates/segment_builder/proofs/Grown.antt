@@ -1,12 +1,11 @@
 -- What is taken apart, document by document: what each document adds, and what it carries at a key.
 use Rattle.std.proofs.Common.{◌≡◌, ℕ, zero, suc, ◌+◌, ◌<◌, ◌==◌, true, false, List, [], ◌∷◌, ◌++◌, length, map, slice_get, Some, refl, sym, ap, ◌∙◌, append_assoc, append-nil, arith, eq-eqb, length-append}
-use Rattle.std.specs.List.{flat_map}
 use Rattle.std.specs.Ordering.{eq_by_cmp}
 use Rattle.std.specs.declared.cmp.Ordering.{Ordering}
 use Rattle.std.proofs.lemmas.List.{map-append}
 use Rattle.doc_values.specs.Values.{values_of}
 use Rattle.segment.specs.Flat.{FlatDocument}
-use Rattle.segment_builder.specs.Entries.{EntriesState, flats_in, no_entries, with_document, with_documents, with_blocks}
+use Rattle.segment_builder.specs.Entries.{EntriesState, flats_in, with_document, with_documents, with_blocks}
 use Rattle.segment_builder.specs.Groups.{of_key}
 use Rattle.segment_builder.specs.Parts.{tagged}
 use Rattle.flattener.specs.Block.{BlockState}

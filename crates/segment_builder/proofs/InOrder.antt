@@ -1,12 +1,12 @@
 -- Groups in order: begun, gone on with, and what they are when every entry is in one.
-use Rattle.std.proofs.Common.{◌≡◌, ℕ, suc, ◌+◌, ◌<◌, ◌≤◌, true, false, ◌||◌, List, [], ◌∷◌, ◌++◌, length, map, get_or, refl, sym, ap, subst, ◌∙◌, append-nil, arith, length-append, Vec}
+use Rattle.std.proofs.Common.{◌≡◌, suc, ◌+◌, ◌<◌, true, false, ◌||◌, List, [], ◌∷◌, ◌++◌, length, get_or, refl, sym, ap, subst, ◌∙◌, append-nil, arith, length-append, Vec}
 use Rattle.std.specs.Cmp.{IsTotalOrder, IsStrictWeakOrder}
 use Rattle.std.specs.List.{AllByRecursion, list_any}
 use Rattle.std.specs.List.Sorted.{IsStrictlySortedBy, IsSortedBy}
 use Rattle.std.specs.Ordering.{is_lt, is_gt, is_eq, eq_by_cmp, ordering_reverse}
 use Rattle.std.specs.declared.cmp.Ordering.{Ordering}
 use Rattle.std.specs.declared.cmp.Ordering.TheVariants.{Less, Equal, Greater}
-use Rattle.std.proofs.lemmas.Cmp.{eq_by_cmp_equiv, upto}
+use Rattle.std.proofs.lemmas.Cmp.{eq_by_cmp_equiv}
 use Rattle.std.proofs.lemmas.List.{map-append}
 use Rattle.std.proofs.lemmas.List.Elements.{recursion_from_All}
 use Rattle.std.proofs.lemmas.List.Sorted.{sorted_far}
@@ -175,9 +175,12 @@ module _ {K P : Type 0} (cmp : K → K → Ordering) (o : IsTotalOrder cmp) wher
 
   pub risen : (weak : IsStrictWeakOrder (λ (a b : K × P). is_lt (cmp a.0 b.0))) (entries : List (K × P)) → IsSortedBy (λ a b. is_lt (cmp a.0 b.0)) entries → AreRising cmp entries
   risen weak [] up = tt
-  risen weak (entry ∷ entries) up = (later_ones weak entry entries up, risen weak entries (λ k d low high.
-    let next : suc k + 1 ≡ suc (k + 1) = omega arith in
-    rw next at (up (suc k) d (omega arith) (omega (arith, high)))))
+  risen weak (entry ∷ entries) up = (
+    later_ones weak entry entries up,
+    risen weak entries (λ k d low high.
+        let next : suc k + 1 ≡ suc (k + 1) = omega arith in
+        rw next at (up (suc k) d (omega arith) (omega (arith, high)))),
+  )
 
   -- ---- what the groups are in the end
 
@@ -212,9 +215,10 @@ module _ {K P : Type 0} (cmp : K → K → Ordering) (o : IsTotalOrder cmp) wher
 
   own_some : (entries : List (K × P)) → AllByRecursion (λ (entry : K × P). 0 < length (of_key cmp entry.0 entries)) entries
   own_some [] = tt
-  own_some (entry ∷ entries) =
-      (rw ((eq_by_cmp_equiv o).refl entry.0) (omega arith),
-      each_then (λ (other : K × P). 0 < length (of_key cmp other.0 entries)) (λ (other : K × P). 0 < length (of_key cmp other.0 (entry ∷ entries))) (λ other some. longer other.0 entry entries some) entries (own_some entries))
+  own_some (entry ∷ entries) = (
+    rw ((eq_by_cmp_equiv o).refl entry.0) (omega arith),
+    each_then (λ (other : K × P). 0 < length (of_key cmp other.0 entries)) (λ (other : K × P). 0 < length (of_key cmp other.0 (entry ∷ entries))) (λ other some. longer other.0 entry entries some) entries (own_some entries),
+  )
 
   pub are_groups : (entries : List (K × P)) (groups : List (K × List P)) → ((key : K) → in_groups cmp key groups ≡ of_key cmp key entries) → AreOrdered cmp groups → AreGroups cmp entries groups
   are_groups entries groups gather up = record {

@@ -1,6 +1,6 @@
 -- How many documents the blocks of a segment have, and how many of them are live.
-use Rattle.std.proofs.Common.{◌≡◌, ℕ, zero, suc, ◌+◌, ◌-◌, ◌<◌, ◌==◌, Bool, true, false, cond, if◌then◌else◌, List, [], ◌∷◌, ◌++◌, length, map, filter, get_or, slice_get, replicate, Some, refl, sym, ap, ◌∙◌, arith, eqb-true}
-use Rattle.std.specs.List.{count_by, sum_by, range_with_len}
+use Rattle.std.proofs.Common.{◌≡◌, ℕ, zero, suc, ◌+◌, ◌-◌, ◌<◌, ◌==◌, Bool, true, false, cond, List, [], ◌∷◌, ◌++◌, length, map, filter, get_or, slice_get, replicate, Some, refl, sym, ap, ◌∙◌, arith, eqb-true}
+use Rattle.std.specs.List.{count_by, range_with_len}
 use Rattle.std.proofs.lemmas.List.{length-map, length-replicate, length-append}
 use Rattle.std.proofs.lemmas.List.Sums.{sum_by-cons, sum_by-append}
 use Rattle.block_bits.specs.Flags.{is_marked}
@@ -17,7 +17,7 @@ use Rattle.segment.specs.Text.{marked_places}
 use Rattle.segment_parts.specs.declared.columns.Columns.{Columns}
 use Rattle.segment_builder.specs.Blocks.{cut_from, blocks_of, marked_by, block_objects, objects_of}
 use Rattle.segment_builder.proofs.Keys.{split}
-use Rattle.segment_builder.proofs.Stands.{block_roots, marks_in, flags_are, flags_long, docs_are, covered_from}
+use Rattle.segment_builder.proofs.Stands.{block_roots, marks_in, flags_are, docs_are, covered_from}
 
 -- ---- from where a block begins to where it ends
 

@@ -1,6 +1,6 @@
 -- Groups of what is lent are groups of what it is.
 use denote.Ref.{Bor}
-use Rattle.std.proofs.Common.{◌≡◌, ℕ, ℤ, ◌<◌, ◌≤◌, ◌^◌, List, map, length, refl, sym, ap, subst, ◌∙◌, Vec}
+use Rattle.std.proofs.Common.{◌≡◌, ℕ, ℤ, List, map, refl, sym, subst, ◌∙◌, Vec}
 use Rattle.std.specs.Ordering.{nat_cmp}
 use Rattle.std.specs.declared.cmp.Ordering.{Ordering}
 use Rattle.term_table.specs.Terms.{term_cmp}
@@ -10,7 +10,7 @@ use Rattle.segment_builder.specs.Entries.{bytes_lent, keywords_lent, numbers_len
 use Rattle.segment_builder.specs.Groups.{groups_seen, AreGroups}
 use Rattle.segment_builder.specs.Terms.{row_group, rows_lent}
 use Rattle.segment_builder.proofs.Assembled.{map_twice}
-use Rattle.segment_builder.proofs.Regrouped.{group_as, regrouped}
+use Rattle.segment_builder.proofs.Regrouped.{regrouped}
 
 pub numbers_grouped : {A : Type 0} (entries : List (ℕ × (ℕ × Bor (List ℤ)))) (groups : List (ℕ × Vec (ℕ × Bor (List ℤ)) A)) → AreGroups nat_cmp entries (groups_seen groups) → AreGroups nat_cmp (numbers_lent entries) (number_groups groups)
 numbers_grouped {A} entries groups are =

@@ -1,31 +1,28 @@
 -- The terms of a document's keywords and numbers ascend, each once.
-use Rattle.std.proofs.Common.{◌≡◌, ℕ, ℤ, zero, suc, ◌+◌, ◌<◌, ◌≤◌, ◌==◌, Bool, true, false, ◌||◌, List, [], ◌∷◌, ◌++◌, length, map, get_or, refl, sym, ap, subst, ◌∙◌, arith, FitsSigned, w64}
+use Rattle.std.proofs.Common.{◌≡◌, ℕ, ℤ, suc, ◌+◌, Bool, true, false, List, [], ◌∷◌, ◌++◌, map, get_or, refl, sym, ap, subst, ◌∙◌, arith, FitsSigned, w64}
 use Rattle.std.specs.Cmp.{IsTotalOrder, IsStrictWeakOrder}
 use Rattle.std.specs.Cmp.Lexicographic.{slice_cmp}
-use Rattle.std.specs.List.{All, AllByRecursion, list_any}
+use Rattle.std.specs.List.{AllByRecursion, list_any}
 use Rattle.std.specs.List.Sorted.{IsSorted, IsStrictlySortedBy}
-use Rattle.std.specs.Ordering.{is_lt, is_gt, is_eq, int_cmp, nat_cmp, eq_by_cmp, ordering_reverse}
+use Rattle.std.specs.Ordering.{is_lt, is_gt, is_eq, int_cmp, nat_cmp, ordering_reverse}
 use Rattle.std.specs.Str.{bytes_eq}
 use Rattle.std.specs.declared.cmp.Ordering.{Ordering}
 use Rattle.std.specs.declared.cmp.Ordering.TheVariants.{Less, Equal, Greater}
-use Rattle.std.proofs.lemmas.Cmp.{eq_by_cmp_equiv, int_cmp_total, nat_list_cmp_total}
+use Rattle.std.proofs.lemmas.Cmp.{eq_by_cmp_equiv, nat_list_cmp_total}
 use Rattle.std.proofs.lemmas.List.Elements.{recursion_from_All}
 use Rattle.std.proofs.lemmas.List.Sorted.{ranks_by, sorted_far}
-use Rattle.std.proofs.lemmas.Map.Keys.{sorted_head, sorted_tail}
 use Rattle.std.proofs.lemmas.Map.Text.{is_eq-slice_cmp}
-use Rattle.doc_values.specs.Values.{AreValues}
-use Rattle.segment.specs.Flat.{FlatDocument}
 use Rattle.term_table.specs.Keys.{number_key}
 use Rattle.term_table.specs.Terms.{term_cmp}
-use Rattle.segment_builder.specs.Groups.{of_key, keys}
+use Rattle.segment_builder.specs.Groups.{keys}
 use Rattle.segment_builder.specs.Parts.{tagged}
-use Rattle.segment_builder.specs.Terms.{terms_at, unless_same, once_after, once, keyword_terms, number_terms}
+use Rattle.segment_builder.specs.Terms.{terms_at, once_after, once, keyword_terms, number_terms}
 use Rattle.segment_builder.proofs.Among.{each_both_sides}
 use Rattle.segment_builder.proofs.InOrder.{each_then}
 use Rattle.segment_builder.proofs.Keys.{split}
-use Rattle.segment_builder.proofs.Sorted.{sorted_cons, sorted_append, less_then, same_field}
+use Rattle.segment_builder.proofs.Sorted.{sorted_append, less_then, same_field}
 use Rattle.segment_builder.proofs.Orders.{bytes_exact}
-use Rattle.segment_builder.proofs.Written.{bytes_order, Kinds, AreNumbers, AreKeywords, IsWritten}
+use Rattle.segment_builder.proofs.Written.{bytes_order}
 
 -- ---- lists in order, one by one
 
@@ -45,14 +42,15 @@ module _ {K : Type 0} (cmp : K → K → Ordering) (o : IsTotalOrder cmp) where
 
   pub up_list : (xs : List K) → IsSorted cmp xs → UpList cmp xs
   up_list [] up = tt
-  up_list (x ∷ xs) up =
-      (recursion_from_All (λ y. is_gt (cmp x y) ≡ false) xs
-      (λ k d h.
-      let far : is_lt (cmp (get_or xs k d) x) ≡ false = sorted_far (λ a b. is_lt (cmp a b)) weak (x ∷ xs) up 0 (suc k) d (omega arith) (omega (arith, h)) in
-      sym (gt_back (cmp x (get_or xs k d)) (cmp (get_or xs k d) x) (o.antisymm (get_or xs k d) x)) ∙ far),
-      up_list xs (λ k d low high.
-      let next : suc k + 1 ≡ suc (k + 1) = omega arith in
-      rw next at (up (suc k) d (omega arith) (omega (arith, high)))))
+  up_list (x ∷ xs) up = (
+    recursion_from_All (λ y. is_gt (cmp x y) ≡ false) xs
+        (λ k d h.
+        let far : is_lt (cmp (get_or xs k d) x) ≡ false = sorted_far (λ a b. is_lt (cmp a b)) weak (x ∷ xs) up 0 (suc k) d (omega arith) (omega (arith, h)) in
+        sym (gt_back (cmp x (get_or xs k d)) (cmp (get_or xs k d) x) (o.antisymm (get_or xs k d) x)) ∙ far),
+    up_list xs (λ k d low high.
+        let next : suc k + 1 ≡ suc (k + 1) = omega arith in
+        rw next at (up (suc k) d (omega arith) (omega (arith, high)))),
+  )
 
 -- ---- each value once
 
@@ -168,16 +166,18 @@ kept_after last (value ∷ values) =
     (λ is.
     let same : value ≡ last = same_bytes value last is in
     let rest : once_after last (value ∷ values) ≡ once_after value values = rw is refl in
-    let first : list_any (bytes_eq value) (last ∷ once_after last (value ∷ values)) ≡ true = rw is refl in
-    (first,
-    subst (λ ws. AllByRecursion (λ v. list_any (bytes_eq v) (last ∷ ws) ≡ true) values) (sym rest)
-    (subst (λ w. AllByRecursion (λ v. list_any (bytes_eq v) (w ∷ once_after value values) ≡ true) values) same (kept_after value values))))
+    let first : list_any (bytes_eq value) (last ∷ once_after last (value ∷ values)) ≡ true = rw is refl in (
+      first,
+      subst (λ ws. AllByRecursion (λ v. list_any (bytes_eq v) (last ∷ ws) ≡ true) values) (sym rest)
+          (subst (λ w. AllByRecursion (λ v. list_any (bytes_eq v) (w ∷ once_after value values) ≡ true) values) same (kept_after value values)),
+    ))
     (λ isnt.
     let rest : once_after last (value ∷ values) ≡ value ∷ once_after value values = rw isnt refl in
-    let there : list_any (bytes_eq value) (value ∷ once_after value values) ≡ true = rw (bytes_itself value) refl in
-    (subst (λ ws. list_any (bytes_eq value) (last ∷ ws) ≡ true) (sym rest) (one_more (bytes_eq value) last (value ∷ once_after value values) there),
-    subst (λ ws. AllByRecursion (λ v. list_any (bytes_eq v) (last ∷ ws) ≡ true) values) (sym rest)
-    (each_then (λ v. list_any (bytes_eq v) (value ∷ once_after value values) ≡ true) (λ v. list_any (bytes_eq v) (last ∷ value ∷ once_after value values) ≡ true) (λ v more. one_more (bytes_eq v) last (value ∷ once_after value values) more) values (kept_after value values))))
+    let there : list_any (bytes_eq value) (value ∷ once_after value values) ≡ true = rw (bytes_itself value) refl in (
+      subst (λ ws. list_any (bytes_eq value) (last ∷ ws) ≡ true) (sym rest) (one_more (bytes_eq value) last (value ∷ once_after value values) there),
+      subst (λ ws. AllByRecursion (λ v. list_any (bytes_eq v) (last ∷ ws) ≡ true) values) (sym rest)
+          (each_then (λ v. list_any (bytes_eq v) (value ∷ once_after value values) ≡ true) (λ v. list_any (bytes_eq v) (last ∷ value ∷ once_after value values) ≡ true) (λ v more. one_more (bytes_eq v) last (value ∷ once_after value values) more) values (kept_after value values)),
+    ))
 
 pub kept_once : (values : List (List ℕ)) → AllByRecursion (λ v. list_any (bytes_eq v) (once values) ≡ true) values
 kept_once [] = tt

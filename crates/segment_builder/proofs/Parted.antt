@@ -1,19 +1,12 @@
 -- The entries of all documents: what each part is, document by document, and what each entry is.
-use Rattle.std.proofs.Common.{◌≡◌, ℕ, ℤ, zero, suc, ◌+◌, ◌<◌, ◌≤◌, ◌==◌, Bool, true, false, List, [], ◌∷◌, ◌++◌, length, map, slice_get, Some, refl, sym, ap, subst, ◌∙◌, arith, append_assoc, append-nil, eq-eqb}
-use Rattle.std.specs.List.{AllByRecursion, list_any}
-use Rattle.std.specs.List.Sorted.{IsStrictlySortedBy}
-use Rattle.std.specs.Ordering.{nat_cmp, eq_by_cmp}
-use Rattle.std.specs.Str.{bytes_eq}
-use Rattle.std.specs.declared.cmp.Ordering.{Ordering}
-use Rattle.std.specs.declared.cmp.Ordering.TheVariants.{Less}
-use Rattle.std.proofs.lemmas.List.{length-map, map-append}
+use Rattle.std.proofs.Common.{◌≡◌, ℕ, ℤ, suc, ◌+◌, List, [], ◌∷◌, ◌++◌, length, map, slice_get, Some, refl, sym, ap, ◌∙◌, arith, append_assoc}
+use Rattle.std.specs.List.{AllByRecursion}
+use Rattle.std.proofs.lemmas.List.{length-map}
 use Rattle.segment.specs.Flat.{FlatDocument}
 use Rattle.term_table.specs.Keys.{number_key}
-use Rattle.term_table.specs.Terms.{term_cmp}
-use Rattle.segment_builder.specs.Entries.{EntriesState, flats_in, no_entries, with_document, with_documents, with_blocks}
-use Rattle.segment_builder.specs.Groups.{of_key, keys}
+use Rattle.segment_builder.specs.Entries.{EntriesState, flats_in, no_entries, with_blocks}
+use Rattle.segment_builder.specs.Groups.{keys}
 use Rattle.segment_builder.specs.Parts.{tagged, fields_with}
-use Rattle.segment_builder.specs.Rising.{AreRisingFrom}
 use Rattle.segment_builder.specs.Terms.{terms_at, once, keyword_terms, number_terms}
 use Rattle.flattener.specs.Block.{BlockState}
 use Rattle.segment_builder.proofs.Among.{each_both_sides}
@@ -83,7 +76,6 @@ keyword_terms_by n (flat ∷ flats) = keyword_terms_append (keyword_tags n flat)
 pub number_terms_by : (n : ℕ) (flats : List FlatDocument) → number_terms (by_doc number_tags n flats) ≡ by_doc number_term_tags n flats
 number_terms_by n [] = refl
 number_terms_by n (flat ∷ flats) = number_terms_append (number_tags n flat) (by_doc number_tags (n + 1) flats) ∙ ap (λ rest. number_term_tags n flat ++ rest) (number_terms_by (n + 1) flats)
-
 
 -- ---- the parts
 

@@ -1,9 +1,8 @@
 -- The positions of a word in a document ascend strictly: no two tokens of a field have one position.
-use Rattle.std.proofs.Common.{◌≡◌, ℕ, zero, suc, ◌+◌, ◌<◌, ◌≤◌, ◌==◌, true, false, if◌then◌else◌, List, [], ◌∷◌, ◌++◌, length, map, get_or, refl, sym, ap, subst, ◌∙◌, arith, eqb-true, eq-eqb}
-use Rattle.std.specs.Cmp.{IsTotalOrder}
+use Rattle.std.proofs.Common.{◌≡◌, ℕ, ◌+◌, ◌<◌, ◌≤◌, ◌==◌, true, false, if◌then◌else◌, List, [], ◌∷◌, ◌++◌, length, refl, sym, ap, subst, ◌∙◌, arith, eqb-true, eq-eqb}
 use Rattle.std.specs.List.{AllByRecursion}
-use Rattle.std.specs.List.Sorted.{IsSorted, IsStrictlySortedBy, IsStrictlyIncreasing}
-use Rattle.std.specs.Ordering.{is_lt, is_gt, is_eq, eq_by_cmp, nat_cmp, ordering_reverse, ordering_then}
+use Rattle.std.specs.List.Sorted.{IsStrictlySortedBy, IsStrictlyIncreasing}
+use Rattle.std.specs.Ordering.{is_gt, is_eq, nat_cmp, ordering_then}
 use Rattle.std.specs.Str.{bytes_eq}
 use Rattle.std.specs.declared.cmp.Ordering.{Ordering}
 use Rattle.std.specs.declared.cmp.Ordering.TheVariants.{Less, Equal, Greater}
@@ -12,7 +11,7 @@ use Rattle.std.proofs.lemmas.Map.Keys.{IsStrictlyIncreasing-from_sorted}
 use Rattle.flattener.specs.Flat.{placed, ascending, bytes_cmp, token_cmp, tokens, tokens_by, later_tokens, placed_words, position_gap, together, grouped, words_of_field}
 use Rattle.segment_builder.proofs.InOrder.{each_then, each_both, sorted_push}
 use Rattle.segment_builder.proofs.Keys.{split}
-use Rattle.segment_builder.proofs.Onced.{gt_back, same_bytes}
+use Rattle.segment_builder.proofs.Onced.{same_bytes}
 use Rattle.segment_builder.proofs.Rising.{less_is}
 use Rattle.segment_builder.proofs.Sorted.{each_append, sorted_none}
 
@@ -187,8 +186,10 @@ together_rise f word positions (t ∷ ts) up below rise =
     (each_both (λ (u : Token). word ≡ u.0 → AreBelowAll positions u) (IsBefore t) (λ (u : Token). word ≡ u.0 → AreBelowAll (positions ++ t.1 ∷ []) u)
     (λ u all before own. each_append (λ p. p < u.1) positions (t.1 ∷ []) (all own) (before (same ∙ own), tt)) ts below.1 rise.0) rise.1))
     (λ isnt.
-    rw isnt (IsStrictlyIncreasing-from_sorted positions up,
-    together_rise f t.0 (t.1 ∷ []) ts (one_sorted t.1) (each_then (IsBefore t) (λ (u : Token). t.0 ≡ u.0 → AreBelowAll (t.1 ∷ []) u) (λ u before own. (before own, tt)) ts rise.0) rise.1))
+    rw isnt (
+      IsStrictlyIncreasing-from_sorted positions up,
+      together_rise f t.0 (t.1 ∷ []) ts (one_sorted t.1) (each_then (IsBefore t) (λ (u : Token). t.0 ≡ u.0 → AreBelowAll (t.1 ∷ []) u) (λ u before own. (before own, tt)) ts rise.0) rise.1,
+    ))
 
 pub words_rise : (f : ℕ) (texts : List (List ℕ)) → AreUp (ascending token_cmp (tokens texts)) → AllByRecursion Rise (words_of_field f (tokens texts))
 words_rise f texts up = from_sorted (ascending token_cmp (tokens texts)) (risen (ascending token_cmp (tokens texts)) up (apart_ascending (tokens texts) (tokens_apart texts)))

@@ -1,12 +1,12 @@
 -- Groups whose keys and members are seen as others are groups of the entries seen so.
-use Rattle.std.proofs.Common.{◌≡◌, ℕ, ◌+◌, ◌<◌, true, false, ◌||◌, List, [], ◌∷◌, length, map, refl, sym, ap, ◌∙◌, arith}
+use Rattle.std.proofs.Common.{◌≡◌, ◌<◌, true, List, [], ◌∷◌, length, map, refl, sym, ap, ◌∙◌, arith}
 use Rattle.std.specs.List.{AllByRecursion, list_any}
 use Rattle.std.specs.List.Sorted.{IsStrictlySortedBy}
 use Rattle.std.specs.Ordering.{eq_by_cmp}
 use Rattle.std.specs.declared.cmp.Ordering.{Ordering}
 use Rattle.std.specs.declared.cmp.Ordering.TheVariants.{Less}
 use Rattle.std.proofs.lemmas.List.{length-map}
-use Rattle.segment_builder.specs.Groups.{of_key, keys, AreOrdered, AreGroups}
+use Rattle.segment_builder.specs.Groups.{of_key, keys, AreGroups}
 use Rattle.segment_builder.proofs.Keys.{split}
 
 module _ {K L P Q : Type 0} (cmp : K → K → Ordering) (other : L → L → Ordering) (h : K → L) (f : P → Q) (same : (a b : K) → cmp a b ≡ other (h a) (h b)) where

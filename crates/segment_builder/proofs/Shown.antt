@@ -1,5 +1,5 @@
 -- Groups of the entries of all documents say of each document what it carries.
-use Rattle.std.proofs.Common.{◌≡◌, ℕ, ◌<◌, true, false, List, [], ◌∷◌, ◌++◌, length, nat_lt, refl, sym, ap, subst, ◌∙◌, arith}
+use Rattle.std.proofs.Common.{◌≡◌, ℕ, ◌<◌, true, List, [], ◌∷◌, ◌++◌, length, nat_lt, refl, sym, ap, subst, ◌∙◌, arith}
 use Rattle.std.specs.List.{All, AllByRecursion, list_any}
 use Rattle.std.specs.List.Sorted.{IsStrictlySortedBy}
 use Rattle.std.specs.Ordering.{is_eq, eq_by_cmp}
@@ -9,7 +9,6 @@ use Rattle.std.proofs.lemmas.Cmp.{eq_by_cmp_equiv}
 use Rattle.std.proofs.lemmas.List.Elements.{All-tail}
 use Rattle.std.proofs.lemmas.Map.Keys.{sorted_head, sorted_tail}
 use Rattle.doc_values.specs.Values.{values_of}
-use Rattle.segment.specs.Flat.{has_some}
 use Rattle.segment_builder.specs.Groups.{of_key, keys, AreGroups}
 use Rattle.segment_builder.proofs.Keys.{split}
 use Rattle.segment_builder.proofs.Merged.{IsExact, find, AreIn, AreSome, at_document, merged, less_back}
@@ -86,4 +85,3 @@ module _ {K : Type 0} (cmp : K → K → Ordering) (o : IsExact cmp) where
     pub shown : IsStrictlySortedBy cmp (keys entries) → AreSome cmp o entries → at_document cmp o doc groups ≡ entries
     shown rise some =
         merged cmp o doc groups entries are.ordered.ascending rise some (groups_say groups are.gather) (are_there entries some (own_entry entries rise))
-

@@ -51,4 +51,3 @@ sorted_append f (x ∷ xs) ys up of_field rest later =
     sorted_cons term_cmp x (xs ++ ys)
     (each_append (λ y. term_cmp x y ≡ Less) xs ys (sorted_first term_cmp x xs up) (across f f x ys of_field.0 later))
     (sorted_append f xs ys (sorted_rest term_cmp x xs up) of_field.1 rest later)
-

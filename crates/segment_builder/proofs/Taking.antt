@@ -1,7 +1,7 @@
 -- The entries of documents that can be written can be made columns of.
-use Rattle.std.proofs.Common.{◌≡◌, ℕ, ℤ, zero, suc, ◌+◌, ◌<◌, ◌≤◌, ◌^◌, ◌==◌, Bool, true, false, List, [], ◌∷◌, ◌++◌, length, map, slice_get, Some, Contains, refl, sym, ap, subst, ◌∙◌, arith, append_assoc, append-nil, FitsSigned, w64}
+use Rattle.std.proofs.Common.{◌≡◌, ℕ, ℤ, ◌+◌, ◌<◌, ◌≤◌, ◌^◌, Bool, true, false, List, [], ◌∷◌, ◌++◌, length, map, slice_get, Some, Contains, refl, sym, ap, subst, ◌∙◌, arith, append-nil, FitsSigned, w64}
 use Rattle.std.specs.Cmp.Lexicographic.{slice_cmp}
-use Rattle.std.specs.List.{All, AllByRecursion, list_any}
+use Rattle.std.specs.List.{AllByRecursion}
 use Rattle.std.specs.List.Sorted.{IsStrictlySortedBy}
 use Rattle.std.specs.Ordering.{int_cmp, nat_cmp, eq_by_cmp}
 use Rattle.std.proofs.lemmas.Cmp.{int_cmp_total, nat_list_cmp_total}
@@ -15,7 +15,7 @@ use Rattle.flattener.specs.Block.{BlockState}
 use Rattle.segment_builder.specs.Entries.{EntriesState, flats_in, no_entries, with_blocks}
 use Rattle.segment_builder.specs.Groups.{of_key, keys}
 use Rattle.segment_builder.specs.Made.{all_terms}
-use Rattle.segment_builder.specs.Parts.{tagged, fields_with}
+use Rattle.segment_builder.specs.Parts.{fields_with}
 use Rattle.segment_builder.specs.Rising.{AreRisingFrom}
 use Rattle.segment_builder.specs.Taken.{IsTermEntry, AreTermEntries, IsValueEntry, AreValueEntries, AreTextEntries}
 use Rattle.segment_builder.specs.Terms.{terms_at, once, keyword_terms, number_terms}
@@ -26,8 +26,7 @@ use Rattle.segment_builder.proofs.Keys.{split}
 use Rattle.segment_builder.proofs.Onced.{KeysAreOrdered, keys_up, keyword_terms_up, number_terms_up, once_in, up_list, UpList}
 use Rattle.segment_builder.proofs.Orders.{nat_order, term_order}
 use Rattle.segment_builder.proofs.Parted.{each_doc, each_place, tagged_own, tagged_keys, tagged_each, number_tags, keyword_tags, word_tags, text_tags, keyword_term_tags, number_term_tags, numbers_are, keywords_are, words_are, texts_are, keyword_terms_are, number_terms_are}
-use Rattle.segment_builder.proofs.Rising.{docs_rise, each_of_key, key_is}
-use Rattle.segment_builder.proofs.Shown.{each_by}
+use Rattle.segment_builder.proofs.Rising.{docs_rise, key_is}
 use Rattle.segment_builder.proofs.Written.{bytes_order, Kinds, AreApart, AreNumbers, AreKeywords, IsWordOf, IsTextOf, IsWritten}
 
 -- ---- what holds of each term

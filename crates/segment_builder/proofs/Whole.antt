@@ -1,5 +1,5 @@
 -- The columns made of all blocks say of each document what it carries.
-use Rattle.std.proofs.Common.{◌≡◌, ℕ, ℤ, ◌+◌, ◌<◌, ◌==◌, Bool, true, false, List, [], ◌∷◌, ◌++◌, length, map, get_or, slice_get, slice_index_or, Some, refl, sym, ap, subst, ◌∙◌, arith, eq-eqb, eqb-true}
+use Rattle.std.proofs.Common.{◌≡◌, ℕ, ℤ, ◌+◌, ◌<◌, ◌==◌, Bool, true, false, List, [], ◌++◌, length, map, get_or, slice_get, slice_index_or, Some, refl, sym, ap, subst, ◌∙◌, arith, eq-eqb, eqb-true}
 use Rattle.std.specs.List.{All, filter}
 use Rattle.std.specs.List.Sorted.{IsStrictlySortedBy}
 use Rattle.std.specs.Ordering.{nat_cmp}
@@ -12,7 +12,6 @@ use Rattle.segment.specs.Flat.{FlatDocument, has_some, flat_of, flats_of, values
 use Rattle.segment.specs.Lists.{terms_of}
 use Rattle.segment_parts.specs.declared.columns.Columns.{Columns}
 use Rattle.term_table.specs.Terms.{term_cmp}
-use Rattle.segment_builder.specs.Columns.{marks_of}
 use Rattle.segment_builder.specs.Entries.{EntriesState, flats_in, no_entries, with_blocks}
 use Rattle.segment_builder.specs.Form.{IsOrdered}
 use Rattle.segment_builder.specs.Groups.{of_key, AreGroups}

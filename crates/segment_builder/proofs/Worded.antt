@@ -7,7 +7,7 @@ use Rattle.doc_values.specs.Values.{values_of}
 use Rattle.segment.specs.Flat.{has_some, bytes_at}
 use Rattle.term_table.specs.Keys.{number_key}
 use Rattle.term_table.specs.Terms.{term_cmp}
-use Rattle.segment_builder.specs.Columns.{column_terms, row_terms, named, named_row, named_group}
+use Rattle.segment_builder.specs.Columns.{column_terms, row_terms, named_row, named_group}
 use Rattle.segment_builder.specs.Groups.{of_key}
 use Rattle.segment_builder.specs.Terms.{terms_at, once, keyword_terms, number_terms}
 use Rattle.segment_builder.proofs.Among.{map_along}

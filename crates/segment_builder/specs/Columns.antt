@@ -1,6 +1,6 @@
 -- Columns made of groups.
 use denote.Ref.{Bor}
-use Rattle.std.specs.Prelude.{◌≡◌, ℕ, ℤ, Bool, true, false, List, [], ◌∷◌, map, replicate, slice_get, slice_set, Contains, Option, Some, Vec}
+use Rattle.std.specs.Prelude.{ℕ, ℤ, Bool, true, false, List, [], ◌∷◌, map, replicate, slice_get, slice_set, Contains, Option, Some, Vec}
 use Rattle.std.specs.Cmp.Lexicographic.{slice_cmp}
 use Rattle.std.specs.Ordering.{nat_cmp}
 use Rattle.doc_values.specs.Stands.{IsColumn}

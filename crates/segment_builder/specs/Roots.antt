@@ -1,5 +1,5 @@
 -- Roots that can be stored.
-use Rattle.std.specs.Prelude.{ℕ, ◌<◌, ◌^◌, List, length}
+use Rattle.std.specs.Prelude.{◌<◌, ◌^◌, List, length}
 use Rattle.std.specs.List.{AllByRecursion}
 use Rattle.segment.specs.Flat.{FlatRoot}
 use Rattle.stored_sources.specs.Stands.{IsJoin}

@@ -99,7 +99,12 @@ fn made(
     let documents = scopes.len() as u32;
     let scopes = scope_sets(alloc, scopes.as_slice())?;
     let keys = number_keys(alloc, numbers.as_slice())?;
-    let terms = terms_of(alloc, words.as_slice(), keywords.as_slice(), keys.as_slice())?;
+    let terms = terms_of(
+        alloc,
+        words.as_slice(),
+        keywords.as_slice(),
+        keys.as_slice(),
+    )?;
     let ordinals = ordinal_columns(alloc, terms.as_slice(), keywords)?;
     let numbers = number_columns(alloc, numbers)?;
     let present = present_of(alloc, documents, texts)?;

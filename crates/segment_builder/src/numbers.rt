@@ -48,11 +48,7 @@ fn columns_from(
 }
 
 /// The column of a field's numbers.
-fn column_of(
-    alloc: Global,
-    field: u32,
-    members: &[(u32, &[i64])],
-) -> Result<RowList<i64>, NoMemory>
+fn column_of(alloc: Global, field: u32, members: &[(u32, &[i64])]) -> Result<RowList<i64>, NoMemory>
     requires { IsColumn int_cmp (FitsSigned w64) (field, number_rows members.now) }
     ensures { IfOk result (λ column. column ≡ (field, number_rows members.now)) }
 {
@@ -71,4 +67,3 @@ fn numbers_of(alloc: Global, values: &[i64]) -> Result<ValueList<i64>, NoMemory>
 {
     Ok(ValueList::of(values.to_vec(alloc)?))
 }
-

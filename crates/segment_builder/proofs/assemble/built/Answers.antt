@@ -1,4 +1,4 @@
-use Rattle.std.proofs.Common.{ap, ◌∙◌, arith}
+use Rattle.std.proofs.Common.{arith}
 use Rattle.flattener.specs.Seen.{block_seen}
 use Rattle.std.proofs.Common.{map, subst, sym}
 use Rattle.mapping.specs.Reached.{AreReached}
@@ -9,18 +9,19 @@ use Rattle.segment_builder.proofs.assemble.built.Goals as goal
 
 pub made_of-requires : goal.made_of-requires
 made_of-requires c =
-    let reached : AreReached c.args.mapping.now = subst AreReached (sym c.generation-generations.ensures.mapping) (c.names_lead_to_fields.ensures c.args.mapping.now.bodies c.args.mapping.now.dynamic c.generation-generations.ensures.bodies) in
-    (c.args.mapping.now,
-    are_given c.args.mapping.now c.args.blocks.now
-    (λ block fits. c.blocks_are_of_their_mapping.ensures c.args.mapping.now block c.scope_count-scopes.ensures.is_mapping fits)
-    (λ block fits. c.blocks_are_small.ensures c.args.mapping.now block c.scope_count-scopes.ensures.is_mapping reached fits)
-    (record {
-      fields = omega (arith, c.field_count-fields.ensures);
-      scopes = omega (arith, c.scope_count-scopes.ensures.count);
-      bodies = omega (arith, c.generation-generations.ensures.generation);
-      relations = omega (arith, c.relation_count-relations.ensures);
-    })
-    c.requires.fit c.requires.some c.requires.few c.blocks_fit.ensures)
+    let reached : AreReached c.args.mapping.now = subst AreReached (sym c.generation-generations.ensures.mapping) (c.names_lead_to_fields.ensures c.args.mapping.now.bodies c.args.mapping.now.dynamic c.generation-generations.ensures.bodies) in (
+      c.args.mapping.now,
+      are_given c.args.mapping.now c.args.blocks.now
+          (λ block fits. c.blocks_are_of_their_mapping.ensures c.args.mapping.now block c.scope_count-scopes.ensures.is_mapping fits)
+          (λ block fits. c.blocks_are_small.ensures c.args.mapping.now block c.scope_count-scopes.ensures.is_mapping reached fits)
+          (record {
+            fields = omega (arith, c.field_count-fields.ensures);
+            scopes = omega (arith, c.scope_count-scopes.ensures.count);
+            bodies = omega (arith, c.generation-generations.ensures.generation);
+            relations = omega (arith, c.relation_count-relations.ensures);
+          })
+          c.requires.fit c.requires.some c.requires.few c.blocks_fit.ensures,
+    )
 
 pub returns-clause-fits : goal.returns-clause-fits
 returns-clause-fits c =

@@ -1,6 +1,4 @@
-use Rattle.std.proofs.Common.{◌≡◌, ◌+◌, ◌<◌, ◌≤◌, length, map, sym, ap, subst, ◌∙◌, arith}
-use Rattle.std.specs.Cmp.Lexicographic.{slice_cmp}
-use Rattle.std.specs.Ordering.{nat_cmp, int_cmp}
+use Rattle.std.proofs.Common.{◌≡◌, length, sym, ap, subst, arith}
 use Rattle.term_table.specs.Terms.{AreAscending}
 use Rattle.segment_builder.specs.Columns.{terms_in}
 use Rattle.segment_builder.specs.Entries.{entries_lent, flats_in}
@@ -18,26 +16,29 @@ pub scope_sets-requires-clause-few : goal.scope_sets-requires-clause-few
 scope_sets-requires-clause-few c = omega (arith, ap length c.as_slice.ensures.value, count (entries_lent c.args.entries) c.requires.1 c.requires.3, few_documents c.requires.0 c.requires.1 c.requires.2)
 
 pub terms_of-requires : goal.terms_of-requires
-terms_of-requires c =
-    (length (flats_in c.requires.1),
-    rw (c.as_slice-3.ensures.value, c.as_slice-4.ensures.value, c.as_slice-5.ensures.value, c.in_ok-keys.ensures, c.as_slice-2.ensures.value)
-    (term_entries (kinds_of c.requires.0) (entries_lent c.args.entries) c.requires.1 c.requires.3 (all_written c.requires.0 c.requires.1 c.requires.2) (apart_of c.requires.0) c.keys_are_ordered.ensures c.requires.2.numbered.fields (few_documents c.requires.0 c.requires.1 c.requires.2)))
+terms_of-requires c = (
+  length (flats_in c.requires.1),
+  rw (c.as_slice-3.ensures.value, c.as_slice-4.ensures.value, c.as_slice-5.ensures.value, c.in_ok-keys.ensures, c.as_slice-2.ensures.value)
+      (term_entries (kinds_of c.requires.0) (entries_lent c.args.entries) c.requires.1 c.requires.3 (all_written c.requires.0 c.requires.1 c.requires.2) (apart_of c.requires.0) c.keys_are_ordered.ensures c.requires.2.numbered.fields (few_documents c.requires.0 c.requires.1 c.requires.2)),
+)
 
 pub number_columns-requires : goal.number_columns-requires
-number_columns-requires c =
-    (length (flats_in c.requires.1),
-    number_entries (kinds_of c.requires.0) (entries_lent c.args.entries) c.requires.1 c.requires.3 (all_written c.requires.0 c.requires.1 c.requires.2) c.requires.2.numbered.fields (few_documents c.requires.0 c.requires.1 c.requires.2))
+number_columns-requires c = (
+  length (flats_in c.requires.1),
+  number_entries (kinds_of c.requires.0) (entries_lent c.args.entries) c.requires.1 c.requires.3 (all_written c.requires.0 c.requires.1 c.requires.2) c.requires.2.numbered.fields (few_documents c.requires.0 c.requires.1 c.requires.2),
+)
 
 pub ordinal_columns-requires-clause-ascending : goal.ordinal_columns-requires-clause-ascending
 ordinal_columns-requires-clause-ascending c = subst (λ rows. AreAscending (terms_in rows)) (sym c.as_slice-6.ensures.rows) c.as_slice-6.ensures.are.ascending
 
 pub ordinal_columns-requires-clause-entries : goal.ordinal_columns-requires-clause-entries
-ordinal_columns-requires-clause-entries c =
-    (length (flats_in c.requires.1),
-    keyword_entries (kinds_of c.requires.0) (entries_lent c.args.entries) c.requires.1 c.requires.3 (all_written c.requires.0 c.requires.1 c.requires.2) (terms_in c.as_slice-6.result.now)
-    (keywords_found (entries_lent c.args.entries) c.as_slice-6.result.now
-    (rw c.as_slice-6.ensures.rows (rw (c.as_slice-3.ensures.value, c.as_slice-4.ensures.value, c.as_slice-5.ensures.value, c.in_ok-keys.ensures, c.as_slice-2.ensures.value) at c.in_ok-terms.ensures.groups)))
-    c.requires.2.numbered.fields (few_documents c.requires.0 c.requires.1 c.requires.2))
+ordinal_columns-requires-clause-entries c = (
+  length (flats_in c.requires.1),
+  keyword_entries (kinds_of c.requires.0) (entries_lent c.args.entries) c.requires.1 c.requires.3 (all_written c.requires.0 c.requires.1 c.requires.2) (terms_in c.as_slice-6.result.now)
+      (keywords_found (entries_lent c.args.entries) c.as_slice-6.result.now
+      (rw c.as_slice-6.ensures.rows (rw (c.as_slice-3.ensures.value, c.as_slice-4.ensures.value, c.as_slice-5.ensures.value, c.in_ok-keys.ensures, c.as_slice-2.ensures.value) at c.in_ok-terms.ensures.groups)))
+      c.requires.2.numbered.fields (few_documents c.requires.0 c.requires.1 c.requires.2),
+)
 
 pub present_of-requires : goal.present_of-requires
 present_of-requires c =

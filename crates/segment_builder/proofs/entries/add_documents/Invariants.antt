@@ -1,4 +1,4 @@
-use Rattle.std.proofs.Common.{◌≡◌, ◌+◌, ◌≤◌, drop, length, map}
+use Rattle.std.proofs.Common.{◌≡◌, ◌+◌, drop, length, map}
 use Rattle.flattener.specs.Seen.{document_seen}
 use Rattle.segment_builder.specs.Entries.{entries_lent, with_documents}
 use Rattle.segment_builder.proofs.entries.add_documents.Given as goal

@@ -1,4 +1,4 @@
-use Rattle.std.proofs.Common.{◌+◌, ◌-◌, ◌/◌, ◌≤◌, length, sym, ◌∙◌, arith}
+use Rattle.std.proofs.Common.{◌+◌, ◌-◌, ◌/◌, length, sym, ◌∙◌, arith}
 use Rattle.std.proofs.lemmas.List.{length-map}
 use Rattle.segment_builder.specs.Columns.{terms_in}
 use Rattle.segment_builder.proofs.Finding.{below_middle, between_all, found_at_last, from_middle, term_there}
@@ -13,17 +13,21 @@ pub places-preserved-then-is_after : goal.places-preserved-then-is_after
 places-preserved-then-is_after c =
     let middle = c.places.low + (c.places.high - c.places.low) / 2 in
     let own = c.index-rows-middle.result in
-    let here = term_there c.args.rows.now middle own (omega (arith, c.places-test.true, c.places.invariant.2)) c.index-rows-middle.is in
-    (below_middle (terms_in c.args.rows.now) (c.args.field, c.args.bytes.now) own.term c.places.low middle c.places.high c.requires.ascending c.places.invariant.0 here (sym c.is_after.ensures ∙ c.if-is_after.true),
-    omega (arith, c.places-test.true), omega (arith, c.places-test.true, c.places.invariant.2))
+    let here = term_there c.args.rows.now middle own (omega (arith, c.places-test.true, c.places.invariant.2)) c.index-rows-middle.is in (
+      below_middle (terms_in c.args.rows.now) (c.args.field, c.args.bytes.now) own.term c.places.low middle c.places.high c.requires.ascending c.places.invariant.0 here (sym c.is_after.ensures ∙ c.if-is_after.true),
+      omega (arith, c.places-test.true),
+      omega (arith, c.places-test.true, c.places.invariant.2),
+    )
 
 pub places-preserved : goal.places-preserved
 places-preserved c =
     let middle = c.places.low + (c.places.high - c.places.low) / 2 in
     let own = c.index-rows-middle.result in
-    let here = term_there c.args.rows.now middle own (omega (arith, c.places-test.true, c.places.invariant.2)) c.index-rows-middle.is in
-    (from_middle (terms_in c.args.rows.now) (c.args.field, c.args.bytes.now) own.term c.places.low middle c.places.high c.requires.ascending c.places.invariant.0 here (sym c.is_after.ensures ∙ c.if-is_after.false),
-    omega (arith, c.places-test.true), c.places.invariant.2)
+    let here = term_there c.args.rows.now middle own (omega (arith, c.places-test.true, c.places.invariant.2)) c.index-rows-middle.is in (
+      from_middle (terms_in c.args.rows.now) (c.args.field, c.args.bytes.now) own.term c.places.low middle c.places.high c.requires.ascending c.places.invariant.0 here (sym c.is_after.ensures ∙ c.if-is_after.false),
+      omega (arith, c.places-test.true),
+      c.places.invariant.2,
+    )
 
 pub returns : goal.returns
 returns c = found_at_last (terms_in c.args.rows.now) (c.args.field, c.args.bytes.now) c.places.low c.places.high c.places.invariant.0 (omega arith)
