@@ -1,0 +1,141 @@
+-- Walks over the documents of the roots.
+use Rattle.std.proofs.Common.{◌≡◌, ℕ, zero, suc, ◌+◌, ◌-◌, ◌<◌, ◌≤◌, Bool, true, false, cond, List, [], ◌∷◌, ◌++◌, length, take, drop, get_or, replicate, Option, Some, None, refl, sym, ap, subst, ◌∙◌, inl, inr, arith, append_assoc, drop-drop, length-drop}
+use Rattle.std.specs.List.{position_from}
+use Rattle.std.proofs.lemmas.Option.{same_Some}
+use Rattle.block_bits.specs.Flags.{is_marked}
+use Rattle.block_bits.specs.Places.{next_place}
+use Rattle.block_join.specs.Scores.{padded}
+use Rattle.query_eval.specs.Sides.{at_roots, of_roots}
+use Rattle.query_eval.proofs.Entries.{Scores, nil_append}
+
+-- ---- up to the next root
+
+pub record NextRoot (start : ℕ) (flags : List Bool) (doc : ℕ) : Type 0 where
+  pub ahead : ℕ
+  pub place : doc ≡ start + ahead
+  pub below : ahead < length flags
+  pub scores : (hits : Scores) → length flags ≡ length hits → of_roots flags hits ≡ get_or hits ahead None ∷ of_roots (drop (suc ahead) flags) (drop (suc ahead) hits)
+  pub given : (scores : Scores) → at_roots flags scores ≡ replicate ahead None ++ (get_or scores 0 None ∷ at_roots (drop (suc ahead) flags) (drop 1 scores))
+
+root_here : (flags : List Bool) (hits : Scores) → length (true ∷ flags) ≡ length hits → of_roots (true ∷ flags) hits ≡ get_or hits 0 None ∷ of_roots flags (drop 1 hits)
+root_here flags [] long = absurd (omega (arith, long))
+root_here flags (h ∷ hits) long = refl
+
+given_here : (flags : List Bool) (scores : Scores) → at_roots (true ∷ flags) scores ≡ get_or scores 0 None ∷ at_roots flags (drop 1 scores)
+given_here flags [] = refl
+given_here flags (s ∷ scores) = refl
+
+pub next_root : (start : ℕ) (flags : List Bool) (doc : ℕ) → position_from is_marked start flags ≡ Some doc → NextRoot start flags doc
+next_root start [] doc is = absurd (let no : ⊥ = cc in no)
+next_root start (true ∷ flags) doc is =
+    let same : start ≡ doc = same_Some start doc is in
+    record { ahead = 0; place = omega (arith, same); below = omega arith; scores = root_here flags; given = given_here flags }
+next_root start (false ∷ flags) doc is =
+    let rest = next_root (start + 1) flags doc is in
+    record {
+      ahead = suc rest.ahead;
+      place = omega (arith, rest.place);
+      below = omega (arith, rest.below);
+      scores = past flags rest;
+      given = λ scores. ap (λ (l : Scores). None ∷ l) (rest.given scores);
+    }
+  where
+    past : (flags : List Bool) (rest : NextRoot (start + 1) flags doc) (hits : Scores) → length (false ∷ flags) ≡ length hits → of_roots (false ∷ flags) hits ≡ get_or hits (suc rest.ahead) None ∷ of_roots (drop (suc rest.ahead) flags) (drop (suc (suc rest.ahead)) hits)
+    past flags rest [] long = absurd (omega (arith, long))
+    past flags rest (h ∷ hits) long = rest.scores hits (omega (arith, long))
+
+none_left : (start : ℕ) (flags : List Bool) (hits : Scores) → position_from is_marked start flags ≡ None → of_roots flags hits ≡ []
+none_left start [] hits is = refl
+none_left start (true ∷ flags) hits is = absurd (let no : ⊥ = cc in no)
+none_left start (false ∷ flags) [] is = refl
+none_left start (false ∷ flags) (h ∷ hits) is = none_left (start + 1) flags hits is
+
+none_given : (start : ℕ) (flags : List Bool) (scores : Scores) → position_from is_marked start flags ≡ None → at_roots flags scores ≡ replicate (length flags) None
+none_given start [] scores is = refl
+none_given start (true ∷ flags) scores is = absurd (let no : ⊥ = cc in no)
+none_given start (false ∷ flags) scores is = ap (λ (l : Scores). None ∷ l) (none_given (start + 1) flags scores is)
+
+get_drop : (xs : Scores) (from k : ℕ) → get_or (drop from xs) k None ≡ get_or xs (from + k) None
+get_drop xs zero k = let same : 0 + k ≡ k = omega arith in ap (λ n. get_or xs n None) (sym same)
+get_drop [] (suc from) k = refl
+get_drop (x ∷ xs) (suc from) k = let same : suc from + k ≡ suc (from + k) = omega arith in get_drop xs from k ∙ ap (λ n. get_or (x ∷ xs) n None) (sym same)
+
+-- ---- scores of roots
+
+pub of_more : (flags : List Bool) (hits made : Scores) (from doc : ℕ) (score : Option ℕ) → length flags ≡ length hits → next_place is_marked from flags ≡ Some doc → score ≡ get_or hits doc None
+    → made ++ of_roots (drop from flags) (drop from hits) ≡ of_roots flags hits → (made ++ score ∷ []) ++ of_roots (drop (doc + 1) flags) (drop (doc + 1) hits) ≡ of_roots flags hits
+of_more flags hits made from doc score long next is was =
+    let at = next_root from (drop from flags) doc next in
+    let k : ℕ = at.ahead in
+    let same : length (drop from flags) ≡ length (drop from hits) = omega (arith, long, length-drop from flags, length-drop from hits) in
+    let behind : from + suc k ≡ doc + 1 = omega (arith, at.place) in
+    let own : score ≡ get_or (drop from hits) k None = is ∙ ap (λ n. get_or hits n None) at.place ∙ sym (get_drop hits from k) in
+    append_assoc made (score ∷ []) (of_roots (drop (doc + 1) flags) (drop (doc + 1) hits))
+    ∙ ap (λ n. made ++ (score ∷ of_roots (drop n flags) (drop n hits))) (sym behind)
+    ∙ ap (λ (l : List Bool). made ++ (score ∷ of_roots l (drop (from + suc k) hits))) (sym (drop-drop (suc k) from flags))
+    ∙ ap (λ (l : Scores). made ++ (score ∷ of_roots (drop (suc k) (drop from flags)) l)) (sym (drop-drop (suc k) from hits))
+    ∙ ap (λ (x : Option ℕ). made ++ (x ∷ of_roots (drop (suc k) (drop from flags)) (drop (suc k) (drop from hits)))) own
+    ∙ ap (λ (l : Scores). made ++ l) (sym (at.scores (drop from hits) same))
+    ∙ was
+
+pub of_end : (flags : List Bool) (hits made : Scores) (from : ℕ) → next_place is_marked from flags ≡ None → made ++ of_roots (drop from flags) (drop from hits) ≡ of_roots flags hits → made ≡ of_roots flags hits
+of_end flags hits made from next was =
+    sym (nil_append made) ∙ ap (λ (l : Scores). made ++ l) (sym (none_left from (drop from flags) (drop from hits) next)) ∙ was
+
+-- ---- scores given to roots
+
+repeated : (n m : ℕ) → ◌≡◌ {A = Scores} (replicate n None ++ replicate m None) (replicate (m + n) None)
+repeated zero m = ap (λ k. replicate k None) (omega arith)
+repeated (suc n) m =
+    let next : suc (m + n) ≡ m + suc n = omega arith in ap (λ (l : Scores). None ∷ l) (repeated n m) ∙ ap (λ k. replicate k None) next
+
+padded_more : (done : Scores) (from end : ℕ) → length done ≤ from → from ≤ end → padded from done ++ replicate (end - from) None ≡ padded end done
+padded_more done from end h le =
+    let sum : (end - from) + (from - length done) ≡ end - length done = omega arith in
+    append_assoc done (replicate (from - length done) None) (replicate (end - from) None)
+    ∙ ap (λ (l : Scores). done ++ l) (repeated (from - length done) (end - from) ∙ ap (λ n. replicate n None) sum)
+
+pub record Giving (flags : List Bool) (given done : Scores) (from root : ℕ) : Type 0 where
+  pub goes : padded from done ++ at_roots (drop from flags) (drop root given) ≡ at_roots flags given
+  pub behind : length done ≤ from
+  pub within : from ≤ length flags
+
+pub giving_start : (flags : List Bool) (given : Scores) → Giving flags given [] 0 0
+giving_start flags given = record { goes = refl; behind = omega arith; within = omega arith }
+
+drop_one : (xs : Scores) (root : ℕ) → drop 1 (drop root xs) ≡ drop (root + 1) xs
+drop_one xs root = drop-drop 1 root xs
+
+pub giving_more : (flags : List Bool) (given done new : Scores) (from root doc : ℕ) (score : Option ℕ) → Giving flags given done from root → next_place is_marked from flags ≡ Some doc → score ≡ get_or given root None
+    → padded (doc + 1) new ≡ padded doc done ++ (score ∷ []) → length new ≤ doc + 1 → Giving flags given new (doc + 1) (root + 1)
+giving_more flags given done new from root doc score it next is put behind =
+    let at = next_root from (drop from flags) doc next in
+    let k : ℕ = at.ahead in
+    let gap : doc - from ≡ k = omega (arith, at.place) in
+    let next_from : from + suc k ≡ doc + 1 = omega (arith, at.place) in
+    let first : get_or (drop root given) 0 None ≡ score = get_drop given root 0 ∙ ap (λ n. get_or given n None) (omega arith) ∙ sym is in
+    let rest = at_roots (drop (doc + 1) flags) (drop (root + 1) given) in
+    record {
+      goes =
+          ap (λ (l : Scores). l ++ rest) put
+          ∙ append_assoc (padded doc done) (score ∷ []) rest
+          ∙ ap (λ (l : Scores). l ++ (score ∷ rest)) (sym (padded_more done from doc it.behind (omega (arith, at.place))))
+          ∙ ap (λ n. (padded from done ++ replicate n None) ++ (score ∷ rest)) gap
+          ∙ append_assoc (padded from done) (replicate k None) (score ∷ rest)
+          ∙ ap (λ (x : Option ℕ). padded from done ++ (replicate k None ++ (x ∷ rest))) (sym first)
+          ∙ ap (λ n. padded from done ++ (replicate k None ++ (get_or (drop root given) 0 None ∷ at_roots (drop n flags) (drop (root + 1) given)))) (sym next_from)
+          ∙ ap (λ (l : List Bool). padded from done ++ (replicate k None ++ (get_or (drop root given) 0 None ∷ at_roots l (drop (root + 1) given)))) (sym (drop-drop (suc k) from flags))
+          ∙ ap (λ (l : Scores). padded from done ++ (replicate k None ++ (get_or (drop root given) 0 None ∷ at_roots (drop (suc k) (drop from flags)) l))) (sym (drop_one given root))
+          ∙ ap (λ (l : Scores). padded from done ++ l) (sym (at.given (drop root given)))
+          ∙ it.goes;
+      behind = behind;
+      within = omega (arith, at.place, at.below, length-drop from flags);
+    }
+
+pub giving_end : (flags : List Bool) (given done : Scores) (from root : ℕ) → Giving flags given done from root → next_place is_marked from flags ≡ None → padded (length flags) done ≡ at_roots flags given
+giving_end flags given done from root it next =
+    let left : length flags - from ≡ length (drop from flags) = omega (arith, length-drop from flags) in
+    sym (padded_more done from (length flags) it.behind it.within)
+    ∙ ap (λ n. padded from done ++ replicate n None) left
+    ∙ ap (λ (l : Scores). padded from done ++ l) (sym (none_given from (drop from flags) (drop root given) next))
+    ∙ it.goes

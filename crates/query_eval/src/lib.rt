@@ -1,0 +1,18 @@
+//! What a query finds in a view: a score for each document of a scope that it hits.
+//!
+//! Stands on `leaf_search` for leaves, on `block_join` for scores and joins of blocks, on `tree_joins` for what these are on
+//! trees, and on `join_ordinals` for joins of trees. The contract that others use is that of `matches`: over any view that
+//! stands for live trees its scores are those of the query's clause. Begin with `specs/Found`, then `matches`.
+#![tactic(auto)]
+
+mod leaves;
+mod matches;
+mod merges;
+mod nests;
+mod no_memory;
+mod tally;
+mod trees;
+mod side;
+
+pub use matches::matches;
+pub use no_memory::NoMemory;
