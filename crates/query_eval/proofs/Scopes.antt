@@ -12,7 +12,7 @@ use Rattle.flattener.specs.StandsFor.{EntryStandsFor, Marked, by_document, flat_
 use Rattle.mapping.specs.Mapping.{Mapping, IsAbove}
 use Rattle.segment.specs.Flat.{FlatDocument, flat_of, flats_of}
 use Rattle.segment.specs.Live.{LiveState}
-use Rattle.segment.specs.declared.columns.Columns.{Columns}
+use Rattle.segment_parts.specs.declared.columns.Columns.{Columns}
 use Rattle.tree_joins.specs.Seen.{at_scope, gathered, handed, scope_mark, scopes_of, seen}
 use Rattle.tree_objects.specs.Object.{Object, block_objects}
 use Rattle.tree_objects.specs.Tree.{Tree}

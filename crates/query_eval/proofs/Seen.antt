@@ -13,7 +13,7 @@ use Rattle.query_ast.specs.Clause.{Leaf}
 use Rattle.query_ast.specs.Leaf.{leaf_holds}
 use Rattle.query_ast.specs.Resolved.{IsLeaf}
 use Rattle.segment.specs.Live.{EntryState, LiveState}
-use Rattle.segment.specs.declared.columns.Columns.{Columns}
+use Rattle.segment_parts.specs.declared.columns.Columns.{Columns}
 use Rattle.tree_joins.specs.Seen.{at_scope, if_live, seen}
 use Rattle.tree_objects.specs.Object.{Object, block_objects, scope}
 use Rattle.tree_objects.specs.Tree.{Tree}

@@ -8,7 +8,7 @@ use Rattle.query_ast.specs.Hit.{hit_each, scores}
 use Rattle.query_ast.specs.Leaf.{leaf_holds}
 use Rattle.score_math.specs.Scores.{capped}
 use Rattle.segment.specs.Flat.{FlatDocument, flats_of}
-use Rattle.segment.specs.declared.columns.Columns.{Columns}
+use Rattle.segment_parts.specs.declared.columns.Columns.{Columns}
 use Rattle.tree_objects.specs.Object.{Object}
 use Rattle.tree_objects.specs.Tree.{Tree}
 

@@ -7,7 +7,7 @@ use Rattle.query_ast.specs.Hit.{children_score, parent_score}
 use Rattle.query_ast.specs.Joined.{is_number, roots, child_trees, parent_trees}
 use Rattle.score_math.specs.declared.score.ScoreMode.{ScoreMode}
 use Rattle.segment.specs.Live.{EntryState}
-use Rattle.segment.specs.declared.columns.Columns.{Columns}
+use Rattle.segment_parts.specs.declared.columns.Columns.{Columns}
 use Rattle.stored_sources.specs.Roots.{root_of}
 use Rattle.stored_sources.specs.declared.root.Join.{Join}
 use Rattle.stored_sources.specs.declared.root.Join.TheVariants.{Unjoined, Named, Child}

@@ -1,5 +1,5 @@
 use Rattle.std.proofs.Common.{◌<◌, ◌≤◌, [], length, get_or, sym, ap, subst, ◌∙◌, arith}
-use Rattle.segment.specs.declared.columns.Columns.{Columns}
+use Rattle.segment_parts.specs.declared.columns.Columns.{Columns}
 use Rattle.flattener.specs.StandsFor.{EntryStandsFor}
 use Rattle.query_eval.specs.Found.{live_trees}
 use Rattle.query_eval.specs.Nested.{around_by}
