@@ -2,11 +2,11 @@
 //!
 //! Stands on `leaf_search` for leaves, on `block_join` for scores and joins of blocks, on `tree_joins` for what these are on
 //! trees, and on `join_ordinals` for joins of trees. The contract that others use is that of `matches`: over any view that
-//! stands for live trees its scores are those of the query's clause. Begin with `specs/Found`, then `matches`.
+//! stands for live trees its scores are those of the query's clause. Begin with `specs/Found`, then `evaluation`.
 #![tactic(auto)]
 
 mod leaves;
-mod matches;
+mod evaluation;
 mod merges;
 mod nests;
 mod no_memory;
@@ -14,5 +14,5 @@ mod tally;
 mod trees;
 mod side;
 
-pub use matches::matches;
+pub use evaluation::matches;
 pub use no_memory::NoMemory;
