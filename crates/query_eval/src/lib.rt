@@ -5,14 +5,15 @@
 //! stands for live trees its scores are those of the query's clause. Begin with `specs/Found`, then `matches`.
 #![tactic(auto)]
 
+mod answer;
 mod leaves;
 mod matches;
 mod merges;
 mod nests;
 mod no_memory;
+mod side;
 mod tally;
 mod trees;
-mod side;
 
 pub use matches::matches;
 pub use no_memory::NoMemory;
