@@ -10,28 +10,26 @@ use Rattle.block_join.specs.declared.rule.Rule.TheVariants.{Both, Kept, Without,
 use Rattle.query_ast.specs.Hit.{scores, wanted, bool_hits, bool_score}
 use Rattle.score_math.specs.Scores.{capped, greatest_of}
 use Rattle.score_math.specs.declared.score.TheConstants.{SCORE_CAP}
-use Rattle.query_eval.specs.Folds.{asked_score, folded}
+use Rattle.query_eval.specs.Folds.{asked_score, folded, narrows}
 
 abbrev Answers : Type 0
 Answers = List (Option ℕ)
 
 -- ---- what has no score to begin with
 
-pub both_none : (given : Answers) → folded Both None given ≡ None
-both_none [] = refl
-both_none (x ∷ given) = both_none given
+none_left : (rule : Rule) → narrows rule ≡ true → (x : Option ℕ) → put_together rule None x ≡ None
+none_left Both is x = refl
+none_left Kept is x = refl
+none_left Without is x = refl
+none_left Plus is x = refl
+none_left Either is x = absurd (let no : ⊥ = cc in no)
+none_left Greatest is x = absurd (let no : ⊥ = cc in no)
+none_left Counted is x = absurd (let no : ⊥ = cc in no)
+none_left (AtLeast n) is x = refl
 
-pub kept_none : (given : Answers) → folded Kept None given ≡ None
-kept_none [] = refl
-kept_none (x ∷ given) = kept_none given
-
-pub without_none : (given : Answers) → folded Without None given ≡ None
-without_none [] = refl
-without_none (x ∷ given) = without_none given
-
-pub plus_none : (given : Answers) → folded Plus None given ≡ None
-plus_none [] = refl
-plus_none (x ∷ given) = plus_none given
+pub folded_none : (rule : Rule) → narrows rule ≡ true → (given : Answers) → folded rule None given ≡ None
+folded_none rule is [] = refl
+folded_none rule is (x ∷ given) = ap (λ (y : Option ℕ). folded rule y given) (none_left rule is x) ∙ folded_none rule is given
 
 -- ---- sums
 
@@ -49,20 +47,20 @@ cap_none x small = omega (arith, small, sum_none)
 
 pub fold_both : (x : ℕ) (given : Answers) → x ≤ SCORE_CAP → folded Both (Some x) given ≡ cond (list_all is_some given) (Some (capped (x + sum (scores given)))) None
 fold_both x [] small = ap Some (cap_none x small)
-fold_both x (None ∷ given) small = both_none given
+fold_both x (None ∷ given) small = folded_none Both refl given
 fold_both x (Some s ∷ given) small =
     fold_both (capped (x + s)) given (omega arith)
     ∙ ap (λ (n : ℕ). cond (list_all is_some given) (Some n) None) (cap_more x s (scores given))
 
 pub fold_kept : (x : ℕ) (given : Answers) → folded Kept (Some x) given ≡ cond (list_all is_some given) (Some x) None
 fold_kept x [] = refl
-fold_kept x (None ∷ given) = kept_none given
+fold_kept x (None ∷ given) = folded_none Kept refl given
 fold_kept x (Some s ∷ given) = fold_kept x given
 
 pub fold_without : (x : ℕ) (given : Answers) → folded Without (Some x) given ≡ cond (list_all is_none given) (Some x) None
 fold_without x [] = refl
 fold_without x (None ∷ given) = fold_without x given
-fold_without x (Some s ∷ given) = without_none given
+fold_without x (Some s ∷ given) = folded_none Without refl given
 
 pub fold_plus : (x : ℕ) (given : Answers) → x ≤ SCORE_CAP → folded Plus (Some x) given ≡ Some (capped (x + sum (scores given)))
 fold_plus x [] small = ap Some (cap_none x small)
@@ -128,11 +126,11 @@ module _ (least : Option ℕ) where
 
 pass_kept : (a : Bool) (x : ℕ) (filter : Answers) → folded Kept (cond a (Some x) None) filter ≡ cond (a && list_all is_some filter) (Some x) None
 pass_kept true x filter = fold_kept x filter
-pass_kept false x filter = kept_none filter
+pass_kept false x filter = folded_none Kept refl filter
 
 pass_without : (a : Bool) (x : ℕ) (must_not : Answers) → folded Without (cond a (Some x) None) must_not ≡ cond (a && list_all is_none must_not) (Some x) None
 pass_without true x must_not = fold_without x must_not
-pass_without false x must_not = without_none must_not
+pass_without false x must_not = folded_none Without refl must_not
 
 -- what the clauses that have to hit leave, and those that must not
 abbrev pub required : Answers → Answers → Answers → Option ℕ
@@ -177,7 +175,7 @@ bool_asked must filter should must_not least w some is =
 -- none of them has to hit
 plus_required : (a : Bool) (x : ℕ) (should : Answers) → x ≤ SCORE_CAP → folded Plus (cond a (Some x) None) should ≡ asked_score 0 (cond a (Some x) None) (scores should)
 plus_required true x should small = fold_plus x should small ∙ sym (ap (λ (b : Bool). cond b (Some (capped (x + sum (scores should)))) None) (le-leb 0 (length (scores should)) (omega arith)))
-plus_required false x should small = plus_none should
+plus_required false x should small = folded_none Plus refl should
 
 pub plus_asked : (must filter should must_not : Answers) → folded Plus (required must filter must_not) should ≡ asked_score 0 (required must filter must_not) (scores should)
 plus_asked must filter should must_not =

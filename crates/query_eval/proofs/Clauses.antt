@@ -1,5 +1,6 @@
 -- What the evaluation of each kind of clause gives is what the clause means.
 use Rattle.std.proofs.Common.{◌≡◌, ◌≢◌, ℕ, zero, suc, ◌+◌, ◌<◌, ◌≤◌, Bool, true, false, ◌&&◌, cond, List, [], ◌∷◌, length, map, filter_map, Option, Some, None, refl, sym, ap, subst, ◌∙◌, arith}
+use Rattle.std.specs.List.{list_all}
 use Rattle.block_join.specs.Merge.{put_together}
 use Rattle.block_join.specs.declared.rule.Rule.{Rule}
 use Rattle.block_join.specs.declared.rule.Rule.TheVariants.{Both, Kept, Without, Plus, Either, Greatest, Counted, AtLeast}
@@ -14,13 +15,13 @@ use Rattle.score_math.specs.declared.score.TheConstants.{SCORE_CAP}
 use Rattle.segment.specs.Live.{EntryState}
 use Rattle.tree_objects.specs.Object.{Object, inside, root, scope}
 use Rattle.tree_objects.specs.Tree.{Tree}
-use Rattle.query_eval.specs.Folds.{asked_by, asked_score, folded, folded_by, is_empty, leaf_score, paired_by, wanted_of, whatever}
+use Rattle.query_eval.specs.Folds.{asked_by, asked_score, folded, folded_by, have_none, is_empty, leaf_score, narrows, paired_by, wanted_of, whatever}
 use Rattle.query_eval.specs.Found.{IsFound, IsSeen, score_by}
 use Rattle.query_eval.specs.Nested.{around_by, below_by}
-use Rattle.query_eval.proofs.Bools.{required, bool_asked, plus_asked, one_asked, many_asked, few_scores, fold_greatest}
+use Rattle.query_eval.proofs.Bools.{required, bool_asked, plus_asked, one_asked, many_asked, few_scores, fold_greatest, folded_none}
 use Rattle.query_eval.proofs.Entries.{Scores}
 use Rattle.query_eval.proofs.Joined.{no_children}
-use Rattle.query_eval.proofs.Seen.{seen_alike}
+use Rattle.query_eval.proofs.Seen.{seen_alike, seen_nothing}
 
 -- ---- sizes
 
@@ -87,6 +88,17 @@ module _ (m : Mapping) (view : List EntryState) (n : ℕ) where
   wanted_same None [] [] (c ∷ should) live o = refl
   wanted_same None [] (c ∷ filter) should live o = refl
   wanted_same None (c ∷ must) filter should live o = refl
+
+  -- ---- nothing is left
+
+  pub folded_nothing : (rule : Rule) (cs : Clauses) (given : List Tree → Object → Option ℕ) (hits : List Scores) → narrows rule ≡ true → list_all have_none hits ≡ true → IsSeen m view n given hits → IsSeen m view n (folded_by rule m cs given) hits
+  folded_nothing rule cs given hits narrow none is =
+      seen_nothing m view n given (folded_by rule m cs given) hits
+      (λ live o no. ap (λ (x : Option ℕ). folded rule x (hit_each m live cs o)) no ∙ folded_none rule narrow (hit_each m live cs o)) none is
+
+  pub asked_nothing : (cs : Clauses) (w : ℕ) (given : List Tree → Object → Option ℕ) (hits : List Scores) → list_all have_none hits ≡ true → IsSeen m view n given hits → IsSeen m view n (asked_by m cs w given) hits
+  asked_nothing cs w given hits none is =
+      seen_nothing m view n given (asked_by m cs w given) hits (λ live o no. ap (λ (x : Option ℕ). asked_score w x (scores (hit_each m live cs o))) no) none is
 
   -- ---- nested and to_child
 

@@ -1,7 +1,8 @@
 -- Scores of the documents of trees, put together and changed one by one.
-use Rattle.std.proofs.Common.{◌≡◌, ℕ, suc, ◌==◌, Bool, true, false, ◌&&◌, cond, List, [], ◌∷◌, ◌++◌, length, map, Option, Some, None, refl, sym, ap, ◌∙◌, subst, arith}
+use Rattle.std.proofs.Common.{◌≡◌, ℕ, suc, ◌==◌, Bool, true, false, ◌&&◌, cond, List, [], ◌∷◌, ◌++◌, length, map, Option, Some, None, is_none, refl, sym, ap, ◌∙◌, subst, arith}
 use Rattle.std.specs.Prelude.{IsSome}
-use Rattle.std.proofs.lemmas.Bool.{eqb-true}
+use Rattle.std.specs.List.{list_all}
+use Rattle.std.proofs.lemmas.Bool.{and_parts, eqb-true}
 use Rattle.block_join.specs.Merge.{paired, put_together}
 use Rattle.block_join.specs.Scores.{filled}
 use Rattle.block_join.specs.declared.rule.Rule.{Rule}
@@ -17,7 +18,7 @@ use Rattle.segment_parts.specs.declared.columns.Columns.{Columns}
 use Rattle.tree_joins.specs.Seen.{at_scope, if_live, seen}
 use Rattle.tree_objects.specs.Object.{Object, block_objects, scope}
 use Rattle.tree_objects.specs.Tree.{Tree}
-use Rattle.query_eval.specs.Folds.{leaf_score, paired_by}
+use Rattle.query_eval.specs.Folds.{have_none, leaf_score, paired_by}
 use Rattle.query_eval.specs.Found.{IsSeen, live_trees}
 use Rattle.query_eval.proofs.Entries.{Scores, Trees}
 
@@ -112,6 +113,43 @@ seen_alike m view n f g scores same is = record {
     each live (own ∷ trees) =
         ap (λ (s : Scores). s ∷ map (λ (own : Trees). seen m (at_scope n (f live)) own) trees) (seen_same m n (f live) (g live) (same live) own)
         ∙ ap (λ (l : List Scores). seen m (at_scope n (g live)) own ∷ l) (each live trees)
+
+-- ---- where nothing is given
+
+quiet_one : (live here : Bool) (x y : Option ℕ) → (x ≡ None → y ≡ None) → is_none (cond live (cond here x None) None) ≡ true → cond live (cond here x None) None ≡ cond live (cond here y None) None
+quiet_one true true None y silent none = sym (silent refl)
+quiet_one true true (Some s) y silent none = absurd (let no : ⊥ = cc in no)
+quiet_one true false x y silent none = refl
+quiet_one false here x y silent none = refl
+
+module _ (m : Mapping) (n : ℕ) (f g : Object → Option ℕ) (silent : (o : Object) → f o ≡ None → g o ≡ None) where
+  quiet_block : (live : Bool) (objects : List Object) (rest more : Scores) → (have_none rest ≡ true → rest ≡ more) → have_none (map (if_live (at_scope n f) live) objects ++ rest) ≡ true
+      → map (if_live (at_scope n f) live) objects ++ rest ≡ map (if_live (at_scope n g) live) objects ++ more
+  quiet_block live [] rest more same none = same none
+  quiet_block live (o ∷ objects) rest more same none =
+      let parts = and_parts (is_none (if_live (at_scope n f) live o)) (have_none (map (if_live (at_scope n f) live) objects ++ rest)) none in
+      ap (λ (x : Option ℕ). x ∷ (map (if_live (at_scope n f) live) objects ++ rest)) (quiet_one live (scope o == n) (f o) (g o) (silent o) parts.0)
+      ∙ ap (λ (l : Scores). if_live (at_scope n g) live o ∷ l) (quiet_block live objects rest more same parts.1)
+
+  seen_quiet : (trees : Trees) → have_none (seen m (at_scope n f) trees) ≡ true → seen m (at_scope n f) trees ≡ seen m (at_scope n g) trees
+  seen_quiet [] none = refl
+  seen_quiet (t ∷ trees) none = quiet_block t.live (block_objects m t.item) (seen m (at_scope n f) trees) (seen m (at_scope n g) trees) (seen_quiet trees) none
+
+-- no document has a score, so none is given one by what gives none where this gives none
+pub seen_nothing : (m : Mapping) (view : List EntryState) (n : ℕ) (f g : List Tree → Object → Option ℕ) (scores : List Scores) → ((live : List Tree) (o : Object) → f live o ≡ None → g live o ≡ None)
+    → list_all have_none scores ≡ true → IsSeen m view n f scores → IsSeen m view n g scores
+seen_nothing m view n f g scores silent none is = record {
+  long = is.long;
+  are = λ trees stands. is.are trees stands ∙ each (live_trees trees) trees (subst (λ (all : List Scores). list_all have_none all ≡ true) (is.are trees stands) none);
+}
+  where
+    each : (live : List Tree) (trees : List Trees) → list_all have_none (map (λ (own : Trees). seen m (at_scope n (f live)) own) trees) ≡ true
+        → map (λ (own : Trees). seen m (at_scope n (f live)) own) trees ≡ map (λ (own : Trees). seen m (at_scope n (g live)) own) trees
+    each live [] none = refl
+    each live (own ∷ trees) none =
+        let parts = and_parts (have_none (seen m (at_scope n (f live)) own)) (list_all have_none (map (λ (own : Trees). seen m (at_scope n (f live)) own) trees)) none in
+        ap (λ (s : Scores). s ∷ map (λ (own : Trees). seen m (at_scope n (f live)) own) trees) (seen_quiet m n (f live) (g live) (silent live) own parts.0)
+        ∙ ap (λ (l : List Scores). seen m (at_scope n (g live)) own ∷ l) (each live trees parts.1)
 
 -- ---- a leaf of one entry
 

@@ -1,7 +1,9 @@
 -- Scores that are put together clause by clause.
-use Rattle.std.specs.Prelude.{◌≡◌, ℕ, Bool, true, false, ◌&&◌, not, if◌then◌else◌, List, [], ◌∷◌, ◌+◌, length, map, sum, nat_le, Option, Some, None}
+use Rattle.std.specs.Prelude.{◌≡◌, ℕ, Bool, true, false, ◌&&◌, not, if◌then◌else◌, List, [], ◌∷◌, ◌+◌, length, map, sum, nat_le, Option, Some, None, is_none}
+use Rattle.std.specs.List.{list_all}
 use Rattle.block_join.specs.Merge.{put_together}
 use Rattle.block_join.specs.declared.rule.Rule.{Rule}
+use Rattle.block_join.specs.declared.rule.Rule.TheVariants.{Both, Kept, Without, Plus, Either, Greatest, Counted, AtLeast}
 use Rattle.mapping.specs.Mapping.{Mapping}
 use Rattle.query_ast.specs.Clause.{Clause, Clauses, Leaf, leaf, bool, constant_score, dis_max, nested, to_child, has_child, has_parent}
 use Rattle.query_ast.specs.Hit.{hit_each, scores}
@@ -23,6 +25,21 @@ whatever given live o = given o
 -- one score where a leaf holds
 abbrev pub leaf_score : Mapping → Leaf → ℕ → Object → Option ℕ
 leaf_score m l score o = if leaf_holds m l o then Some score else None
+
+-- no document has a score
+abbrev pub have_none : List (Option ℕ) → Bool
+have_none scores = list_all is_none scores
+
+-- a document without a first score gets none
+abbrev pub narrows : Rule → Bool
+narrows Both = true
+narrows Kept = true
+narrows Without = true
+narrows Plus = true
+narrows Either = false
+narrows Greatest = false
+narrows Counted = false
+narrows (AtLeast n) = true
 
 -- two scores put together
 abbrev pub paired_by : Rule → (List Tree → Object → Option ℕ) → (List Tree → Object → Option ℕ) → List Tree → Object → Option ℕ

@@ -1,10 +1,11 @@
 //! Scores of all entries of a view put together.
 
 ghost use Rattle.std.specs.Prelude.{◌≡◌, ℕ, List, Option, length, map, is_some, IfOk, IfSome};
+ghost use Rattle.std.specs.List.{list_all};
 ghost use Rattle.block_bits.specs.Flags.{difference, intersection};
 ghost use Rattle.block_join.specs.Merge.{paired, put_together};
 ghost use Rattle.mapping.specs.Mapping.{Mapping as Meaning};
-ghost use Rattle.query_eval.specs.Folds.{paired_by};
+ghost use Rattle.query_eval.specs.Folds.{have_none, narrows, paired_by};
 ghost use Rattle.query_eval.specs.Found.{AreLong, IsSeen};
 ghost use Rattle.tree_objects.specs.Object.{Object};
 ghost use Rattle.tree_objects.specs.Tree.{Tree};
@@ -15,6 +16,36 @@ use block_join::{Matches, Rule, Scored, merged};
 use score_math::cap_add;
 use segment_view::Entry;
 use std::alloc::Global;
+
+/// Whether no document has a score.
+pub(crate) fn is_nothing(hits: &Matches) -> bool
+    ensures { result ≡ list_all have_none hits.now }
+{
+    let all = hits.as_slice();
+    'entries: for scores in all {
+        if !have_none(scores) {
+            return false;
+        }
+    }
+    true
+}
+
+/// Whether no document of an entry has one.
+fn have_none(scores: &Scored) -> bool
+    ensures { result ≡ have_none scores.now }
+{
+    scores.set().next_set(0).is_none()
+}
+
+/// Whether a document without a first score gets none.
+pub(crate) fn narrows(rule: Rule) -> bool
+    ensures { result ≡ narrows rule }
+{
+    match rule {
+        Rule::Both | Rule::Kept | Rule::Without | Rule::Plus | Rule::AtLeast(_) => true,
+        Rule::Either | Rule::Greatest | Rule::Counted => false,
+    }
+}
 
 /// The scores of one list and another put together, document by document.
 pub(crate) fn merges(

@@ -15,7 +15,7 @@ ghost use Rattle.tree_objects.specs.Tree.{Tree};
 
 use crate::NoMemory;
 use crate::leaves::leaves;
-use crate::merges::merges;
+use crate::merges::{is_nothing, merges, narrows};
 use crate::nests::{downs, ups};
 use crate::trees::{with_children, with_parent};
 use block_join::{Matches, Rule};
@@ -349,14 +349,14 @@ fn bool_of(
             mapping,
             joins,
             should.as_slice(),
-            &hits,
+            hits,
             wanted,
             scope,
         )?)
     }
 }
 
-/// Scores to which those of one query after the other are put.
+/// Scores to which those of one query after the other are put, as long as any is left.
 #[cycle(found)]
 #[tactic(auto, using(crate::proofs::Clauses::clause_some))]
 fn folded(
@@ -378,6 +378,9 @@ fn folded(
     match queries {
         [] => Ok(hits),
         [query, rest @ ..] => {
+            if narrows(rule) && is_nothing(&hits) {
+                return Ok(hits);
+            }
             let own = found(alloc, entries, mapping, joins, query, scope)?;
             let hits = merges(alloc, entries, &hits, &own, rule)?;
             Ok(folded(alloc, entries, mapping, joins, rest, hits, rule, scope)?)
@@ -393,16 +396,19 @@ fn asked(
     mapping: &Mapping,
     joins: &JoinOrdinals,
     queries: &[Query],
-    hits: &Matches,
+    hits: Matches,
     wanted: u64,
     scope: u32,
 ) -> Result<Matches, NoMemory>
     requires resolved { AreResolved mapping.now scope (clauses_of (map clause_of queries.now)) }
     requires joined { some_join (clauses_of (map clause_of queries.now)) ≡ true → AreOrdinals entries.now joins.now }
-    requires long { AreLong entries.now hits.now }
+    requires long { AreLong entries.now hits }
     requires some { 1 ≤ wanted }
-    ensures { (given : List Tree → Object → Option ℕ) → IsSeen mapping.now entries.now scope given hits.now → IfOk result (IsSeen mapping.now entries.now scope (asked_by mapping.now (clauses_of (map clause_of queries.now)) wanted given)) }
+    ensures { (given : List Tree → Object → Option ℕ) → IsSeen mapping.now entries.now scope given hits → IfOk result (IsSeen mapping.now entries.now scope (asked_by mapping.now (clauses_of (map clause_of queries.now)) wanted given)) }
 {
+    if is_nothing(&hits) {
+        return Ok(hits);
+    }
     let _count = count_of(queries);
     let none = leaves(alloc, entries, mapping, &Query::MatchNone, scope, 0)?;
     if wanted == 1 {
@@ -416,13 +422,13 @@ fn asked(
             Rule::Either,
             scope,
         )?;
-        return Ok(merges(alloc, entries, hits, &sums, Rule::Both)?);
+        return Ok(merges(alloc, entries, &hits, &sums, Rule::Both)?);
     }
     let no_counts = leaves(alloc, entries, mapping, &Query::MatchNone, scope, 0)?;
     let (sums, counts) = tallied(
         alloc, entries, mapping, joins, queries, none, no_counts, scope,
     )?;
-    let hits = merges(alloc, entries, hits, &sums, Rule::Both)?;
+    let hits = merges(alloc, entries, &hits, &sums, Rule::Both)?;
     Ok(merges(alloc, entries, &hits, &counts, Rule::AtLeast(wanted))?)
 }
 

@@ -1,7 +1,7 @@
 use Rattle.std.proofs.Common.{map, ◌+◌, ◌*◌}
 use Rattle.query_ast.specs.Clause.{clause_size, clauses_of, clauses_size}
 use Rattle.query_ast.specs.Clause.View.{clause_of}
-use Rattle.query_eval.proofs.matches.+found.Given as goal
+use Rattle.query_eval.proofs.evaluation.+found.Given as goal
 
 abbrev pub decreases-found : goal.decreases-found
 decreases-found l = 4 * clause_size (clause_of l.query.now) + 1
