@@ -8,8 +8,8 @@ use Rattle.score_math.specs.declared.score.ScoreMode.{ScoreMode}
 use Rattle.score_math.specs.declared.score.TheConstants.{SCORE_CAP}
 use Rattle.query_eval.specs.Sides.{answer_of}
 use Rattle.query_eval.specs.Tallies.{IsTally, IsTallied}
-use Rattle.query_eval.specs.declared.tally.Answer.{Answer}
-use Rattle.query_eval.specs.declared.tally.Answer.TheVariants as answer
+use Rattle.query_eval.specs.declared.answer.Answer.{Answer}
+use Rattle.query_eval.specs.declared.answer.Answer.TheVariants as answer
 use Rattle.query_eval.proofs.Joined.{nothing_given}
 
 -- ---- one tally

@@ -18,8 +18,8 @@ use Rattle.query_eval.specs.Found.{live_in, live_trees}
 use Rattle.query_eval.specs.Sides.{answer_for, answer_of, children_by, is_on, parent_by, scores_of}
 use Rattle.query_eval.specs.declared.side.Side.{Side}
 use Rattle.query_eval.specs.declared.side.Side.TheVariants.{Parents, Children, ChildrenOf}
-use Rattle.query_eval.specs.declared.tally.Answer.{Answer}
-use Rattle.query_eval.specs.declared.tally.Answer.TheVariants as answer
+use Rattle.query_eval.specs.declared.answer.Answer.{Answer}
+use Rattle.query_eval.specs.declared.answer.Answer.TheVariants as answer
 use Rattle.query_eval.proofs.Keys.{Number, id_on, parent_of, relation_of, root_score, scores_among, side_id, takes}
 
 -- ---- nothing is given by no scores

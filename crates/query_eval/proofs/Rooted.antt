@@ -19,8 +19,8 @@ use Rattle.query_eval.specs.Found.{AreLong, IsSeen, live_in, live_trees}
 use Rattle.query_eval.specs.Sides.{answer_for, answer_of, at_roots, children_by, given_by, keys_at, of_roots, parent_by, roots_in, scores_of, told, told_by}
 use Rattle.query_eval.specs.declared.side.Side.{Side}
 use Rattle.query_eval.specs.declared.side.Side.TheVariants.{Parents, Children, ChildrenOf}
-use Rattle.query_eval.specs.declared.tally.Answer.{Answer}
-use Rattle.query_eval.specs.declared.tally.Answer.TheVariants as answer
+use Rattle.query_eval.specs.declared.answer.Answer.{Answer}
+use Rattle.query_eval.specs.declared.answer.Answer.TheVariants as answer
 use Rattle.query_eval.proofs.Entries.{Scores, Trees}
 use Rattle.query_eval.proofs.Joined.{Speaks, answers_are, children_of, no_children_of, no_children, no_parents_of, parents_of}
 use Rattle.query_eval.proofs.Keys.{Number, among_append, entry_numbers, id_on, root_score, scores_among, scores_append, side_id, takes, told_among}

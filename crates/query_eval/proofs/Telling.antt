@@ -10,7 +10,7 @@ use Rattle.segment.specs.Live.{EntryState}
 use Rattle.query_eval.specs.Sides.{AreTallies, TallyOf, answer_for, at_roots, given_by, is_on, key_at, keys_at, of_roots, ordinal_by, pair_if, relation_in, roots_in, scores_of, told, told_by}
 use Rattle.query_eval.specs.declared.side.Side.{Side}
 use Rattle.query_eval.specs.declared.side.Side.TheVariants.{Parents, Children, ChildrenOf}
-use Rattle.query_eval.specs.declared.tally.Answer.{Answer}
+use Rattle.query_eval.specs.declared.answer.Answer.{Answer}
 use Rattle.query_eval.specs.declared.tally.Tally.{Tally}
 use Rattle.query_eval.proofs.Entries.{Scores, take_more, take_whole, nil_append}
 use Rattle.query_eval.proofs.Keys.{scores_append}

@@ -18,8 +18,8 @@ use Rattle.query_eval.specs.Folds.{scopes_in}
 use Rattle.query_eval.specs.Tallies.{IsTally}
 use Rattle.query_eval.specs.declared.side.Side.{Side}
 use Rattle.query_eval.specs.declared.side.Side.TheVariants.{Parents, Children, ChildrenOf}
-use Rattle.query_eval.specs.declared.tally.Answer.{Answer}
-use Rattle.query_eval.specs.declared.tally.Answer.TheVariants as answer
+use Rattle.query_eval.specs.declared.answer.Answer.{Answer}
+use Rattle.query_eval.specs.declared.answer.Answer.TheVariants as answer
 use Rattle.query_eval.specs.declared.tally.Tally.{Tally}
 
 -- ---- keys

@@ -5,14 +5,15 @@
 //! stands for live trees its scores are those of the query's clause. Begin with `specs/Found`, then `evaluation`.
 #![tactic(auto)]
 
+mod answer;
 mod leaves;
 mod evaluation;
 mod merges;
 mod nests;
 mod no_memory;
+mod side;
 mod tally;
 mod trees;
-mod side;
 
 pub use evaluation::matches;
 pub use no_memory::NoMemory;

@@ -13,9 +13,10 @@ ghost use Rattle.tree_objects.specs.Object.{Object};
 ghost use Rattle.tree_objects.specs.Tree.{Tree};
 
 use crate::NoMemory;
+use crate::answer::{Answer, answer_of};
 use crate::nests::scope_set;
 use crate::side::{Side, key_of};
-use crate::tally::{Answer, Tally};
+use crate::tally::Tally;
 use block_join::{Builder, Matches, Scored};
 use join_ordinals::JoinOrdinals;
 use mapping::Mapping;
@@ -244,7 +245,7 @@ fn answer_at(tallies: &[Tally], key: Option<u32>, answer: Answer) -> Option<u64>
     ensures capped { IfSome result (λ score. score ≤ SCORE_CAP) }
 {
     match key {
-        Some(key) => tallies[key as usize].answer(answer),
+        Some(key) => answer_of(&tallies[key as usize], answer),
         None => None,
     }
 }
