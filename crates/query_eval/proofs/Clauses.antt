@@ -20,6 +20,7 @@ use Rattle.tree_objects.specs.Tree.{Tree}
 use Rattle.query_eval.specs.Folds.{asked_by, asked_score, folded, folded_by, have_none, is_empty, leaf_score, narrows, paired_by, wanted_of, whatever}
 use Rattle.query_eval.specs.Found.{IsFound, IsSeen, score_by}
 use Rattle.query_eval.specs.Nested.{around_by, below_by}
+use Rattle.query_eval.specs.Sides.{children_by, parent_by}
 use Rattle.query_eval.proofs.Bools.{required, bool_asked, plus_asked, one_asked, many_asked, few_scores, fold_greatest, folded_none}
 use Rattle.query_eval.proofs.Entries.{Scores}
 use Rattle.query_eval.proofs.Joined.{no_children}
@@ -36,6 +37,15 @@ clause_some (nested n c mode) = omega arith
 clause_some (to_child n c) = omega arith
 clause_some (has_child r c mode least most) = omega arith
 clause_some (has_parent r c score boost) = omega arith
+
+-- ---- whether there are clauses
+
+pub some_clauses : (a b c d : Bool) → (a && (b && (c && d))) ≡ false → a ≡ true → b ≡ true → c ≡ true → d ≡ true → ⊥
+some_clauses true true true true no must filter should must_not = let none : ⊥ = cc in none
+some_clauses true true true false no must filter should must_not = let none : ⊥ = cc in none
+some_clauses true true false d no must filter should must_not = let none : ⊥ = cc in none
+some_clauses true false c d no must filter should must_not = let none : ⊥ = cc in none
+some_clauses false b c d no must filter should must_not = let none : ⊥ = cc in none
 
 -- ---- the first query of some and the others
 
@@ -117,6 +127,12 @@ module _ (m : Mapping) (view : List EntryState) (n : ℕ) where
   found_down p c made is = seen_alike m view n (around_by p (score_by m c)) (score_by m (to_child (Some p) c)) made (λ live o here. refl) is
 
   -- ---- joins of trees, of which no object inside a tree has any
+
+  pub found_children : (r : ℕ) (c : Clause) (mode : ScoreMode) (least : ℕ) (most : Option ℕ) (made : List Scores) → IsSeen m view n (children_by m r mode least most (score_by m c)) made → IsFound m view n (has_child (Some r) c mode least most) made
+  found_children r c mode least most made is = seen_alike m view n (children_by m r mode least most (score_by m c)) (score_by m (has_child (Some r) c mode least most)) made (λ live o here. refl) is
+
+  pub found_parent : (p : ℕ) (c : Clause) (score : Bool) (boost : ℕ) (made : List Scores) → IsSeen m view n (parent_by m p score boost (score_by m c)) made → IsFound m view n (has_parent (Some p) c score boost) made
+  found_parent p c score boost made is = seen_alike m view n (parent_by m p score boost (score_by m c)) (score_by m (has_parent (Some p) c score boost)) made (λ live o here. refl) is
 
   childless : (live : List Tree) (r : ℕ) (o : Object) → scope o ≢ 0 → child_trees m live r o ≡ []
   unfolding child_trees
