@@ -2,11 +2,14 @@
 use Rattle.std.proofs.Common.{◌≡◌, ◌≢◌, ℕ, zero, suc, ◌+◌, ◌==◌, ◌<◌, ◌≤◌, min, Bool, true, false, cond, List, [], ◌∷◌, ◌++◌, length, map, take, get_or, set, slice_get, All, Option, Some, None, IfSome, refl, sym, ap, subst, ◌∙◌, inl, inr, arith, append_assoc}
 use Rattle.std.specs.List.{range_with_len}
 use Rattle.std.proofs.lemmas.Bool.{cases_Bool, eqb-true}
-use Rattle.std.proofs.lemmas.List.FromFn.{get_or-map-range_with_len, length-map-range_with_len}
+use Rattle.std.proofs.lemmas.List.FromFn.{get_or-map-range_with_len, length-map-range_with_len, map-range_with_len_more}
 use Rattle.stored_sources.specs.Roots.{root_of}
 use Rattle.join_ordinals.specs.Ordinals.{AreOrdinals, IsNumbered, Ordinals, ordinal_at, own_id, parent_id}
 use Rattle.mapping.specs.Mapping.{Mapping}
+use Rattle.block_bits.specs.Blocks.{documents_of}
 use Rattle.segment.specs.Live.{EntryState}
+use Rattle.segment_parts.specs.declared.columns.Columns.{Columns}
+use Rattle.query_eval.specs.Folds.{scopes_in}
 use Rattle.query_eval.specs.Sides.{AreTallies, TallyOf, answer_for, at_roots, given_by, is_on, key_at, keys_at, of_roots, ordinal_by, pair_if, relation_in, roots_in, scores_of, told, told_by}
 use Rattle.query_eval.specs.declared.side.Side.{Side}
 use Rattle.query_eval.specs.declared.side.Side.TheVariants.{Parents, Children, ChildrenOf}
@@ -141,3 +144,74 @@ module _ (m : Mapping) (ordinals : Ordinals) (side : Side) where
       ap (λ (l : List Scores). at_roots (roots_in x) (map (answer_for asked pairs) (keys_at m ordinals side x.columns place)) ∷ l)
       (given_entry asked pairs (place + 1) entries e
       ∙ ap (λ n. given_by m ordinals side asked pairs (place + 1) entries ++ at_roots (roots_in e) (map (answer_for asked pairs) (keys_at m ordinals side e.columns n)) ∷ []) next)
+
+-- ---- an entry of a view, as a loop reads it
+
+pub keys_more : (f : ℕ → Option ℕ) (n : ℕ) → map f (range_with_len 0 (n + 1)) ≡ map f (range_with_len 0 n) ++ f n ∷ []
+keys_more f n = map-range_with_len_more f 0 n n (omega arith)
+
+pub at_place : (view : List EntryState) (k : ℕ) (e : EntryState) → k < length view → e ≡ get_or view k e → slice_get view k ≡ Some e
+at_place [] k e below is = absurd (omega (arith, below))
+at_place (x ∷ view) zero e below is = ap Some (sym is)
+at_place (x ∷ view) (suc k) e below is = at_place view k e (omega (arith, below)) is
+
+module _ (m : Mapping) (ordinals : Ordinals) (side : Side) (view : List EntryState) (place : ℕ) (e : EntryState) (c : Columns) (below : place < length view) (is : e ≡ get_or view place e) (own : c ≡ e.columns) where
+  pub tell_keys : (o : AreOrdinals view ordinals) (keys : List (Option ℕ)) (count : ℕ) → keys ≡ keys_at m ordinals side c place → count ≡ ordinals.count → All (λ (key : Option ℕ). IfSome key (λ k. k < count)) keys
+  tell_keys o keys count are many =
+      subst (λ (n : ℕ). All (λ (key : Option ℕ). IfSome key (λ k. k < n)) keys) (sym many)
+      (subst (All (λ (key : Option ℕ). IfSome key (λ k. k < ordinals.count))) (sym (are ∙ ap (λ (x : Columns). keys_at m ordinals side x place) own))
+      (keys_within view ordinals o m side place e (at_place view place e below is)))
+
+  first_entries : length (take place view) ≡ place
+  first_entries = taken view place below
+    where
+      taken : (xs : List EntryState) (k : ℕ) → k < length xs → length (take k xs) ≡ k
+      taken [] k below = absurd (omega (arith, below))
+      taken (x ∷ xs) zero below = refl
+      taken (x ∷ xs) (suc k) below = ap suc (taken xs k (omega (arith, below)))
+
+  next_entries : take (place + 1) view ≡ take place view ++ e ∷ []
+  next_entries = take_more view place e below ∙ ap (λ (x : EntryState). take place view ++ x ∷ []) (sym is)
+
+  pub told_step : (hits : List Scores) (s : Scores) (keys scores : List (Option ℕ)) → length hits ≡ length view → s ≡ get_or hits place s → keys ≡ keys_at m ordinals side c place → scores ≡ of_roots (documents_of (scopes_in c) 0) s
+      → told_by m ordinals side 0 (take place view) (take place hits) ++ told keys scores ≡ told_by m ordinals side 0 (take (place + 1) view) (take (place + 1) hits)
+  told_step hits s keys scores long at are roots =
+      let some : place < length hits = omega (arith, below, long) in
+      let next_hits : take (place + 1) hits ≡ take place hits ++ s ∷ [] = take_more hits place s some ∙ ap (λ (x : Scores). take place hits ++ x ∷ []) (sym at) in
+      let here : 0 + length (take place view) ≡ place = omega (arith, first_entries) in
+      let same_long : length (take place hits) ≡ length (take place view) = taken hits place some ∙ sym first_entries in
+      sym
+      (ap (λ (l : List EntryState). told_by m ordinals side 0 l (take (place + 1) hits)) next_entries
+      ∙ ap (told_by m ordinals side 0 (take place view ++ e ∷ [])) next_hits
+      ∙ told_entry m ordinals side 0 (take place view) (take place hits) e s same_long
+      ∙ ap (λ n. told_by m ordinals side 0 (take place view) (take place hits) ++ told (keys_at m ordinals side e.columns n) (of_roots (roots_in e) s)) here
+      ∙ ap (λ (x : Columns). told_by m ordinals side 0 (take place view) (take place hits) ++ told (keys_at m ordinals side x place) (of_roots (documents_of (scopes_in x) 0) s)) (sym own)
+      ∙ ap (λ (l : List (Option ℕ)). told_by m ordinals side 0 (take place view) (take place hits) ++ told l (of_roots (documents_of (scopes_in c) 0) s)) (sym are)
+      ∙ ap (λ (l : List (Option ℕ)). told_by m ordinals side 0 (take place view) (take place hits) ++ told keys l) (sym roots))
+    where
+      taken : (xs : List Scores) (k : ℕ) → k < length xs → length (take k xs) ≡ k
+      taken [] k below = absurd (omega (arith, below))
+      taken (x ∷ xs) zero below = refl
+      taken (x ∷ xs) (suc k) below = ap suc (taken xs k (omega (arith, below)))
+
+  pub given_step : (asked : Answer) (pairs : List (ℕ × ℕ)) (made items : List Scores) (keys given : List (Option ℕ)) (new : Scores) → made ≡ given_by m ordinals side asked pairs 0 (take place view) → keys ≡ keys_at m ordinals side c place
+      → given ≡ map (answer_for asked pairs) keys → new ≡ at_roots (documents_of (scopes_in c) 0) given → items ≡ made ++ new ∷ [] → items ≡ given_by m ordinals side asked pairs 0 (take (place + 1) view)
+  given_step asked pairs made items keys given new was are answers roots push =
+      let here : 0 + length (take place view) ≡ place = omega (arith, first_entries) in
+      let own_new : new ≡ at_roots (roots_in e) (map (answer_for asked pairs) (keys_at m ordinals side e.columns place)) =
+      roots
+      ∙ ap (at_roots (documents_of (scopes_in c) 0)) (answers ∙ ap (map (answer_for asked pairs)) are)
+      ∙ ap (λ (x : Columns). at_roots (documents_of (scopes_in x) 0) (map (answer_for asked pairs) (keys_at m ordinals side x place))) own in
+      push
+      ∙ ap (λ (l : List Scores). l ++ new ∷ []) was
+      ∙ ap (λ (x : Scores). given_by m ordinals side asked pairs 0 (take place view) ++ x ∷ []) own_new
+      ∙ ap (λ n. given_by m ordinals side asked pairs 0 (take place view) ++ at_roots (roots_in e) (map (answer_for asked pairs) (keys_at m ordinals side e.columns n)) ∷ []) (sym here)
+      ∙ sym (given_entry m ordinals side asked pairs 0 (take place view) e)
+      ∙ ap (given_by m ordinals side asked pairs 0) (sym next_entries)
+
+pub told_whole : (m : Mapping) (ordinals : Ordinals) (side : Side) (view : List EntryState) (hits : List Scores) (k : ℕ) → length hits ≡ length view → length view ≤ k → told_by m ordinals side 0 (take k view) (take k hits) ≡ told_by m ordinals side 0 view hits
+told_whole m ordinals side view hits k long past =
+    ap (λ (l : List EntryState). told_by m ordinals side 0 l (take k hits)) (take_whole view k past) ∙ ap (told_by m ordinals side 0 view) (take_whole hits k (omega (arith, long, past)))
+
+pub given_whole : (m : Mapping) (ordinals : Ordinals) (side : Side) (asked : Answer) (pairs : List (ℕ × ℕ)) (view : List EntryState) (k : ℕ) → length view ≤ k → given_by m ordinals side asked pairs 0 (take k view) ≡ given_by m ordinals side asked pairs 0 view
+given_whole m ordinals side asked pairs view k past = ap (given_by m ordinals side asked pairs 0) (take_whole view k past)

@@ -7,7 +7,7 @@ ghost use Rattle.join_ordinals.specs.Ordinals.{AreOrdinals};
 ghost use Rattle.query_ast.specs.Resolved.{IsChildRelation, IsParentRelation};
 ghost use Rattle.query_eval.specs.Folds.{scopes_in};
 ghost use Rattle.query_eval.specs.Found.{AreLong, IsSeen};
-ghost use Rattle.query_eval.specs.Sides.{AreTallies, answer_for, at_roots, children_by, given_by, keys_at, of_roots, parent_by, told, told_by};
+ghost use Rattle.query_eval.specs.Sides.{AreTallies, answer_for, at_roots, children_by, given_by, keys_at, of_roots, pair_if, parent_by, told, told_by};
 ghost use Rattle.score_math.specs.declared.score.TheConstants.{SCORE_CAP};
 ghost use Rattle.tree_objects.specs.Object.{Object};
 ghost use Rattle.tree_objects.specs.Tree.{Tree};
@@ -210,12 +210,30 @@ fn tell(
 {
     let count = keys.len().min(scores.len());
     'roots: for root in 0..count {
-        if let Some(key) = keys[root] {
-            if let Some(score) = scores[root] {
-                tallies[key as usize].add(score)?;
-            }
-        }
+        tell_one(tallies, keys[root], scores[root])?;
     }
+    Ok(())
+}
+
+/// Adds a score to the tally of its key, where there are both.
+fn tell_one(
+    tallies: &mut Vec<Tally>,
+    key: Option<u32>,
+    score: Option<u64>,
+) -> Result<(), NoMemory>
+    requires key { IfSome key (λ key. key < length tallies.old.items) }
+    requires capped { IfSome score (λ score. score ≤ SCORE_CAP) }
+    ensures long { length tallies.new.items ≡ length tallies.old.items }
+    ensures tallies { (pairs : List (ℕ × ℕ)) → AreTallies pairs tallies.old.items → OnOk result (AreTallies (pairs ++ pair_if key score) tallies.new.items) }
+{
+    let Some(key) = key else {
+        return Ok(());
+    };
+    let Some(score) = score else {
+        return Ok(());
+    };
+    let tally = &mut tallies[key as usize];
+    tally.add(score)?;
     Ok(())
 }
 
