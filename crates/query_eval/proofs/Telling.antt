@@ -215,3 +215,18 @@ told_whole m ordinals side view hits k long past =
 
 pub given_whole : (m : Mapping) (ordinals : Ordinals) (side : Side) (asked : Answer) (pairs : List (ℕ × ℕ)) (view : List EntryState) (k : ℕ) → length view ≤ k → given_by m ordinals side asked pairs 0 (take k view) ≡ given_by m ordinals side asked pairs 0 view
 given_whole m ordinals side asked pairs view k past = ap (given_by m ordinals side asked pairs 0) (take_whole view k past)
+
+-- ---- an answer more
+
+map_push : (f : Option ℕ → Option ℕ) (keys : List (Option ℕ)) (key : Option ℕ) → map f (keys ++ key ∷ []) ≡ map f keys ++ f key ∷ []
+map_push f [] key = refl
+map_push f (x ∷ keys) key = ap (λ (l : List (Option ℕ)). f x ∷ l) (map_push f keys key)
+
+pub answers_more : (asked : Answer) (pairs : List (ℕ × ℕ)) (keys given items : List (Option ℕ)) (k : ℕ) (score : Option ℕ) → k < length keys → given ≡ map (answer_for asked pairs) (take k keys) → score ≡ answer_for asked pairs (get_or keys k None)
+    → items ≡ given ++ score ∷ [] → items ≡ map (answer_for asked pairs) (take (k + 1) keys)
+answers_more asked pairs keys given items k score below was is push =
+    push
+    ∙ ap (λ (l : List (Option ℕ)). l ++ score ∷ []) was
+    ∙ ap (λ (x : Option ℕ). map (answer_for asked pairs) (take k keys) ++ x ∷ []) is
+    ∙ sym (map_push (answer_for asked pairs) (take k keys) (get_or keys k None))
+    ∙ ap (map (answer_for asked pairs)) (sym (take_more keys k None below))

@@ -1,10 +1,12 @@
 -- Walks over the documents of the roots.
 use Rattle.std.proofs.Common.{◌≡◌, ℕ, zero, suc, ◌+◌, ◌-◌, ◌<◌, ◌≤◌, Bool, true, false, cond, List, [], ◌∷◌, ◌++◌, length, take, drop, get_or, replicate, Option, Some, None, refl, sym, ap, subst, ◌∙◌, inl, inr, arith, append_assoc, drop-drop, length-drop}
-use Rattle.std.specs.List.{position_from}
+use Rattle.std.specs.List.{flat_map, position_from}
+use Rattle.std.specs.Option.{option_to_list}
+use Rattle.std.specs.Prelude.{IfNone, IfSome}
 use Rattle.std.proofs.lemmas.Option.{same_Some}
 use Rattle.block_bits.specs.Flags.{is_marked}
 use Rattle.block_bits.specs.Places.{next_place}
-use Rattle.block_join.specs.Scores.{padded}
+use Rattle.block_join.specs.Scores.{Standing, between, padded}
 use Rattle.query_eval.specs.Sides.{at_roots, of_roots}
 use Rattle.query_eval.proofs.Entries.{Scores, nil_append}
 
@@ -59,6 +61,38 @@ get_drop : (xs : Scores) (from k : ℕ) → get_or (drop from xs) k None ≡ get
 get_drop xs zero k = let same : 0 + k ≡ k = omega arith in ap (λ n. get_or xs n None) (sym same)
 get_drop [] (suc from) k = refl
 get_drop (x ∷ xs) (suc from) k = let same : suc from + k ≡ suc (from + k) = omega arith in get_drop xs from k ∙ ap (λ n. get_or (x ∷ xs) n None) (sym same)
+
+-- ---- the score of one document
+
+drop_at : (hits : Scores) (doc : ℕ) → doc < length hits → drop doc hits ≡ get_or hits doc None ∷ drop (doc + 1) hits
+drop_at [] doc below = absurd (omega (arith, below))
+drop_at (h ∷ hits) zero below = refl
+drop_at (h ∷ hits) (suc doc) below = let same : suc doc + 1 ≡ suc (doc + 1) = omega arith in rw same (drop_at hits doc (omega (arith, below)))
+
+own_between : (hits : Scores) (doc : ℕ) → doc < length hits → between hits doc (doc + 1) ≡ option_to_list (get_or hits doc None)
+own_between hits doc below =
+    let one : (doc + 1) - doc ≡ 1 = omega arith in
+    ap (λ (n : ℕ). flat_map option_to_list (take n (drop doc hits))) one
+    ∙ ap (λ (l : Scores). flat_map option_to_list (take 1 l)) (drop_at hits doc below)
+    ∙ nil_append (option_to_list (get_or hits doc None))
+
+one_told : (x : Option ℕ) (s : ℕ) (rest : List ℕ) → option_to_list x ≡ s ∷ rest → Some s ≡ x
+one_told None s rest is = absurd (let no : ⊥ = cc in no)
+one_told (Some t) s rest is = let same : t ≡ s = cc in ap Some (sym same)
+
+none_told : (x : Option ℕ) → option_to_list x ≡ [] → None ≡ x
+none_told None is = refl
+none_told (Some t) is = absurd (let no : ⊥ = cc in no)
+
+-- what a cursor takes where it stands at a document
+pub took : (old : Standing) (scores : Scores) (doc : ℕ) (score : Option ℕ) (new : Standing) → old ≡ record { scores = scores; from = doc } → doc < length scores
+    → IfSome score (λ s. between old.scores old.from (doc + 1) ≡ s ∷ between new.scores new.from (doc + 1)) → IfNone score ((between old.scores old.from (doc + 1) ≡ []) × (new.from ≡ doc + 1)) → score ≡ get_or scores doc None
+took old scores doc None new is below some none =
+    let same : between old.scores old.from (doc + 1) ≡ between scores doc (doc + 1) = ap (λ (x : Standing). between x.scores x.from (doc + 1)) is in
+    none_told (get_or scores doc None) (sym (own_between scores doc below) ∙ sym same ∙ none.0)
+took old scores doc (Some s) new is below some none =
+    let same : between old.scores old.from (doc + 1) ≡ between scores doc (doc + 1) = ap (λ (x : Standing). between x.scores x.from (doc + 1)) is in
+    one_told (get_or scores doc None) s (between new.scores new.from (doc + 1)) (sym (own_between scores doc below) ∙ sym same ∙ some)
 
 -- ---- scores of roots
 

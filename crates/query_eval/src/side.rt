@@ -70,11 +70,11 @@ fn is_on(mapping: &Mapping, side: Side, relation: Option<u32>) -> bool
 }
 
 /// Whether a relation has this one as its parent.
+#[tactic(auto, using(crate::proofs::Relations::no_parent))]
 fn has_parent(mapping: &Mapping, relation: u32, parent: u32) -> bool
     ensures { result ≡ is_number (relation_at mapping.now relation).parent parent }
 {
-    let known = mapping.relations(mapping.generation());
-    if relation >= known {
+    if relation >= mapping.relation_count() {
         return false;
     }
     match mapping.parent_relation(relation) {

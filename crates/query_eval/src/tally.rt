@@ -1,7 +1,7 @@
 //! Scores that are counted, summed and compared one after the other.
 
-ghost use Rattle.std.specs.Prelude.{◌≡◌, ◌≤◌, ◌+◌, ℕ, List, [], ◌∷◌, ◌++◌, OnOk};
-ghost use Rattle.query_eval.specs.Tallies.{IsTally, IsTallied};
+ghost use Rattle.std.specs.Prelude.{◌≡◌, ◌≤◌, ◌+◌, ◌*◌, ℕ, List, [], ◌∷◌, ◌++◌, OnOk};
+ghost use Rattle.query_eval.specs.Tallies.{IsTally};
 ghost use Rattle.score_math.specs.declared.score.TheConstants.{SCORE_CAP};
 
 use crate::NoMemory;
@@ -14,7 +14,10 @@ pub(crate) struct Tally {
     pub(crate) least: u64,
     pub(crate) greatest: u64,
     pub(crate) first: u64,
-    ghost tallied: { IsTallied count total least greatest first },
+    ghost bounded: { total ≤ count * greatest },
+    ghost least_capped: { least ≤ SCORE_CAP },
+    ghost greatest_capped: { greatest ≤ SCORE_CAP },
+    ghost first_capped: { first ≤ SCORE_CAP },
 }
 
 impl Tally {
@@ -45,7 +48,7 @@ impl Tally {
     }
 
     /// With one score more, which is the one with this number.
-    #[tactic(auto, using(crate::proofs::Counting::counted, crate::proofs::Counting::tallies))]
+    #[tactic(auto, using(crate::proofs::Counting::tallies))]
     fn with(&self, count: u32, score: u64) -> Tally
         requires count { count ≡ self.now.count + 1 }
         requires score { score ≤ SCORE_CAP }

@@ -1,6 +1,6 @@
 //! Joins of trees: scores of roots go to the roots of their parents, or of their children.
 
-ghost use Rattle.std.specs.Prelude.{◌≡◌, ◌<◌, ◌≤◌, ℕ, List, [], ◌++◌, length, map, Option, None, slice_index_or, IfOk, IfSome, OnOk};
+ghost use Rattle.std.specs.Prelude.{◌≡◌, ◌<◌, ◌≤◌, ◌+◌, ◌^◌, ℕ, List, [], ◌++◌, get_or, length, map, Option, None, slice_index_or, IfOk, IfSome, OnOk};
 ghost use Rattle.std.specs.List.{All};
 ghost use Rattle.block_bits.specs.Blocks.{documents_of};
 ghost use Rattle.join_ordinals.specs.Ordinals.{AreOrdinals};
@@ -17,7 +17,8 @@ use crate::answer::{Answer, answer_of};
 use crate::nests::scope_set;
 use crate::side::{Side, key_of};
 use crate::tally::Tally;
-use block_join::{Builder, Matches, Scored};
+use block_bits::BitSet;
+use block_join::{Builder, Cursor, Matches, Scored};
 use join_ordinals::JoinOrdinals;
 use mapping::Mapping;
 use score_math::ScoreMode;
@@ -187,14 +188,36 @@ fn of_roots(
     ensures capped { IfOk result (λ scores. All (λ score. IfSome score (λ score. score ≤ SCORE_CAP)) scores.items) }
 {
     let roots = scope_set(alloc, segment, 0)?;
-    let mut scores = Vec::with_capacity(alloc, segment.roots() as usize)?;
+    Ok(scores_at(alloc, &roots, hits)?)
+}
+
+/// The scores of the documents of a set, in order.
+fn scores_at(alloc: Global, set: &BitSet, hits: &Scored) -> Result<Vec<Option<u64>>, NoMemory>
+    requires { length hits.now ≡ length set.now }
+    ensures scores { IfOk result (λ scores. scores.items ≡ of_roots set.now hits.now) }
+    ensures capped { IfOk result (λ scores. All (λ score. IfSome score (λ score. score ≤ SCORE_CAP)) scores.items) }
+{
+    let mut scores = Vec::with_capacity(alloc, set.count() as usize)?;
     let mut left = hits.cursor();
-    'roots: while let Some(doc) = roots.next_set(left.from()) {
-        left.skip(doc);
-        let score = left.next_before(doc + 1);
+    'roots: while let Some(doc) = set.next_set(left.from()) {
+        let score = take_at(&mut left, doc);
         scores.push(score)?;
     }
     Ok(scores)
+}
+
+/// The score of a document, if it has one. The cursor goes on behind it.
+#[tactic(auto, using(crate::proofs::Walking::took))]
+fn take_at(left: &mut Cursor, doc: u32) -> Option<u64>
+    requires ordered { left.old.from ≤ doc }
+    requires within { doc < length left.old.scores }
+    requires numbered { length left.old.scores < 2 ^ 32 }
+    ensures value { result ≡ get_or left.old.scores doc None }
+    ensures capped { IfSome result (λ score. score ≤ SCORE_CAP) }
+    ensures place { left.new ≡ record { scores = left.old.scores; from = doc + 1 } }
+{
+    left.skip(doc);
+    left.next_before(doc + 1)
 }
 
 /// Adds each score to the tally of its key.
@@ -279,10 +302,19 @@ fn at_roots(
     ensures long { IfOk result (λ scores. length scores ≡ segment.now.documents) }
 {
     let roots = scope_set(alloc, segment, 0)?;
-    let mut hits = Builder::empty(alloc, roots.len())?;
+    Ok(given_at(alloc, &roots, given)?)
+}
+
+/// Scores of the documents of a set, in order, as scores of all documents.
+fn given_at(alloc: Global, set: &BitSet, given: &[Option<u64>]) -> Result<Scored, NoMemory>
+    requires { All (λ score. IfSome score (λ score. score ≤ SCORE_CAP)) given.now }
+    ensures scores { IfOk result (λ scores. scores ≡ at_roots set.now given.now) }
+    ensures long { IfOk result (λ scores. length scores ≡ length set.now) }
+{
+    let mut hits = Builder::empty(alloc, set.len())?;
     let mut from = 0;
     let mut root = 0;
-    'roots: while let Some(doc) = roots.next_set(from) {
+    'roots: while let Some(doc) = set.next_set(from) {
         let score = score_at(given, root);
         hits.put(doc, score)?;
         root += 1;
