@@ -1,11 +1,13 @@
 -- What the evaluation of each kind of clause gives is what the clause means.
-use Rattle.std.proofs.Common.{◌≡◌, ◌≢◌, ℕ, zero, suc, ◌+◌, ◌<◌, ◌≤◌, Bool, true, false, ◌&&◌, cond, List, [], ◌∷◌, length, map, filter_map, Option, Some, None, refl, sym, ap, subst, ◌∙◌, arith}
+use Rattle.std.proofs.Common.{◌≡◌, ◌≢◌, ℕ, zero, suc, ◌+◌, ◌<◌, ◌≤◌, Bool, true, false, ◌&&◌, cond, List, [], ◌∷◌, length, map, drop, get_or, filter_map, Option, Some, None, refl, sym, ap, subst, ◌∙◌, arith}
 use Rattle.std.specs.List.{list_all}
 use Rattle.block_join.specs.Merge.{put_together}
 use Rattle.block_join.specs.declared.rule.Rule.{Rule}
 use Rattle.block_join.specs.declared.rule.Rule.TheVariants.{Both, Kept, Without, Plus, Either, Greatest, Counted, AtLeast}
 use Rattle.mapping.specs.Mapping.{Mapping}
 use Rattle.query_ast.specs.Clause.{Clause, Clauses, clause, no_clauses, clauses_of, clause_size, Leaf, match_all, match_none, leaf, bool, constant_score, dis_max, nested, to_child, has_child, has_parent}
+use Rattle.query_ast.specs.Clause.View.{clause_of}
+use Rattle.query_ast.specs.declared.query.Query.{Query}
 use Rattle.query_ast.specs.Hit.{hit, hit_each, scores, wanted, bool_score, boosted, children_score, parent_score}
 use Rattle.query_ast.specs.Joined.{child_trees, parent_trees, roots}
 use Rattle.query_ast.specs.Leaf.{leaf_holds}
@@ -34,6 +36,12 @@ clause_some (nested n c mode) = omega arith
 clause_some (to_child n c) = omega arith
 clause_some (has_child r c mode least most) = omega arith
 clause_some (has_parent r c score boost) = omega arith
+
+-- ---- the first query of some and the others
+
+pub clauses_parts : (qs : List Query) (q : Query) → 0 < length qs → q ≡ get_or qs 0 q → clauses_of (map clause_of qs) ≡ clause (clause_of q) (clauses_of (map clause_of (drop 1 qs)))
+clauses_parts [] q some is = absurd (omega (arith, some))
+clauses_parts (x ∷ qs) q some is = ap (λ (y : Query). clause (clause_of y) (clauses_of (map clause_of qs))) (sym is)
 
 -- ---- the leaves that begin a fold
 

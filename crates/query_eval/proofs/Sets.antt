@@ -1,10 +1,12 @@
 -- Scores that are put together by sets.
-use Rattle.std.proofs.Common.{◌≡◌, ℕ, ◌+◌, Bool, true, false, List, [], ◌∷◌, map, Option, Some, None, is_some, refl, sym, ap, subst, ◌∙◌}
-use Rattle.block_bits.specs.Flags.{difference, intersection}
+use Rattle.std.proofs.Common.{◌≡◌, ℕ, suc, ◌+◌, Bool, true, false, List, [], ◌∷◌, length, map, Option, Some, None, is_none, is_some, refl, sym, ap, ◌∙◌, arith}
+use Rattle.std.specs.List.{position_from}
+use Rattle.block_bits.specs.Flags.{difference, intersection, is_marked}
 use Rattle.block_join.specs.Merge.{paired, put_together}
 use Rattle.block_join.specs.Scores.{filled}
 use Rattle.block_join.specs.declared.rule.Rule.TheVariants.{Both, Kept, Without}
 use Rattle.score_math.specs.Scores.{capped}
+use Rattle.query_eval.specs.Folds.{have_none}
 use Rattle.query_eval.proofs.Entries.{Scores}
 
 kept_flags : (a : ℕ) (flags : List Bool) (others : Scores) → filled (Some a) (intersection flags (map is_some others)) ≡ paired (put_together Kept) (filled (Some a) flags) others
@@ -40,3 +42,15 @@ module _ (ones others : Scores) (a : ℕ) (alike : ones ≡ filled (Some a) (map
       both_flags a b (map is_some ones) (map is_some others)
       ∙ ap (λ (l : Scores). paired (put_together Both) l (filled (Some b) (map is_some others))) (sym alike)
       ∙ ap (paired (put_together Both) ones) (sym same)
+
+-- ---- no score at all
+
+pub none_marked : (start : ℕ) (scores : Scores) → is_none (position_from is_marked start (map is_some scores)) ≡ have_none scores
+none_marked start [] = refl
+none_marked start (None ∷ scores) = none_marked (start + 1) scores
+none_marked start (Some s ∷ scores) = refl
+
+pub paired_long : (f : Option ℕ → Option ℕ → Option ℕ) (ones others : Scores) → length ones ≡ length others → length (paired f ones others) ≡ length ones
+paired_long f [] others same = refl
+paired_long f (a ∷ ones) [] same = absurd (omega (arith, same))
+paired_long f (a ∷ ones) (b ∷ others) same = ap suc (paired_long f ones others (omega (arith, same)))

@@ -35,17 +35,17 @@ pub fn matches<L: Ledger>(
     alloc: Global,
     view: &View,
     mapping: &Mapping,
-    joins: &JoinOrdinals,
+    ordinals: &JoinOrdinals,
     query: &Query,
     scope: u32,
     steps: &mut Steps<L>,
 ) -> Result<Matches, NoMemory>
     requires resolved { IsResolved mapping.now scope (clause_of query.now) }
-    requires joined { joins (clause_of query.now) ≡ true → AreOrdinals view.now joins.now }
+    requires joined { joins (clause_of query.now) ≡ true → AreOrdinals view.now ordinals.now }
     ensures found { IfOk result (IsFound mapping.now view.now scope (clause_of query.now)) }
     ensures steps { steps.new ≡ steps.old }
 {
-    Ok(found(alloc, view.entries(), mapping, joins, query, scope)?)
+    Ok(found(alloc, view.entries(), mapping, ordinals, query, scope)?)
 }
 
 /// What a query finds.
@@ -54,12 +54,12 @@ fn found(
     alloc: Global,
     entries: &[Entry],
     mapping: &Mapping,
-    joins: &JoinOrdinals,
+    ordinals: &JoinOrdinals,
     query: &Query,
     scope: u32,
 ) -> Result<Matches, NoMemory>
     requires resolved { IsResolved mapping.now scope (clause_of query.now) }
-    requires joined { joins (clause_of query.now) ≡ true → AreOrdinals entries.now joins.now }
+    requires joined { joins (clause_of query.now) ≡ true → AreOrdinals entries.now ordinals.now }
     ensures { IfOk result (IsFound mapping.now entries.now scope (clause_of query.now)) }
 {
     match query {
@@ -70,19 +70,19 @@ fn found(
             must_not,
             least,
         } => Ok(bool_of(
-            alloc, entries, mapping, joins, must, filter, should, must_not, *least, scope,
+            alloc, entries, mapping, ordinals, must, filter, should, must_not, *least, scope,
         )?),
         Query::ConstantScore { filter, boost } => {
-            Ok(constant(alloc, entries, mapping, joins, filter, *boost, scope)?)
+            Ok(constant(alloc, entries, mapping, ordinals, filter, *boost, scope)?)
         }
-        Query::DisMax { queries } => Ok(greatest(alloc, entries, mapping, joins, queries, scope)?),
+        Query::DisMax { queries } => Ok(greatest(alloc, entries, mapping, ordinals, queries, scope)?),
         Query::Nested {
             scope: path,
             query,
             mode,
-        } => Ok(nested(alloc, entries, mapping, joins, *path, query, *mode, scope)?),
+        } => Ok(nested(alloc, entries, mapping, ordinals, *path, query, *mode, scope)?),
         Query::ToChild { scope: path, query } => {
-            Ok(to_child(alloc, entries, mapping, joins, *path, query, scope)?)
+            Ok(to_child(alloc, entries, mapping, ordinals, *path, query, scope)?)
         }
         Query::HasChild {
             child,
@@ -91,7 +91,7 @@ fn found(
             least,
             most,
         } => Ok(has_child(
-            alloc, entries, mapping, joins, *child, query, *mode, *least, *most, scope,
+            alloc, entries, mapping, ordinals, *child, query, *mode, *least, *most, scope,
         )?),
         Query::HasParent {
             parent,
@@ -99,7 +99,7 @@ fn found(
             score,
             boost,
         } => Ok(has_parent(
-            alloc, entries, mapping, joins, *parent, query, *score, *boost, scope,
+            alloc, entries, mapping, ordinals, *parent, query, *score, *boost, scope,
         )?),
         _ => Ok(leaves(
             alloc,
@@ -118,13 +118,13 @@ fn constant(
     alloc: Global,
     entries: &[Entry],
     mapping: &Mapping,
-    joins: &JoinOrdinals,
+    ordinals: &JoinOrdinals,
     filter: &QueryBox,
     boost: u32,
     scope: u32,
 ) -> Result<Matches, NoMemory>
     requires resolved { IsResolved mapping.now scope (constant_score filter.now boost) }
-    requires joined { joins (constant_score filter.now boost) ≡ true → AreOrdinals entries.now joins.now }
+    requires joined { joins (constant_score filter.now boost) ≡ true → AreOrdinals entries.now ordinals.now }
     ensures { IfOk result (IsFound mapping.now entries.now scope (constant_score filter.now boost)) }
 {
     let all = leaves(
@@ -135,7 +135,7 @@ fn constant(
         scope,
         u64::from(boost),
     )?;
-    let hits = found(alloc, entries, mapping, joins, filter.get(), scope)?;
+    let hits = found(alloc, entries, mapping, ordinals, filter.get(), scope)?;
     Ok(merges(alloc, entries, &all, &hits, Rule::Kept)?)
 }
 
@@ -145,12 +145,12 @@ fn greatest(
     alloc: Global,
     entries: &[Entry],
     mapping: &Mapping,
-    joins: &JoinOrdinals,
+    ordinals: &JoinOrdinals,
     queries: &QueryList,
     scope: u32,
 ) -> Result<Matches, NoMemory>
     requires resolved { IsResolved mapping.now scope (dis_max (clauses_of queries.now)) }
-    requires joined { joins (dis_max (clauses_of queries.now)) ≡ true → AreOrdinals entries.now joins.now }
+    requires joined { joins (dis_max (clauses_of queries.now)) ≡ true → AreOrdinals entries.now ordinals.now }
     ensures { IfOk result (IsFound mapping.now entries.now scope (dis_max (clauses_of queries.now))) }
 {
     let none = leaves(alloc, entries, mapping, &Query::MatchNone, scope, 0)?;
@@ -158,7 +158,7 @@ fn greatest(
         alloc,
         entries,
         mapping,
-        joins,
+        ordinals,
         queries.as_slice(),
         none,
         Rule::Greatest,
@@ -172,19 +172,19 @@ fn nested(
     alloc: Global,
     entries: &[Entry],
     mapping: &Mapping,
-    joins: &JoinOrdinals,
+    ordinals: &JoinOrdinals,
     path: Option<u32>,
     query: &QueryBox,
     mode: ScoreMode,
     scope: u32,
 ) -> Result<Matches, NoMemory>
     requires resolved { IsResolved mapping.now scope (nested path query.now mode) }
-    requires joined { joins (nested path query.now mode) ≡ true → AreOrdinals entries.now joins.now }
+    requires joined { joins (nested path query.now mode) ≡ true → AreOrdinals entries.now ordinals.now }
     ensures { IfOk result (IsFound mapping.now entries.now scope (nested path query.now mode)) }
 {
     match path {
         Some(path) => {
-            let hits = found(alloc, entries, mapping, joins, query.get(), path)?;
+            let hits = found(alloc, entries, mapping, ordinals, query.get(), path)?;
             Ok(ups(alloc, entries, &hits, scope, mode)?)
         }
         None => Ok(leaves(alloc, entries, mapping, &Query::MatchNone, scope, 0)?),
@@ -197,18 +197,18 @@ fn to_child(
     alloc: Global,
     entries: &[Entry],
     mapping: &Mapping,
-    joins: &JoinOrdinals,
+    ordinals: &JoinOrdinals,
     path: Option<u32>,
     query: &QueryBox,
     scope: u32,
 ) -> Result<Matches, NoMemory>
     requires resolved { IsResolved mapping.now scope (to_child path query.now) }
-    requires joined { joins (to_child path query.now) ≡ true → AreOrdinals entries.now joins.now }
+    requires joined { joins (to_child path query.now) ≡ true → AreOrdinals entries.now ordinals.now }
     ensures { IfOk result (IsFound mapping.now entries.now scope (to_child path query.now)) }
 {
     match path {
         Some(path) => {
-            let hits = found(alloc, entries, mapping, joins, query.get(), path)?;
+            let hits = found(alloc, entries, mapping, ordinals, query.get(), path)?;
             Ok(downs(alloc, entries, &hits, path, scope)?)
         }
         None => Ok(leaves(alloc, entries, mapping, &Query::MatchNone, scope, 0)?),
@@ -221,7 +221,7 @@ fn has_child(
     alloc: Global,
     entries: &[Entry],
     mapping: &Mapping,
-    joins: &JoinOrdinals,
+    ordinals: &JoinOrdinals,
     child: Option<u32>,
     query: &QueryBox,
     mode: ScoreMode,
@@ -230,7 +230,7 @@ fn has_child(
     scope: u32,
 ) -> Result<Matches, NoMemory>
     requires resolved { IsResolved mapping.now scope (has_child child query.now mode least most) }
-    requires joined { joins (has_child child query.now mode least most) ≡ true → AreOrdinals entries.now joins.now }
+    requires joined { joins (has_child child query.now mode least most) ≡ true → AreOrdinals entries.now ordinals.now }
     ensures { IfOk result (IsFound mapping.now entries.now scope (has_child child query.now mode least most)) }
 {
     match child {
@@ -238,9 +238,9 @@ fn has_child(
             if scope != 0 {
                 return Ok(leaves(alloc, entries, mapping, &Query::MatchNone, scope, 0)?);
             }
-            let hits = found(alloc, entries, mapping, joins, query.get(), 0)?;
+            let hits = found(alloc, entries, mapping, ordinals, query.get(), 0)?;
             Ok(with_children(
-                alloc, entries, mapping, joins, &hits, child, mode, least, most,
+                alloc, entries, mapping, ordinals, &hits, child, mode, least, most,
             )?)
         }
         None => Ok(leaves(alloc, entries, mapping, &Query::MatchNone, scope, 0)?),
@@ -253,7 +253,7 @@ fn has_parent(
     alloc: Global,
     entries: &[Entry],
     mapping: &Mapping,
-    joins: &JoinOrdinals,
+    ordinals: &JoinOrdinals,
     parent: Option<u32>,
     query: &QueryBox,
     score: bool,
@@ -261,7 +261,7 @@ fn has_parent(
     scope: u32,
 ) -> Result<Matches, NoMemory>
     requires resolved { IsResolved mapping.now scope (has_parent parent query.now score boost) }
-    requires joined { joins (has_parent parent query.now score boost) ≡ true → AreOrdinals entries.now joins.now }
+    requires joined { joins (has_parent parent query.now score boost) ≡ true → AreOrdinals entries.now ordinals.now }
     ensures { IfOk result (IsFound mapping.now entries.now scope (has_parent parent query.now score boost)) }
 {
     match parent {
@@ -269,9 +269,9 @@ fn has_parent(
             if scope != 0 {
                 return Ok(leaves(alloc, entries, mapping, &Query::MatchNone, scope, 0)?);
             }
-            let hits = found(alloc, entries, mapping, joins, query.get(), 0)?;
+            let hits = found(alloc, entries, mapping, ordinals, query.get(), 0)?;
             Ok(with_parent(
-                alloc, entries, mapping, joins, &hits, parent, score, boost,
+                alloc, entries, mapping, ordinals, &hits, parent, score, boost,
             )?)
         }
         None => Ok(leaves(alloc, entries, mapping, &Query::MatchNone, scope, 0)?),
@@ -284,7 +284,7 @@ fn bool_of(
     alloc: Global,
     entries: &[Entry],
     mapping: &Mapping,
-    joins: &JoinOrdinals,
+    ordinals: &JoinOrdinals,
     must: &QueryList,
     filter: &QueryList,
     should: &QueryList,
@@ -293,7 +293,7 @@ fn bool_of(
     scope: u32,
 ) -> Result<Matches, NoMemory>
     requires resolved { IsResolved mapping.now scope (bool_clause (clauses_of must.now) (clauses_of filter.now) (clauses_of should.now) (clauses_of must_not.now) least) }
-    requires joined { joins (bool_clause (clauses_of must.now) (clauses_of filter.now) (clauses_of should.now) (clauses_of must_not.now) least) ≡ true → AreOrdinals entries.now joins.now }
+    requires joined { joins (bool_clause (clauses_of must.now) (clauses_of filter.now) (clauses_of should.now) (clauses_of must_not.now) least) ≡ true → AreOrdinals entries.now ordinals.now }
     ensures { IfOk result (IsFound mapping.now entries.now scope (bool_clause (clauses_of must.now) (clauses_of filter.now) (clauses_of should.now) (clauses_of must_not.now) least)) }
 {
     if no_queries(must) && no_queries(filter) && no_queries(should) && no_queries(must_not) {
@@ -304,7 +304,7 @@ fn bool_of(
         alloc,
         entries,
         mapping,
-        joins,
+        ordinals,
         must.as_slice(),
         all,
         Rule::Both,
@@ -314,7 +314,7 @@ fn bool_of(
         alloc,
         entries,
         mapping,
-        joins,
+        ordinals,
         filter.as_slice(),
         hits,
         Rule::Kept,
@@ -324,7 +324,7 @@ fn bool_of(
         alloc,
         entries,
         mapping,
-        joins,
+        ordinals,
         must_not.as_slice(),
         hits,
         Rule::Without,
@@ -336,7 +336,7 @@ fn bool_of(
             alloc,
             entries,
             mapping,
-            joins,
+            ordinals,
             should.as_slice(),
             hits,
             Rule::Plus,
@@ -347,7 +347,7 @@ fn bool_of(
             alloc,
             entries,
             mapping,
-            joins,
+            ordinals,
             should.as_slice(),
             hits,
             wanted,
@@ -363,14 +363,14 @@ fn folded(
     alloc: Global,
     entries: &[Entry],
     mapping: &Mapping,
-    joins: &JoinOrdinals,
+    ordinals: &JoinOrdinals,
     queries: &[Query],
     hits: Matches,
     rule: Rule,
     scope: u32,
 ) -> Result<Matches, NoMemory>
     requires resolved { AreResolved mapping.now scope (clauses_of (map clause_of queries.now)) }
-    requires joined { some_join (clauses_of (map clause_of queries.now)) ≡ true → AreOrdinals entries.now joins.now }
+    requires joined { some_join (clauses_of (map clause_of queries.now)) ≡ true → AreOrdinals entries.now ordinals.now }
     requires long { AreLong entries.now hits }
     ensures long { IfOk result (AreLong entries.now) }
     ensures seen { (given : List Tree → Object → Option ℕ) → IsSeen mapping.now entries.now scope given hits → IfOk result (IsSeen mapping.now entries.now scope (folded_by rule mapping.now (clauses_of (map clause_of queries.now)) given)) }
@@ -381,9 +381,9 @@ fn folded(
             if narrows(rule) && is_nothing(&hits) {
                 return Ok(hits);
             }
-            let own = found(alloc, entries, mapping, joins, query, scope)?;
+            let own = found(alloc, entries, mapping, ordinals, query, scope)?;
             let hits = merges(alloc, entries, &hits, &own, rule)?;
-            Ok(folded(alloc, entries, mapping, joins, rest, hits, rule, scope)?)
+            Ok(folded(alloc, entries, mapping, ordinals, rest, hits, rule, scope)?)
         }
     }
 }
@@ -394,14 +394,14 @@ fn asked(
     alloc: Global,
     entries: &[Entry],
     mapping: &Mapping,
-    joins: &JoinOrdinals,
+    ordinals: &JoinOrdinals,
     queries: &[Query],
     hits: Matches,
     wanted: u64,
     scope: u32,
 ) -> Result<Matches, NoMemory>
     requires resolved { AreResolved mapping.now scope (clauses_of (map clause_of queries.now)) }
-    requires joined { some_join (clauses_of (map clause_of queries.now)) ≡ true → AreOrdinals entries.now joins.now }
+    requires joined { some_join (clauses_of (map clause_of queries.now)) ≡ true → AreOrdinals entries.now ordinals.now }
     requires long { AreLong entries.now hits }
     requires some { 1 ≤ wanted }
     ensures { (given : List Tree → Object → Option ℕ) → IsSeen mapping.now entries.now scope given hits → IfOk result (IsSeen mapping.now entries.now scope (asked_by mapping.now (clauses_of (map clause_of queries.now)) wanted given)) }
@@ -416,7 +416,7 @@ fn asked(
             alloc,
             entries,
             mapping,
-            joins,
+            ordinals,
             queries,
             none,
             Rule::Either,
@@ -426,7 +426,7 @@ fn asked(
     }
     let no_counts = leaves(alloc, entries, mapping, &Query::MatchNone, scope, 0)?;
     let (sums, counts) = tallied(
-        alloc, entries, mapping, joins, queries, none, no_counts, scope,
+        alloc, entries, mapping, ordinals, queries, none, no_counts, scope,
     )?;
     let hits = merges(alloc, entries, &hits, &sums, Rule::Both)?;
     Ok(merges(alloc, entries, &hits, &counts, Rule::AtLeast(wanted))?)
@@ -439,14 +439,14 @@ fn tallied(
     alloc: Global,
     entries: &[Entry],
     mapping: &Mapping,
-    joins: &JoinOrdinals,
+    ordinals: &JoinOrdinals,
     queries: &[Query],
     sums: Matches,
     counts: Matches,
     scope: u32,
 ) -> Result<(Matches, Matches), NoMemory>
     requires resolved { AreResolved mapping.now scope (clauses_of (map clause_of queries.now)) }
-    requires joined { some_join (clauses_of (map clause_of queries.now)) ≡ true → AreOrdinals entries.now joins.now }
+    requires joined { some_join (clauses_of (map clause_of queries.now)) ≡ true → AreOrdinals entries.now ordinals.now }
     requires sums_long { AreLong entries.now sums }
     requires counts_long { AreLong entries.now counts }
     ensures long { IfOk result (λ made. AreLong entries.now made.0 × AreLong entries.now made.1) }
@@ -456,10 +456,10 @@ fn tallied(
     match queries {
         [] => Ok((sums, counts)),
         [query, rest @ ..] => {
-            let own = found(alloc, entries, mapping, joins, query, scope)?;
+            let own = found(alloc, entries, mapping, ordinals, query, scope)?;
             let sums = merges(alloc, entries, &sums, &own, Rule::Either)?;
             let counts = merges(alloc, entries, &counts, &own, Rule::Counted)?;
-            Ok(tallied(alloc, entries, mapping, joins, rest, sums, counts, scope)?)
+            Ok(tallied(alloc, entries, mapping, ordinals, rest, sums, counts, scope)?)
         }
     }
 }

@@ -112,8 +112,10 @@ pub(crate) fn scope_set(alloc: Global, segment: &Segment, scope: u32) -> Result<
 {
     scopes_are_of_documents(segment);
     let documents = segment.docs();
-    match segment.scopes().as_slice().get(scope as usize) {
-        Some(set) => Ok(set.copy(alloc)?),
-        None => Ok(BitSet::empty(alloc, documents)?),
+    let scopes = segment.scopes().as_slice();
+    let place = scope as usize;
+    if place >= scopes.len() {
+        return Ok(BitSet::empty(alloc, documents)?);
     }
+    Ok(scopes[place].copy(alloc)?)
 }

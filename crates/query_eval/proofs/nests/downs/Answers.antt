@@ -8,7 +8,7 @@ use Rattle.query_eval.proofs.nests.downs.Goals as goal
 
 pub entries-preserved : goal.entries-preserved
 entries-preserved c =
-    let below : c.entries.at < length c.args.entries.now = omega (arith, c.entries-test.true, c.entries-at-end.ensures) in
+    let below : c.entries.at < length c.args.entries.now = omega (arith, c.entries-test.true) in
     let e = c.index-entries-at.result in (
       entry_step c.args.entries.now c.entries.at e c.entries.made.items c.push.new.self.items c.in_ok-scores.scores c.index-entries-at.is below c.entries.invariant.0
       (c.in_ok-scores.ensures.long ∙ ap (λ (x : Columns). x.documents) c.segment.ensures) c.in_ok-push.ensures.items,
@@ -22,9 +22,9 @@ entries-preserved c =
 
 pub returns-clause-long : goal.returns-clause-long
 returns-clause-long c =
-    all_long c.args.entries.now c.entries.at c.entries.made.items c.of.result c.entries.invariant.0 (omega (arith, c.entries-test.false, c.entries-at-end.ensures)) c.of.ensures
+    all_long c.args.entries.now c.entries.at c.entries.made.items c.of.result c.entries.invariant.0 (omega (arith, c.entries-test.false)) c.of.ensures
 
 pub returns-clause-seen : goal.returns-clause-seen
 returns-clause-seen c = λ m given above is.
     all_seen m c.args.entries.now c.args.to (around_by c.args.from given) c.entries.at c.entries.made.items c.of.result (c.entries.invariant.1 m given above is) c.entries.invariant.0
-    (omega (arith, c.entries-test.false, c.entries-at-end.ensures)) c.of.ensures
+    (omega (arith, c.entries-test.false)) c.of.ensures
