@@ -43,7 +43,7 @@ map_more : {A B : Type 0} (f : A → B) (xs : List A) (x : A) → map f (xs ++ x
 map_more f [] x = refl
 map_more {A} {B} f (y ∷ xs) x = ap (λ (l : List B). f y ∷ l) (map_more f xs x)
 
-map_get : {A B : Type 0} (f : A → B) (xs : List A) (k : ℕ) (d : A) (e : B) → k < length xs → get_or (map f xs) k e ≡ f (get_or xs k d)
+pub map_get : {A B : Type 0} (f : A → B) (xs : List A) (k : ℕ) (d : A) (e : B) → k < length xs → get_or (map f xs) k e ≡ f (get_or xs k d)
 map_get f [] k d e below = absurd (omega (arith, below))
 map_get f (x ∷ xs) zero d e below = refl
 map_get f (x ∷ xs) (suc k) d e below = map_get f xs k d e (omega (arith, below))

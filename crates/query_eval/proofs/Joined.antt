@@ -44,8 +44,8 @@ filter_same one other same (t ∷ trees) =
     ∙ ap (λ (l : List Tree). cond (other t) (t ∷ l) l) (filter_same one other same trees)
 
 filter_none : (test : Tree → Bool) → ((t : Tree) → test t ≡ false) → (trees : List Tree) → filter test trees ≡ []
-filter_none test no [] = refl
-filter_none test no (t ∷ trees) = rw (no t) (filter_none test no trees)
+filter_none test never [] = refl
+filter_none test never (t ∷ trees) = rw (never t) (filter_none test never trees)
 
 and_no : (b : Bool) → (b && false) ≡ false
 and_no true = refl
@@ -98,7 +98,7 @@ module _ (m : Mapping) (r p : ℕ) (parent : (relation_at m r).parent ≡ Some p
   ]
     where
       eqb-swap : (a b : ℕ) → (b == a) ≡ false → (a == b) ≡ false
-      eqb-swap a b no = grind arith
+      eqb-swap a b apart = grind arith
 
   -- the children of a tree are those that take part by its id
   pub children_of : (t : Tree) (id : List ℕ) (live : List Tree) → id_on m (Parents p) t ≡ Some id → child_trees m live r (root t) ≡ filter (takes m (Children r) id) live
@@ -126,8 +126,8 @@ module _ (m : Mapping) (r p : ℕ) (parent : (relation_at m r).parent ≡ Some p
       filter_none (is_child_by m r t) (λ s. no_child_by (join_of m t) (join_of m s) t.id (off (is_on m (Parents p) (relation_of (join_of m t))) is)) live
     where
       off : (b : Bool) → cond b (Some t.id) None ≡ None → b ≡ false
-      off true no = absurd (let none : ⊥ = cc in none)
-      off false no = refl
+      off true is = absurd (let none : ⊥ = cc in none)
+      off false is = refl
 
 -- ---- parents
 

@@ -2,30 +2,35 @@
 use Rattle.std.proofs.Common.{◌≡◌, ◌≢◌, ℕ, zero, suc, ◌+◌, ◌==◌, ◌<◌, ◌≤◌, min, Bool, true, false, cond, List, [], ◌∷◌, ◌++◌, length, map, take, get_or, set, slice_get, All, Option, Some, None, IfSome, refl, sym, ap, subst, ◌∙◌, inl, inr, arith, append_assoc}
 use Rattle.std.specs.List.{range_with_len}
 use Rattle.std.proofs.lemmas.Bool.{cases_Bool, eqb-true}
-use Rattle.std.proofs.lemmas.List.FromFn.{get_or-map-range_with_len, length-map-range_with_len}
+use Rattle.std.proofs.lemmas.List.{length-map}
+use Rattle.std.proofs.lemmas.List.FromFn.{get_or-map-range_with_len, length-map-range_with_len, map-range_with_len_more}
 use Rattle.stored_sources.specs.Roots.{root_of}
 use Rattle.join_ordinals.specs.Ordinals.{AreOrdinals, IsNumbered, Ordinals, ordinal_at, own_id, parent_id}
 use Rattle.mapping.specs.Mapping.{Mapping}
+use Rattle.block_bits.specs.Blocks.{documents_of}
 use Rattle.segment.specs.Live.{EntryState}
-use Rattle.query_eval.specs.Sides.{AreTallies, TallyOf, answer_for, at_roots, given_by, is_on, key_at, keys_at, of_roots, ordinal_by, pair_if, relation_in, roots_in, scores_of, told, told_by}
+use Rattle.segment_parts.specs.declared.columns.Columns.{Columns}
+use Rattle.query_eval.specs.Folds.{scopes_in}
+use Rattle.query_eval.specs.Sides.{AreTallies, HaveTallies, TallyOf, answer_for, answer_of, at_roots, given_by, is_on, key_at, keys_at, of_roots, ordinal_by, pair_if, relation_in, roots_in, scores_of, told, told_by}
 use Rattle.query_eval.specs.declared.side.Side.{Side}
 use Rattle.query_eval.specs.declared.side.Side.TheVariants.{Parents, Children, ChildrenOf}
 use Rattle.query_eval.specs.declared.answer.Answer.{Answer}
 use Rattle.query_eval.specs.declared.tally.Tally.{Tally}
-use Rattle.query_eval.proofs.Entries.{Scores, take_more, take_whole, nil_append}
+use Rattle.query_eval.proofs.Entries.{Scores, map_get, nil_append, or_past, take_more, take_whole}
 use Rattle.query_eval.proofs.Keys.{scores_append}
 
 -- ---- pairs
 
-pub told_more : (keys scores : List (Option ℕ)) (k : ℕ) (d e : Option ℕ) → k < length keys → k < length scores → told (take (k + 1) keys) (take (k + 1) scores) ≡ told (take k keys) (take k scores) ++ pair_if (get_or keys k d) (get_or scores k e)
-told_more [] scores k d e below inside = absurd (omega (arith, below))
-told_more (x ∷ keys) [] k d e below inside = absurd (omega (arith, inside))
-told_more (x ∷ keys) (s ∷ scores) zero d e below inside = nil_append (pair_if x s)
-told_more (x ∷ keys) (s ∷ scores) (suc k) d e below inside =
+pub told_next : (keys scores : List (Option ℕ)) (k : ℕ) (d : Option ℕ) → k < length scores → told (take (k + 1) keys) (take (k + 1) scores) ≡ told (take k keys) (take k scores) ++ pair_if (get_or keys k None) (get_or scores k d)
+told_next keys [] k d inside = absurd (omega (arith, inside))
+told_next [] (s ∷ scores) zero d inside = refl
+told_next [] (s ∷ scores) (suc k) d inside = let same : suc k + 1 ≡ suc (k + 1) = omega arith in rw same refl
+told_next (x ∷ keys) (s ∷ scores) zero d inside = nil_append (pair_if x s)
+told_next (x ∷ keys) (s ∷ scores) (suc k) d inside =
     let same : suc k + 1 ≡ suc (k + 1) = omega arith in
     rw same
-        (ap (λ (l : List (ℕ × ℕ)). pair_if x s ++ l) (told_more keys scores k d e (omega (arith, below)) (omega (arith, inside)))
-        ∙ sym (append_assoc (pair_if x s) (told (take k keys) (take k scores)) (pair_if (get_or keys k d) (get_or scores k e))))
+        (ap (λ (l : List (ℕ × ℕ)). pair_if x s ++ l) (told_next keys scores k d (omega (arith, inside)))
+        ∙ sym (append_assoc (pair_if x s) (told (take k keys) (take k scores)) (pair_if (get_or keys k None) (get_or scores k d))))
 
 pub told_cut : (keys scores : List (Option ℕ)) (n : ℕ) → min (length keys) (length scores) ≤ n → told (take n keys) (take n scores) ≡ told keys scores
 told_cut [] scores zero past = refl
@@ -80,7 +85,7 @@ tallies_same pairs more ts none was = subst (λ (l : List (ℕ × ℕ)). AreTall
 
 -- ---- keys
 
-module _ (view : List EntryState) (ordinals : Ordinals) (o : AreOrdinals view ordinals) (m : Mapping) (side : Side) where
+module _ (view : List EntryState) (ordinals : Ordinals) (o : AreOrdinals view ordinals) (side : Side) where
   within : (id : Option (List ℕ)) (key : Option ℕ) → IsNumbered o.ids id key → IfSome key (λ k. k < ordinals.count)
   within None None is = search
   within None (Some k) is = absurd is
@@ -92,27 +97,20 @@ module _ (view : List EntryState) (ordinals : Ordinals) (o : AreOrdinals view or
       inside (y ∷ xs) zero x is = omega arith
       inside (y ∷ xs) (suc k) x is = omega (arith, inside xs k x is)
 
-  one_key : (place root : ℕ) (e : EntryState) → slice_get view place ≡ Some e → IfSome (key_at m ordinals side e.columns place root) (λ k. k < ordinals.count)
-  one_key place root e at = by_on (is_on m side (relation_in (root_of e.columns.roots root).join)) side
+  -- each ordinal has a tally
+  pub have_tallies : (place : ℕ) (e : EntryState) → slice_get view place ≡ Some e → HaveTallies ordinals side place ordinals.count
+  have_tallies place e at = λ root. by_side root side
     where
-      own : IfSome (ordinal_at ordinals.own place root) (λ k. k < ordinals.count)
-      own = within (own_id e root) (ordinal_at ordinals.own place root) (o.own.numbered place root e at)
+      own : (root : ℕ) → IfSome (ordinal_at ordinals.own place root) (λ k. k < ordinals.count)
+      own root = within (own_id e root) (ordinal_at ordinals.own place root) (o.own.numbered place root e at)
 
-      parent : IfSome (ordinal_at ordinals.parents place root) (λ k. k < ordinals.count)
-      parent = within (parent_id e root) (ordinal_at ordinals.parents place root) (o.parents.numbered place root e at)
+      parent : (root : ℕ) → IfSome (ordinal_at ordinals.parents place root) (λ k. k < ordinals.count)
+      parent root = within (parent_id e root) (ordinal_at ordinals.parents place root) (o.parents.numbered place root e at)
 
-      by_on : (on : Bool) (s : Side) → IfSome (cond on (ordinal_by s (ordinal_at ordinals.own place root) (ordinal_at ordinals.parents place root)) None) (λ k. k < ordinals.count)
-      by_on true (Parents r) = own
-      by_on true (Children r) = parent
-      by_on true (ChildrenOf r) = parent
-      by_on false s = search
-
-  -- each key has a tally
-  pub keys_within : (place : ℕ) (e : EntryState) → slice_get view place ≡ Some e → All (λ (key : Option ℕ). IfSome key (λ k. k < ordinals.count)) (keys_at m ordinals side e.columns place)
-  keys_within place e at = λ k d below.
-      let inside : k < length e.columns.roots = omega (arith, below, length-map-range_with_len (key_at m ordinals side e.columns place) 0 (length e.columns.roots)) in
-      subst (λ (key : Option ℕ). IfSome key (λ k. k < ordinals.count))
-      (sym (get_or-map-range_with_len (key_at m ordinals side e.columns place) 0 (length e.columns.roots) k k d inside (omega arith))) (one_key place k e at)
+      by_side : (root : ℕ) (s : Side) → IfSome (ordinal_by s (ordinal_at ordinals.own place root) (ordinal_at ordinals.parents place root)) (λ k. k < ordinals.count)
+      by_side root (Parents r) = own root
+      by_side root (Children r) = parent root
+      by_side root (ChildrenOf r) = parent root
 
 -- ---- one entry more
 
@@ -141,3 +139,134 @@ module _ (m : Mapping) (ordinals : Ordinals) (side : Side) where
       ap (λ (l : List Scores). at_roots (roots_in x) (map (answer_for asked pairs) (keys_at m ordinals side x.columns place)) ∷ l)
       (given_entry asked pairs (place + 1) entries e
       ∙ ap (λ n. given_by m ordinals side asked pairs (place + 1) entries ++ at_roots (roots_in e) (map (answer_for asked pairs) (keys_at m ordinals side e.columns n)) ∷ []) next)
+
+-- ---- an entry of a view, as a loop reads it
+
+pub keys_more : (f : ℕ → Option ℕ) (n : ℕ) → map f (range_with_len 0 (n + 1)) ≡ map f (range_with_len 0 n) ++ f n ∷ []
+keys_more f n = map-range_with_len_more f 0 n n (omega arith)
+
+pub at_place : (view : List EntryState) (k : ℕ) (e : EntryState) → k < length view → e ≡ get_or view k e → slice_get view k ≡ Some e
+at_place [] k e below is = absurd (omega (arith, below))
+at_place (x ∷ view) zero e below is = ap Some (sym is)
+at_place (x ∷ view) (suc k) e below is = at_place view k e (omega (arith, below)) is
+
+module _ (m : Mapping) (ordinals : Ordinals) (side : Side) (view : List EntryState) (place : ℕ) (e : EntryState) (c : Columns) (below : place < length view) (is : e ≡ get_or view place e) (own : c ≡ e.columns) where
+  pub tell_keys : (o : AreOrdinals view ordinals) (count : ℕ) → count ≡ ordinals.count → HaveTallies ordinals side place count
+  tell_keys o count many = subst (HaveTallies ordinals side place) (sym many) (have_tallies view ordinals o side place e (at_place view place e below is))
+
+  first_entries : length (take place view) ≡ place
+  first_entries = taken view place below
+    where
+      taken : (xs : List EntryState) (k : ℕ) → k < length xs → length (take k xs) ≡ k
+      taken [] k below = absurd (omega (arith, below))
+      taken (x ∷ xs) zero below = refl
+      taken (x ∷ xs) (suc k) below = ap suc (taken xs k (omega (arith, below)))
+
+  next_entries : take (place + 1) view ≡ take place view ++ e ∷ []
+  next_entries = take_more view place e below ∙ ap (λ (x : EntryState). take place view ++ x ∷ []) (sym is)
+
+  pub told_step : (hits : List Scores) (s : Scores) → length hits ≡ length view → s ≡ get_or hits place s
+      → told_by m ordinals side 0 (take place view) (take place hits) ++ told (keys_at m ordinals side c place) (of_roots (documents_of (scopes_in c) 0) s) ≡ told_by m ordinals side 0 (take (place + 1) view) (take (place + 1) hits)
+  told_step hits s long at =
+      let some : place < length hits = omega (arith, below, long) in
+      let next_hits : take (place + 1) hits ≡ take place hits ++ s ∷ [] = take_more hits place s some ∙ ap (λ (x : Scores). take place hits ++ x ∷ []) (sym at) in
+      let here : 0 + length (take place view) ≡ place = omega (arith, first_entries) in
+      let same_long : length (take place hits) ≡ length (take place view) = taken hits place some ∙ sym first_entries in
+      sym
+      (ap (λ (l : List EntryState). told_by m ordinals side 0 l (take (place + 1) hits)) next_entries
+      ∙ ap (told_by m ordinals side 0 (take place view ++ e ∷ [])) next_hits
+      ∙ told_entry m ordinals side 0 (take place view) (take place hits) e s same_long
+      ∙ ap (λ n. told_by m ordinals side 0 (take place view) (take place hits) ++ told (keys_at m ordinals side e.columns n) (of_roots (roots_in e) s)) here
+      ∙ ap (λ (x : Columns). told_by m ordinals side 0 (take place view) (take place hits) ++ told (keys_at m ordinals side x place) (of_roots (documents_of (scopes_in x) 0) s)) (sym own))
+    where
+      taken : (xs : List Scores) (k : ℕ) → k < length xs → length (take k xs) ≡ k
+      taken [] k below = absurd (omega (arith, below))
+      taken (x ∷ xs) zero below = refl
+      taken (x ∷ xs) (suc k) below = ap suc (taken xs k (omega (arith, below)))
+
+  pub given_step : (asked : Answer) (pairs : List (ℕ × ℕ)) (made items : List Scores) (new : Scores) → made ≡ given_by m ordinals side asked pairs 0 (take place view)
+      → new ≡ at_roots (documents_of (scopes_in c) 0) (map (answer_for asked pairs) (keys_at m ordinals side c place)) → items ≡ made ++ new ∷ [] → items ≡ given_by m ordinals side asked pairs 0 (take (place + 1) view)
+  given_step asked pairs made items new was roots push =
+      let here : 0 + length (take place view) ≡ place = omega (arith, first_entries) in
+      let own_new : new ≡ at_roots (roots_in e) (map (answer_for asked pairs) (keys_at m ordinals side e.columns place)) =
+      roots ∙ ap (λ (x : Columns). at_roots (documents_of (scopes_in x) 0) (map (answer_for asked pairs) (keys_at m ordinals side x place))) own in
+      push
+      ∙ ap (λ (l : List Scores). l ++ new ∷ []) was
+      ∙ ap (λ (x : Scores). given_by m ordinals side asked pairs 0 (take place view) ++ x ∷ []) own_new
+      ∙ ap (λ n. given_by m ordinals side asked pairs 0 (take place view) ++ at_roots (roots_in e) (map (answer_for asked pairs) (keys_at m ordinals side e.columns n)) ∷ []) (sym here)
+      ∙ sym (given_entry m ordinals side asked pairs 0 (take place view) e)
+      ∙ ap (given_by m ordinals side asked pairs 0) (sym next_entries)
+
+pub told_whole : (m : Mapping) (ordinals : Ordinals) (side : Side) (view : List EntryState) (hits : List Scores) (k : ℕ) → length hits ≡ length view → length view ≤ k → told_by m ordinals side 0 (take k view) (take k hits) ≡ told_by m ordinals side 0 view hits
+told_whole m ordinals side view hits k long past =
+    ap (λ (l : List EntryState). told_by m ordinals side 0 l (take k hits)) (take_whole view k past) ∙ ap (told_by m ordinals side 0 view) (take_whole hits k (omega (arith, long, past)))
+
+pub given_whole : (m : Mapping) (ordinals : Ordinals) (side : Side) (asked : Answer) (pairs : List (ℕ × ℕ)) (view : List EntryState) (k : ℕ) → length view ≤ k → given_by m ordinals side asked pairs 0 (take k view) ≡ given_by m ordinals side asked pairs 0 view
+given_whole m ordinals side asked pairs view k past = ap (given_by m ordinals side asked pairs 0) (take_whole view k past)
+
+-- ---- a root
+
+pub pair_nothing : (key : Option ℕ) → pair_if key None ≡ []
+pair_nothing None = refl
+pair_nothing (Some k) = refl
+
+module _ (m : Mapping) (ordinals : Ordinals) (side : Side) (c : Columns) (place root : ℕ) where
+  -- the ordinal by which it would take part, and whether it does
+  abbrev pub would : Option ℕ
+  would = ordinal_by side (ordinal_at ordinals.own place root) (ordinal_at ordinals.parents place root)
+
+  abbrev pub does : Bool
+  does = is_on m side (relation_in (root_of c.roots root).join)
+
+  pub key_here : root < length c.roots → get_or (keys_at m ordinals side c place) root None ≡ key_at m ordinals side c place root
+  key_here below = get_or-map-range_with_len (key_at m ordinals side c place) 0 (length c.roots) root root None below (omega arith)
+
+  pub key_past : length c.roots ≤ root → get_or (keys_at m ordinals side c place) root None ≡ None
+  key_past past = or_past (keys_at m ordinals side c place) root None (omega (arith, past, length-map-range_with_len (key_at m ordinals side c place) 0 (length c.roots)))
+
+  pub pair_here : (score : Option ℕ) → root < length c.roots → pair_if (key_at m ordinals side c place root) score ≡ pair_if (get_or (keys_at m ordinals side c place) root None) score
+  pair_here score below = ap (λ (key : Option ℕ). pair_if key score) (sym (key_here below))
+
+  pub pair_past : (score : Option ℕ) → length c.roots ≤ root → pair_if None score ≡ pair_if (get_or (keys_at m ordinals side c place) root None) score
+  pair_past score past = ap (λ (key : Option ℕ). pair_if key score) (sym (key_past past))
+
+  pub key_within : (count : ℕ) → HaveTallies ordinals side place count → IfSome (key_at m ordinals side c place root) (λ key. key < count)
+  key_within count have = by does
+    where
+      by : (on : Bool) → IfSome (cond on would None) (λ key. key < count)
+      by true = have root
+      by false = tt
+
+  module _ (asked : Answer) (pairs : List (ℕ × ℕ)) where
+    abbrev pub given_here : Option ℕ
+    given_here = get_or (map (answer_for asked pairs) (keys_at m ordinals side c place)) root None
+
+    pub given_past : length c.roots ≤ root → None ≡ given_here
+    given_past past =
+        sym (or_past (map (answer_for asked pairs) (keys_at m ordinals side c place)) root None
+        (omega (arith, past, length-map (keys_at m ordinals side c place) (answer_for asked pairs), length-map-range_with_len (key_at m ordinals side c place) 0 (length c.roots))))
+
+    given_at : root < length c.roots → given_here ≡ answer_for asked pairs (cond does would None)
+    given_at below =
+        map_get (answer_for asked pairs) (keys_at m ordinals side c place) root None None (omega (arith, below, length-map-range_with_len (key_at m ordinals side c place) 0 (length c.roots)))
+        ∙ ap (answer_for asked pairs) (key_here below)
+
+    pub given_none : root < length c.roots → would ≡ None → None ≡ given_here
+    given_none below none = sym (given_at below ∙ ap (λ (x : Option ℕ). answer_for asked pairs (cond does x None)) none ∙ by does)
+      where
+        by : (on : Bool) → answer_for asked pairs (cond on None None) ≡ None
+        by true = refl
+        by false = refl
+
+    pub given_nothing : (k : ℕ) → root < length c.roots → would ≡ Some k → None ≡ answer_of asked (scores_of k pairs) → None ≡ given_here
+    given_nothing k below is none = sym (given_at below ∙ ap (λ (x : Option ℕ). answer_for asked pairs (cond does x None)) is ∙ by does)
+      where
+        by : (on : Bool) → answer_for asked pairs (cond on (Some k) None) ≡ None
+        by true = sym none
+        by false = refl
+
+    pub given_off : root < length c.roots → does ≡ false → None ≡ given_here
+    given_off below off = sym (given_at below ∙ ap (λ (b : Bool). answer_for asked pairs (cond b would None)) off)
+
+    pub given_some : (k : ℕ) (score : Option ℕ) → root < length c.roots → would ≡ Some k → does ≡ true → score ≡ answer_of asked (scores_of k pairs) → score ≡ given_here
+    given_some k score below is on own = own ∙ sym (given_at below ∙ ap (λ (b : Bool). answer_for asked pairs (cond b would None)) on ∙ ap (answer_for asked pairs) is)

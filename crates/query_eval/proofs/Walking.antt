@@ -1,10 +1,12 @@
 -- Walks over the documents of the roots.
 use Rattle.std.proofs.Common.{◌≡◌, ℕ, zero, suc, ◌+◌, ◌-◌, ◌<◌, ◌≤◌, Bool, true, false, cond, List, [], ◌∷◌, ◌++◌, length, take, drop, get_or, replicate, Option, Some, None, refl, sym, ap, subst, ◌∙◌, inl, inr, arith, append_assoc, drop-drop, length-drop}
-use Rattle.std.specs.List.{position_from}
+use Rattle.std.specs.List.{flat_map, position_from}
+use Rattle.std.specs.Option.{option_to_list}
+use Rattle.std.specs.Prelude.{IfNone, IfSome}
 use Rattle.std.proofs.lemmas.Option.{same_Some}
 use Rattle.block_bits.specs.Flags.{is_marked}
 use Rattle.block_bits.specs.Places.{next_place}
-use Rattle.block_join.specs.Scores.{padded}
+use Rattle.block_join.specs.Scores.{Standing, between, padded}
 use Rattle.query_eval.specs.Sides.{at_roots, of_roots}
 use Rattle.query_eval.proofs.Entries.{Scores, nil_append}
 
@@ -60,27 +62,96 @@ get_drop xs zero k = let same : 0 + k ≡ k = omega arith in ap (λ n. get_or xs
 get_drop [] (suc from) k = refl
 get_drop (x ∷ xs) (suc from) k = let same : suc from + k ≡ suc (from + k) = omega arith in get_drop xs from k ∙ ap (λ n. get_or (x ∷ xs) n None) (sym same)
 
+-- ---- the score of one document
+
+drop_at : (hits : Scores) (doc : ℕ) → doc < length hits → drop doc hits ≡ get_or hits doc None ∷ drop (doc + 1) hits
+drop_at [] doc below = absurd (omega (arith, below))
+drop_at (h ∷ hits) zero below = refl
+drop_at (h ∷ hits) (suc doc) below = let same : suc doc + 1 ≡ suc (doc + 1) = omega arith in rw same (drop_at hits doc (omega (arith, below)))
+
+own_between : (hits : Scores) (doc : ℕ) → doc < length hits → between hits doc (doc + 1) ≡ option_to_list (get_or hits doc None)
+own_between hits doc below =
+    let one : (doc + 1) - doc ≡ 1 = omega arith in
+    ap (λ (n : ℕ). flat_map option_to_list (take n (drop doc hits))) one
+    ∙ ap (λ (l : Scores). flat_map option_to_list (take 1 l)) (drop_at hits doc below)
+    ∙ nil_append (option_to_list (get_or hits doc None))
+
+one_told : (x : Option ℕ) (s : ℕ) (rest : List ℕ) → option_to_list x ≡ s ∷ rest → Some s ≡ x
+one_told None s rest is = absurd (let no : ⊥ = cc in no)
+one_told (Some t) s rest is = let same : t ≡ s = cc in ap Some (sym same)
+
+none_told : (x : Option ℕ) → option_to_list x ≡ [] → None ≡ x
+none_told None is = refl
+none_told (Some t) is = absurd (let no : ⊥ = cc in no)
+
+-- what a cursor takes where it stands at a document
+pub took : (old : Standing) (scores : Scores) (doc : ℕ) (score : Option ℕ) (new : Standing) → old ≡ record { scores = scores; from = doc } → doc < length scores
+    → IfSome score (λ s. between old.scores old.from (doc + 1) ≡ s ∷ between new.scores new.from (doc + 1)) → IfNone score ((between old.scores old.from (doc + 1) ≡ []) × (new.from ≡ doc + 1)) → score ≡ get_or scores doc None
+took old scores doc None new is below some none =
+    let same : between old.scores old.from (doc + 1) ≡ between scores doc (doc + 1) = ap (λ (x : Standing). between x.scores x.from (doc + 1)) is in
+    none_told (get_or scores doc None) (sym (own_between scores doc below) ∙ sym same ∙ none.0)
+took old scores doc (Some s) new is below some none =
+    let same : between old.scores old.from (doc + 1) ≡ between scores doc (doc + 1) = ap (λ (x : Standing). between x.scores x.from (doc + 1)) is in
+    one_told (get_or scores doc None) s (between new.scores new.from (doc + 1)) (sym (own_between scores doc below) ∙ sym same ∙ some)
+
 -- ---- scores of roots
 
-pub of_more : (flags : List Bool) (hits made : Scores) (from doc : ℕ) (score : Option ℕ) → length flags ≡ length hits → next_place is_marked from flags ≡ Some doc → score ≡ get_or hits doc None
-    → made ++ of_roots (drop from flags) (drop from hits) ≡ of_roots flags hits → (made ++ score ∷ []) ++ of_roots (drop (doc + 1) flags) (drop (doc + 1) hits) ≡ of_roots flags hits
-of_more flags hits made from doc score long next is was =
+-- the roots from a document on, of which so many were read
+pub record Reading (flags : List Bool) (hits scores : Scores) (from root : ℕ) : Type 0 where
+  pub goes : of_roots (drop from flags) (drop from hits) ≡ drop root scores
+
+pub record Read (flags : List Bool) (hits scores : Scores) (doc root : ℕ) (score : Option ℕ) : Type 0 where
+  pub below : root < length scores
+  pub own : score ≡ get_or scores root None
+  pub next : Reading flags hits scores (doc + 1) (root + 1)
+
+record Headed (xs : Scores) (k : ℕ) (s : Option ℕ) (rest : Scores) : Type 0 where
+  below : k < length xs
+  own : s ≡ get_or xs k None
+  next : rest ≡ drop (k + 1) xs
+
+headed : (xs : Scores) (k : ℕ) (s : Option ℕ) (rest : Scores) → s ∷ rest ≡ drop k xs → Headed xs k s rest
+headed [] zero s rest is = absurd (let none : ⊥ = cc in none)
+headed [] (suc k) s rest is = absurd (let none : ⊥ = cc in none)
+headed (x ∷ xs) zero s rest is =
+    let first : s ≡ x = cc in
+    let more : rest ≡ xs = cc in
+    record { below = omega arith; own = first; next = more }
+headed (x ∷ xs) (suc k) s rest is =
+    let inner = headed xs k s rest is in
+    let same : suc k + 1 ≡ suc (k + 1) = omega arith in
+    record { below = omega (arith, inner.below); own = inner.own; next = inner.next ∙ ap (λ n. drop n (x ∷ xs)) (sym same) }
+
+past_all : (xs : Scores) (k : ℕ) → [] ≡ drop k xs → length xs ≤ k
+past_all [] k is = omega arith
+past_all (x ∷ xs) zero is = absurd (let none : ⊥ = cc in none)
+past_all (x ∷ xs) (suc k) is = omega (arith, past_all xs k is)
+
+pub reading_start : (flags : List Bool) (hits : Scores) → Reading flags hits (of_roots flags hits) 0 0
+reading_start flags hits = record { goes = refl }
+
+pub reading_more : (flags : List Bool) (hits scores : Scores) (from root doc : ℕ) (score : Option ℕ) → Reading flags hits scores from root → length flags ≡ length hits → next_place is_marked from flags ≡ Some doc → score ≡ get_or hits doc None
+    → Read flags hits scores doc root score
+reading_more flags hits scores from root doc score it long next is =
     let at = next_root from (drop from flags) doc next in
     let k : ℕ = at.ahead in
     let same : length (drop from flags) ≡ length (drop from hits) = omega (arith, long, length-drop from flags, length-drop from hits) in
     let behind : from + suc k ≡ doc + 1 = omega (arith, at.place) in
     let own : score ≡ get_or (drop from hits) k None = is ∙ ap (λ n. get_or hits n None) at.place ∙ sym (get_drop hits from k) in
-    append_assoc made (score ∷ []) (of_roots (drop (doc + 1) flags) (drop (doc + 1) hits))
-    ∙ ap (λ n. made ++ (score ∷ of_roots (drop n flags) (drop n hits))) (sym behind)
-    ∙ ap (λ (l : List Bool). made ++ (score ∷ of_roots l (drop (from + suc k) hits))) (sym (drop-drop (suc k) from flags))
-    ∙ ap (λ (l : Scores). made ++ (score ∷ of_roots (drop (suc k) (drop from flags)) l)) (sym (drop-drop (suc k) from hits))
-    ∙ ap (λ (x : Option ℕ). made ++ (x ∷ of_roots (drop (suc k) (drop from flags)) (drop (suc k) (drop from hits)))) own
-    ∙ ap (λ (l : Scores). made ++ l) (sym (at.scores (drop from hits) same))
-    ∙ was
+    let rest : of_roots (drop (suc k) (drop from flags)) (drop (suc k) (drop from hits)) ≡ of_roots (drop (doc + 1) flags) (drop (doc + 1) hits) =
+    ap (λ (l : List Bool). of_roots l (drop (suc k) (drop from hits))) (drop-drop (suc k) from flags)
+    ∙ ap (of_roots (drop (from + suc k) flags)) (drop-drop (suc k) from hits)
+    ∙ ap (λ n. of_roots (drop n flags) (drop n hits)) behind in
+    let all : score ∷ of_roots (drop (doc + 1) flags) (drop (doc + 1) hits) ≡ drop root scores =
+    ap (λ (x : Option ℕ). x ∷ of_roots (drop (doc + 1) flags) (drop (doc + 1) hits)) own
+    ∙ ap (λ (l : Scores). get_or (drop from hits) k None ∷ l) (sym rest)
+    ∙ sym (at.scores (drop from hits) same)
+    ∙ it.goes in
+    let split = headed scores root score (of_roots (drop (doc + 1) flags) (drop (doc + 1) hits)) all in
+    record { below = split.below; own = split.own; next = record { goes = split.next } }
 
-pub of_end : (flags : List Bool) (hits made : Scores) (from : ℕ) → next_place is_marked from flags ≡ None → made ++ of_roots (drop from flags) (drop from hits) ≡ of_roots flags hits → made ≡ of_roots flags hits
-of_end flags hits made from next was =
-    sym (nil_append made) ∙ ap (λ (l : Scores). made ++ l) (sym (none_left from (drop from flags) (drop from hits) next)) ∙ was
+pub reading_end : (flags : List Bool) (hits scores : Scores) (from root : ℕ) → Reading flags hits scores from root → next_place is_marked from flags ≡ None → length scores ≤ root
+reading_end flags hits scores from root it next = past_all scores root (sym (none_left from (drop from flags) (drop from hits) next) ∙ it.goes)
 
 -- ---- scores given to roots
 

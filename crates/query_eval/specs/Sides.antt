@@ -1,5 +1,5 @@
 -- Joins of trees by the ordinals of ids: which roots take part, by which id, and what they are given.
-use Rattle.std.specs.Prelude.{◌≡◌, ℕ, ◌+◌, ◌==◌, ◌<◌, ◌≤◌, Bool, true, false, cond, if◌then◌else◌, List, [], ◌∷◌, ◌++◌, length, map, filter_map, get_or, Option, Some, None, ⊤}
+use Rattle.std.specs.Prelude.{◌≡◌, ℕ, ◌+◌, ◌==◌, ◌<◌, ◌≤◌, Bool, true, false, cond, if◌then◌else◌, List, [], ◌∷◌, ◌++◌, length, map, filter_map, get_or, Option, Some, None, IfSome, ⊤}
 use Rattle.std.specs.List.{range_with_len}
 use Rattle.join_ordinals.specs.Ordinals.{Ordinals, ordinal_at}
 use Rattle.mapping.specs.Mapping.{Mapping, relation_at}
@@ -49,6 +49,11 @@ key_of m side join own parent = if is_on m side (relation_in join) then ordinal_
 abbrev pub key_at : Mapping → Ordinals → Side → Columns → ℕ → ℕ → Option ℕ
 key_at m ordinals side columns place root =
     key_of m side (root_of columns.roots root).join (ordinal_at ordinals.own place root) (ordinal_at ordinals.parents place root)
+
+-- the ordinals by which roots of the entry at a place would take part are below a count
+abbrev pub HaveTallies : Ordinals → Side → ℕ → ℕ → Type 0
+HaveTallies ordinals side place count =
+    (root : ℕ) → IfSome (ordinal_by side (ordinal_at ordinals.own place root) (ordinal_at ordinals.parents place root)) (λ ordinal. ordinal < count)
 
 -- the keys of all its roots
 abbrev pub keys_at : Mapping → Ordinals → Side → Columns → ℕ → List (Option ℕ)

@@ -3,7 +3,7 @@
 ghost use Rattle.std.specs.Prelude.{◌≡◌, ◌<◌, length};
 ghost use Rattle.join_ordinals.specs.Ordinals.{ordinal_at};
 ghost use Rattle.mapping.specs.Mapping.{relation_at};
-ghost use Rattle.query_eval.specs.Sides.{relation_in, key_of, is_on};
+ghost use Rattle.query_eval.specs.Sides.{is_on, key_at, ordinal_by, relation_in};
 ghost use Rattle.query_ast.specs.Joined.{is_number};
 ghost use Rattle.stored_sources.specs.Roots.{lent_join, root_of};
 
@@ -32,16 +32,37 @@ pub(crate) fn key_of(
     side: Side,
 ) -> Option<u32>
     requires { root < length segment.now.roots }
-    ensures { result ≡ key_of mapping.now side (root_of segment.now.roots root).join (ordinal_at joins.now.own place root) (ordinal_at joins.now.parents place root) }
+    ensures { result ≡ key_at mapping.now joins.now side segment.now place root }
 {
-    if !is_on(mapping, side, relation_in(segment.root_join(root))) {
-        return None;
+    if takes_part(mapping, segment, root, side) {
+        ordinal_by(joins, place, root, side)
+    } else {
+        None
     }
+}
+
+/// The ordinal by which a root of the entry at a place would take part.
+pub(crate) fn ordinal_by(
+    joins: &JoinOrdinals,
+    place: usize,
+    root: u32,
+    side: Side,
+) -> Option<u32>
+    ensures { result ≡ ordinal_by side (ordinal_at joins.now.own place root) (ordinal_at joins.now.parents place root) }
+{
     match side {
         Side::Parents(_) => joins.own(place, root),
         Side::Children(_) => joins.parent(place, root),
         Side::ChildrenOf(_) => joins.parent(place, root),
     }
+}
+
+/// Whether a root takes part, by its relation.
+pub(crate) fn takes_part(mapping: &Mapping, segment: &Segment, root: u32, side: Side) -> bool
+    requires { root < length segment.now.roots }
+    ensures { result ≡ is_on mapping.now side (relation_in (root_of segment.now.roots root).join) }
+{
+    is_on(mapping, side, relation_in(segment.root_join(root)))
 }
 
 /// The relation of a join value.
@@ -70,11 +91,11 @@ fn is_on(mapping: &Mapping, side: Side, relation: Option<u32>) -> bool
 }
 
 /// Whether a relation has this one as its parent.
+#[tactic(auto, using(crate::proofs::Relations::no_parent))]
 fn has_parent(mapping: &Mapping, relation: u32, parent: u32) -> bool
     ensures { result ≡ is_number (relation_at mapping.now relation).parent parent }
 {
-    let known = mapping.relations(mapping.generation());
-    if relation >= known {
+    if relation >= mapping.relation_count() {
         return false;
     }
     match mapping.parent_relation(relation) {

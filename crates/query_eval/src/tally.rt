@@ -1,7 +1,7 @@
 //! Scores that are counted, summed and compared one after the other.
 
-ghost use Rattle.std.specs.Prelude.{◌≤◌, ℕ, List, [], ◌∷◌, ◌++◌, OnOk};
-ghost use Rattle.query_eval.specs.Tallies.{IsTally, IsTallied};
+ghost use Rattle.std.specs.Prelude.{◌≡◌, ◌≤◌, ◌+◌, ◌*◌, ℕ, List, [], ◌∷◌, ◌++◌, OnOk};
+ghost use Rattle.query_eval.specs.Tallies.{IsTally};
 ghost use Rattle.score_math.specs.declared.score.TheConstants.{SCORE_CAP};
 
 use crate::NoMemory;
@@ -14,7 +14,10 @@ pub(crate) struct Tally {
     pub(crate) least: u64,
     pub(crate) greatest: u64,
     pub(crate) first: u64,
-    ghost tallied: { IsTallied count total least greatest first },
+    ghost bounded: { total ≤ count * greatest },
+    ghost least_capped: { least ≤ SCORE_CAP },
+    ghost greatest_capped: { greatest ≤ SCORE_CAP },
+    ghost first_capped: { first ≤ SCORE_CAP },
 }
 
 impl Tally {
@@ -40,23 +43,34 @@ impl Tally {
         let Some(count) = self.count.checked_add(1) else {
             return Err(NoMemory);
         };
+        *self = self.with(count, score);
+        Ok(())
+    }
+
+    /// With one score more, which is the one with this number.
+    #[tactic(auto, using(crate::proofs::Counting::tallies))]
+    fn with(&self, count: u32, score: u64) -> Tally
+        requires count { count ≡ self.now.count + 1 }
+        requires score { score ≤ SCORE_CAP }
+        ensures { (scores : List ℕ) → IsTally scores self.now.count self.now.total self.now.least self.now.greatest self.now.first
+            → IsTally (scores ++ score ∷ []) result.count result.total result.least result.greatest result.first }
+    {
         if self.count == 0 {
-            *self = Tally {
-                count: 1,
+            Tally {
+                count,
                 total: u128::from(score),
                 least: score,
                 greatest: score,
                 first: score,
-            };
+            }
         } else {
-            *self = Tally {
+            Tally {
                 count,
                 total: self.total + u128::from(score),
                 least: self.least.min(score),
                 greatest: self.greatest.max(score),
                 first: self.first,
-            };
+            }
         }
-        Ok(())
     }
 }

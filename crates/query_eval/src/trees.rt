@@ -1,13 +1,10 @@
 //! Joins of trees: scores of roots go to the roots of their parents, or of their children.
 
-ghost use Rattle.std.specs.Prelude.{◌≡◌, ◌<◌, ◌≤◌, ℕ, List, [], ◌++◌, length, map, Option, None, slice_index_or, IfOk, IfSome, OnOk};
-ghost use Rattle.std.specs.List.{All};
-ghost use Rattle.block_bits.specs.Blocks.{documents_of};
+ghost use Rattle.std.specs.Prelude.{◌≡◌, ◌<◌, ◌≤◌, ◌+◌, ◌^◌, ℕ, List, [], ◌++◌, get_or, length, map, Option, None, IfOk, IfSome, OnOk};
 ghost use Rattle.join_ordinals.specs.Ordinals.{AreOrdinals};
 ghost use Rattle.query_ast.specs.Resolved.{IsChildRelation, IsParentRelation};
-ghost use Rattle.query_eval.specs.Folds.{scopes_in};
 ghost use Rattle.query_eval.specs.Found.{AreLong, IsSeen};
-ghost use Rattle.query_eval.specs.Sides.{AreTallies, answer_for, at_roots, children_by, given_by, keys_at, of_roots, parent_by, told, told_by};
+ghost use Rattle.query_eval.specs.Sides.{AreTallies, HaveTallies, answer_for, at_roots, children_by, given_by, keys_at, of_roots, pair_if, parent_by, told, told_by};
 ghost use Rattle.score_math.specs.declared.score.TheConstants.{SCORE_CAP};
 ghost use Rattle.tree_objects.specs.Object.{Object};
 ghost use Rattle.tree_objects.specs.Tree.{Tree};
@@ -15,9 +12,10 @@ ghost use Rattle.tree_objects.specs.Tree.{Tree};
 use crate::NoMemory;
 use crate::answer::{Answer, answer_of};
 use crate::nests::scope_set;
-use crate::side::{Side, key_of};
+use crate::side::{Side, key_of, ordinal_by, takes_part};
 use crate::tally::Tally;
-use block_join::{Builder, Matches, Scored};
+use block_bits::BitSet;
+use block_join::{Builder, Cursor, Matches, Scored};
 use join_ordinals::JoinOrdinals;
 use mapping::Mapping;
 use score_math::ScoreMode;
@@ -113,9 +111,10 @@ fn joined(
     let mut made = Vec::with_capacity(alloc, entries.len())?;
     'entries: for place in 0..entries.len() {
         let segment = entries[place].segment();
-        let keys = keys_of(alloc, mapping, joins, segment, place, to)?;
-        let given = answers(alloc, tallies.as_slice(), keys.as_slice(), answer)?;
-        let scores = at_roots(alloc, segment, given.as_slice())?;
+        let roots = scope_set(alloc, segment, 0)?;
+        let scores = given(
+            alloc, mapping, joins, segment, place, &roots, to, tallies.as_slice(), answer,
+        )?;
         made.push(scores)?;
     }
     Ok(Matches::of(made))
@@ -139,9 +138,10 @@ fn gathered(
     let mut tallies = no_tallies(alloc, joins.count())?;
     'entries: for place in 0..entries.len() {
         let segment = entries[place].segment();
-        let keys = keys_of(alloc, mapping, joins, segment, place, side)?;
-        let scores = of_roots(alloc, segment, &hits[place])?;
-        tell(&mut tallies, keys.as_slice(), scores.as_slice())?;
+        let roots = scope_set(alloc, segment, 0)?;
+        tell(
+            &mut tallies, mapping, joins, segment, place, &roots, side, &hits[place],
+        )?;
     }
     Ok(tallies)
 }
@@ -156,116 +156,114 @@ fn no_tallies(alloc: Global, count: usize) -> Result<Vec<Tally>, NoMemory>
     Ok(tallies)
 }
 
-/// The keys of the roots of an entry.
-fn keys_of(
+/// Adds the scores of an entry's roots to the tallies of their keys. Only of a root with a score the key is looked for.
+fn tell(
+    tallies: &mut Vec<Tally>,
+    mapping: &Mapping,
+    joins: &JoinOrdinals,
+    segment: &Segment,
+    place: usize,
+    roots: &BitSet,
+    side: Side,
+    hits: &Scored,
+) -> Result<(), NoMemory>
+    requires documents { length hits.now ≡ length roots.now }
+    requires keys { HaveTallies joins.now side place (length tallies.old.items) }
+    ensures long { length tallies.new.items ≡ length tallies.old.items }
+    ensures tallies { (pairs : List (ℕ × ℕ)) → AreTallies pairs tallies.old.items
+        → OnOk result (AreTallies (pairs ++ told (keys_at mapping.now joins.now side segment.now place) (of_roots roots.now hits.now)) tallies.new.items) }
+{
+    let mut left = hits.cursor();
+    let mut root = 0;
+    'documents: while let Some(doc) = roots.next_set(left.from()) {
+        let score = take_at(&mut left, doc);
+        let key = key_if(mapping, joins, segment, place, root, side, score);
+        tell_one(tallies, key, score)?;
+        root += 1;
+    }
+    Ok(())
+}
+
+/// The score of a document, if it has one. The cursor goes on behind it.
+#[tactic(auto, using(crate::proofs::Walking::took))]
+fn take_at(left: &mut Cursor, doc: u32) -> Option<u64>
+    requires ordered { left.old.from ≤ doc }
+    requires within { doc < length left.old.scores }
+    requires numbered { length left.old.scores < 2 ^ 32 }
+    ensures value { result ≡ get_or left.old.scores doc None }
+    ensures capped { IfSome result (λ score. score ≤ SCORE_CAP) }
+    ensures place { left.new ≡ record { scores = left.old.scores; from = doc + 1 } }
+{
+    left.skip(doc);
+    left.next_before(doc + 1)
+}
+
+/// The key of a root with a score, if it takes part.
+#[tactic(auto, using(crate::proofs::Telling::pair_nothing, crate::proofs::Telling::pair_here, crate::proofs::Telling::pair_past, crate::proofs::Telling::key_within))]
+fn key_if(
+    mapping: &Mapping,
+    joins: &JoinOrdinals,
+    segment: &Segment,
+    place: usize,
+    root: u32,
+    side: Side,
+    score: Option<u64>,
+) -> Option<u32>
+    ensures pair { pair_if result score ≡ pair_if (get_or (keys_at mapping.now joins.now side segment.now place) root None) score }
+    ensures within { (count : ℕ) → HaveTallies joins.now side place count → IfSome result (λ key. key < count) }
+{
+    if score.is_none() {
+        return None;
+    }
+    if root >= segment.roots() {
+        return None;
+    }
+    key_of(mapping, joins, segment, place, root, side)
+}
+
+/// Adds a score to the tally of its key, where there are both.
+fn tell_one(
+    tallies: &mut Vec<Tally>,
+    key: Option<u32>,
+    score: Option<u64>,
+) -> Result<(), NoMemory>
+    requires key { IfSome key (λ key. key < length tallies.old.items) }
+    requires capped { IfSome score (λ score. score ≤ SCORE_CAP) }
+    ensures long { length tallies.new.items ≡ length tallies.old.items }
+    ensures tallies { (pairs : List (ℕ × ℕ)) → AreTallies pairs tallies.old.items → OnOk result (AreTallies (pairs ++ pair_if key score) tallies.new.items) }
+{
+    let Some(key) = key else {
+        return Ok(());
+    };
+    let Some(score) = score else {
+        return Ok(());
+    };
+    let tally = &mut tallies[key as usize];
+    tally.add(score)?;
+    Ok(())
+}
+
+/// What the roots of an entry are given.
+fn given(
     alloc: Global,
     mapping: &Mapping,
     joins: &JoinOrdinals,
     segment: &Segment,
     place: usize,
+    roots: &BitSet,
     side: Side,
-) -> Result<Vec<Option<u32>>, NoMemory>
-    ensures { IfOk result (λ keys. keys.items ≡ keys_at mapping.now joins.now side segment.now place) }
-{
-    let count = segment.roots();
-    let mut keys = Vec::with_capacity(alloc, count as usize)?;
-    'roots: for root in 0..count {
-        let key = key_of(mapping, joins, segment, place, root, side);
-        keys.push(key)?;
-    }
-    Ok(keys)
-}
-
-/// The scores of the roots of an entry.
-fn of_roots(
-    alloc: Global,
-    segment: &Segment,
-    hits: &Scored,
-) -> Result<Vec<Option<u64>>, NoMemory>
-    requires { length hits.now ≡ segment.now.documents }
-    ensures scores { IfOk result (λ scores. scores.items ≡ of_roots (documents_of (scopes_in segment.now) 0) hits.now) }
-    ensures capped { IfOk result (λ scores. All (λ score. IfSome score (λ score. score ≤ SCORE_CAP)) scores.items) }
-{
-    let roots = scope_set(alloc, segment, 0)?;
-    let mut scores = Vec::with_capacity(alloc, segment.roots() as usize)?;
-    let mut left = hits.cursor();
-    'roots: while let Some(doc) = roots.next_set(left.from()) {
-        left.skip(doc);
-        let score = left.next_before(doc + 1);
-        scores.push(score)?;
-    }
-    Ok(scores)
-}
-
-/// Adds each score to the tally of its key.
-fn tell(
-    tallies: &mut Vec<Tally>,
-    keys: &[Option<u32>],
-    scores: &[Option<u64>],
-) -> Result<(), NoMemory>
-    requires keys { All (λ key. IfSome key (λ key. key < length tallies.old.items)) keys.now }
-    requires capped { All (λ score. IfSome score (λ score. score ≤ SCORE_CAP)) scores.now }
-    ensures long { length tallies.new.items ≡ length tallies.old.items }
-    ensures tallies { (pairs : List (ℕ × ℕ)) → AreTallies pairs tallies.old.items → OnOk result (AreTallies (pairs ++ told keys.now scores.now) tallies.new.items) }
-{
-    let count = keys.len().min(scores.len());
-    'roots: for root in 0..count {
-        if let Some(key) = keys[root] {
-            if let Some(score) = scores[root] {
-                tallies[key as usize].add(score)?;
-            }
-        }
-    }
-    Ok(())
-}
-
-/// What is given to roots with these keys.
-fn answers(
-    alloc: Global,
     tallies: &[Tally],
-    keys: &[Option<u32>],
     answer: Answer,
-) -> Result<Vec<Option<u64>>, NoMemory>
-    requires { All (λ key. IfSome key (λ key. key < length tallies.now)) keys.now }
-    ensures given { (pairs : List (ℕ × ℕ)) → AreTallies pairs tallies.now → IfOk result (λ given. given.items ≡ map (answer_for answer pairs) keys.now) }
-    ensures capped { IfOk result (λ given. All (λ score. IfSome score (λ score. score ≤ SCORE_CAP)) given.items) }
-{
-    let mut given = Vec::with_capacity(alloc, keys.len())?;
-    'keys: for key in keys {
-        let score = answer_at(tallies, *key, answer);
-        given.push(score)?;
-    }
-    Ok(given)
-}
-
-/// What is given to a root with this key.
-fn answer_at(tallies: &[Tally], key: Option<u32>, answer: Answer) -> Option<u64>
-    requires { IfSome key (λ key. key < length tallies.now) }
-    ensures given { (pairs : List (ℕ × ℕ)) → AreTallies pairs tallies.now → result ≡ answer_for answer pairs key }
-    ensures capped { IfSome result (λ score. score ≤ SCORE_CAP) }
-{
-    match key {
-        Some(key) => answer_of(&tallies[key as usize], answer),
-        None => None,
-    }
-}
-
-/// Scores of roots as scores of documents.
-fn at_roots(
-    alloc: Global,
-    segment: &Segment,
-    given: &[Option<u64>],
 ) -> Result<Scored, NoMemory>
-    requires { All (λ score. IfSome score (λ score. score ≤ SCORE_CAP)) given.now }
-    ensures scores { IfOk result (λ scores. scores ≡ at_roots (documents_of (scopes_in segment.now) 0) given.now) }
-    ensures long { IfOk result (λ scores. length scores ≡ segment.now.documents) }
+    requires { HaveTallies joins.now side place (length tallies.now) }
+    ensures scores { (pairs : List (ℕ × ℕ)) → AreTallies pairs tallies.now → IfOk result (λ scores. scores ≡ at_roots roots.now (map (answer_for answer pairs) (keys_at mapping.now joins.now side segment.now place))) }
+    ensures long { IfOk result (λ scores. length scores ≡ length roots.now) }
 {
-    let roots = scope_set(alloc, segment, 0)?;
     let mut hits = Builder::empty(alloc, roots.len())?;
     let mut from = 0;
     let mut root = 0;
-    'roots: while let Some(doc) = roots.next_set(from) {
-        let score = score_at(given, root);
+    'documents: while let Some(doc) = roots.next_set(from) {
+        let score = given_to(mapping, joins, segment, place, root, side, tallies, answer);
         hits.put(doc, score)?;
         root += 1;
         from = doc + 1;
@@ -273,14 +271,34 @@ fn at_roots(
     Ok(hits.finish())
 }
 
-/// The score of a root, if there is one.
-fn score_at(given: &[Option<u64>], root: usize) -> Option<u64>
-    requires { All (λ score. IfSome score (λ score. score ≤ SCORE_CAP)) given.now }
-    ensures value { result ≡ slice_index_or given.now root None }
+/// What a root is given. Its join value is read only where its ordinal has scores.
+#[tactic(auto, using(crate::proofs::Telling::given_past, crate::proofs::Telling::given_none, crate::proofs::Telling::given_nothing, crate::proofs::Telling::given_off, crate::proofs::Telling::given_some))]
+fn given_to(
+    mapping: &Mapping,
+    joins: &JoinOrdinals,
+    segment: &Segment,
+    place: usize,
+    root: u32,
+    side: Side,
+    tallies: &[Tally],
+    answer: Answer,
+) -> Option<u64>
+    requires { HaveTallies joins.now side place (length tallies.now) }
+    ensures given { (pairs : List (ℕ × ℕ)) → AreTallies pairs tallies.now → result ≡ get_or (map (answer_for answer pairs) (keys_at mapping.now joins.now side segment.now place)) root None }
     ensures capped { IfSome result (λ score. score ≤ SCORE_CAP) }
 {
-    match given.get(root) {
-        Some(score) => *score,
-        None => None,
+    if root >= segment.roots() {
+        return None;
+    }
+    let Some(ordinal) = ordinal_by(joins, place, root, side) else {
+        return None;
+    };
+    let Some(score) = answer_of(&tallies[ordinal as usize], answer) else {
+        return None;
+    };
+    if takes_part(mapping, segment, root, side) {
+        Some(score)
+    } else {
+        None
     }
 }
