@@ -75,12 +75,16 @@ fn found(
         Query::ConstantScore { filter, boost } => {
             Ok(constant(alloc, entries, mapping, ordinals, filter, *boost, scope)?)
         }
-        Query::DisMax { queries } => Ok(greatest(alloc, entries, mapping, ordinals, queries, scope)?),
+        Query::DisMax { queries } => Ok(greatest(
+            alloc, entries, mapping, ordinals, queries, scope,
+        )?),
         Query::Nested {
             scope: path,
             query,
             mode,
-        } => Ok(nested(alloc, entries, mapping, ordinals, *path, query, *mode, scope)?),
+        } => Ok(nested(
+            alloc, entries, mapping, ordinals, *path, query, *mode, scope,
+        )?),
         Query::ToChild { scope: path, query } => {
             Ok(to_child(alloc, entries, mapping, ordinals, *path, query, scope)?)
         }
@@ -297,9 +301,23 @@ fn bool_of(
     ensures { IfOk result (IsFound mapping.now entries.now scope (bool_clause (clauses_of must.now) (clauses_of filter.now) (clauses_of should.now) (clauses_of must_not.now) least)) }
 {
     if no_clauses(must, filter, should, must_not) {
-        return Ok(leaves(alloc, entries, mapping, &Query::MatchAll { boost: 1 }, scope, 1)?);
+        return Ok(leaves(
+            alloc,
+            entries,
+            mapping,
+            &Query::MatchAll { boost: 1 },
+            scope,
+            1,
+        )?);
     }
-    let all = leaves(alloc, entries, mapping, &Query::MatchAll { boost: 1 }, scope, 0)?;
+    let all = leaves(
+        alloc,
+        entries,
+        mapping,
+        &Query::MatchAll { boost: 1 },
+        scope,
+        0,
+    )?;
     let hits = folded(
         alloc,
         entries,
@@ -345,14 +363,7 @@ fn bool_of(
         )?)
     } else {
         Ok(asked(
-            alloc,
-            entries,
-            mapping,
-            ordinals,
-            should,
-            hits,
-            wanted,
-            scope,
+            alloc, entries, mapping, ordinals, should, hits, wanted, scope,
         )?)
     }
 }

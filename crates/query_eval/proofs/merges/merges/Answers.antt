@@ -28,14 +28,14 @@ entries-preserved c =
     let one_at = c.index-ones-at.is ∙ ap (λ (l : List Scores). get_or l c.entries.at c.index-ones-at.result) c.as_slice-ones.ensures in
     let other_at = c.index-others-at.is ∙ ap (λ (l : List Scores). get_or l c.entries.at c.index-others-at.result) c.as_slice-others.ensures in (
       entry_step c.args.entries.now c.entries.at e c.entries.made.items c.push.new.self.items c.in_ok-scores.scores at below c.entries.invariant.0
-      (c.in_ok-scores.ensures.long ∙ own_long c.args.entries.now c.entries.at e c.args.one.now c.index-ones-at.result c.requires.one below at one_at) c.in_ok-push.ensures.items,
+          (c.in_ok-scores.ensures.long ∙ own_long c.args.entries.now c.entries.at e c.args.one.now c.index-ones-at.result c.requires.one below at one_at) c.in_ok-push.ensures.items,
       λ m n first second one other.
-      done_step m c.args.entries.now n (paired_by c.args.rule first second) c.entries.at e c.entries.made.items c.push.new.self.items c.in_ok-scores.scores (c.entries.invariant.1 m n first second one other) below at c.in_ok-push.ensures.items
-      (λ trees stands here.
-      c.in_ok-scores.ensures.scores
-      ∙ ap (λ (s : Scores). paired (put_together c.args.rule) s c.index-others-at.result) (own_seen m c.args.entries.now n first c.args.one.now trees c.entries.at c.index-ones-at.result one stands below one_at)
-      ∙ ap (paired (put_together c.args.rule) (own_scores m n first trees (get_or trees c.entries.at []))) (own_seen m c.args.entries.now n second c.args.other.now trees c.entries.at c.index-others-at.result other stands below other_at)
-      ∙ seen_paired m n c.args.rule (first (live_trees trees)) (second (live_trees trees)) (get_or trees c.entries.at [])),
+          done_step m c.args.entries.now n (paired_by c.args.rule first second) c.entries.at e c.entries.made.items c.push.new.self.items c.in_ok-scores.scores (c.entries.invariant.1 m n first second one other) below at c.in_ok-push.ensures.items
+          (λ trees stands here.
+          c.in_ok-scores.ensures.scores
+          ∙ ap (λ (s : Scores). paired (put_together c.args.rule) s c.index-others-at.result) (own_seen m c.args.entries.now n first c.args.one.now trees c.entries.at c.index-ones-at.result one stands below one_at)
+          ∙ ap (paired (put_together c.args.rule) (own_scores m n first trees (get_or trees c.entries.at []))) (own_seen m c.args.entries.now n second c.args.other.now trees c.entries.at c.index-others-at.result other stands below other_at)
+          ∙ seen_paired m n c.args.rule (first (live_trees trees)) (second (live_trees trees)) (get_or trees c.entries.at [])),
     )
 
 pub returns-clause-long : goal.returns-clause-long

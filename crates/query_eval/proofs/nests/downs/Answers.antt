@@ -20,13 +20,13 @@ entries-preserved c =
     let below : c.entries.at < length c.args.entries.now = omega (arith, c.entries-test.true) in
     let e = c.index-entries-at.result in (
       entry_step c.args.entries.now c.entries.at e c.entries.made.items c.push.new.self.items c.in_ok-scores.scores c.index-entries-at.is below c.entries.invariant.0
-      (c.in_ok-scores.ensures.long ∙ ap (λ (x : Columns). x.documents) c.segment.ensures) c.in_ok-push.ensures.items,
+          (c.in_ok-scores.ensures.long ∙ ap (λ (x : Columns). x.documents) c.segment.ensures) c.in_ok-push.ensures.items,
       λ m given above is.
-      done_step m c.args.entries.now c.args.to (around_by c.args.from given) c.entries.at e c.entries.made.items c.push.new.self.items c.in_ok-scores.scores (c.entries.invariant.1 m given above is) below c.index-entries-at.is c.in_ok-push.ensures.items
-      (λ trees stands here.
-      c.in_ok-scores.ensures.seen m e.live (get_or trees c.entries.at []) (given (live_trees trees))
-      (subst (λ (x : Columns). EntryStandsFor m x e.live (get_or trees c.entries.at [])) (sym c.segment.ensures) here) above
-      (own_seen m c.args.entries.now c.args.from given c.args.hits.now trees c.entries.at c.index-hits-at.result is stands below (c.index-hits-at.is ∙ ap (λ (l : List Scores). get_or l c.entries.at c.index-hits-at.result) c.as_slice-hits.ensures))),
+          done_step m c.args.entries.now c.args.to (around_by c.args.from given) c.entries.at e c.entries.made.items c.push.new.self.items c.in_ok-scores.scores (c.entries.invariant.1 m given above is) below c.index-entries-at.is c.in_ok-push.ensures.items
+          (λ trees stands here.
+          c.in_ok-scores.ensures.seen m e.live (get_or trees c.entries.at []) (given (live_trees trees))
+          (subst (λ (x : Columns). EntryStandsFor m x e.live (get_or trees c.entries.at [])) (sym c.segment.ensures) here) above
+          (own_seen m c.args.entries.now c.args.from given c.args.hits.now trees c.entries.at c.index-hits-at.result is stands below (c.index-hits-at.is ∙ ap (λ (l : List Scores). get_or l c.entries.at c.index-hits-at.result) c.as_slice-hits.ensures))),
     )
 
 pub returns-clause-long : goal.returns-clause-long
