@@ -164,7 +164,7 @@ pub folded-returns-in_ok-folded-in-len1-up-clause-seen : goal.folded-returns-in_
 folded-returns-in_ok-folded-in-len1-up-clause-seen t c = λ given is.
     let m = c.args.mapping.now in
     let own = score_by m (clause_of c.query-item.result) in
-    subst (λ (cs : Clauses). IsSeen m c.args.entries.now c.args.scope (folded_by c.args.rule m cs given) c.in_ok-folded-in-len1-up.field-0) (sym (clauses_parts c.args.queries.now c.query-item.result c.in-len1-up.len_at_least c.query-item.is))
+    subst (λ (cs : Clauses). IsSeen m c.args.entries.now c.args.scope (folded_by c.args.rule m cs given) c.in_ok-folded-in-len1-up.field-0) (sym (clauses_parts c.args.queries.now c.query-item.result (omega (arith, c.in-len1-up.len_at_least)) c.query-item.is))
     (c.in_ok-folded-in-len1-up.ensures.seen (paired_by c.args.rule given own) (c.in_ok-hits-in-len1-up.ensures.seen m c.args.scope given own is c.in_ok-own-in-len1-up.ensures))
 
 pub asked-returns-then-is_nothing : goal.asked-returns-then-is_nothing
@@ -198,12 +198,12 @@ pub tallied-returns-in_ok-tallied-in-len1-up-clause-sums : goal.tallied-returns-
 tallied-returns-in_ok-tallied-in-len1-up-clause-sums t c = λ given is.
     let m = c.args.mapping.now in
     let own = score_by m (clause_of c.query-item.result) in
-    subst (λ (cs : Clauses). IsSeen m c.args.entries.now c.args.scope (folded_by Either m cs given) c.in_ok-tallied-in-len1-up.field-0.0) (sym (clauses_parts c.args.queries.now c.query-item.result c.in-len1-up.len_at_least c.query-item.is))
+    subst (λ (cs : Clauses). IsSeen m c.args.entries.now c.args.scope (folded_by Either m cs given) c.in_ok-tallied-in-len1-up.field-0.0) (sym (clauses_parts c.args.queries.now c.query-item.result (omega (arith, c.in-len1-up.len_at_least)) c.query-item.is))
     (c.in_ok-tallied-in-len1-up.ensures.sums (paired_by Either given own) (c.in_ok-sums-in-len1-up.ensures.seen m c.args.scope given own is c.in_ok-own-in-len1-up.ensures))
 
 pub tallied-returns-in_ok-tallied-in-len1-up-clause-counts : goal.tallied-returns-in_ok-tallied-in-len1-up-clause-counts
 tallied-returns-in_ok-tallied-in-len1-up-clause-counts t c = λ given is.
     let m = c.args.mapping.now in
     let own = score_by m (clause_of c.query-item.result) in
-    subst (λ (cs : Clauses). IsSeen m c.args.entries.now c.args.scope (folded_by Counted m cs given) c.in_ok-tallied-in-len1-up.field-0.1) (sym (clauses_parts c.args.queries.now c.query-item.result c.in-len1-up.len_at_least c.query-item.is))
+    subst (λ (cs : Clauses). IsSeen m c.args.entries.now c.args.scope (folded_by Counted m cs given) c.in_ok-tallied-in-len1-up.field-0.1) (sym (clauses_parts c.args.queries.now c.query-item.result (omega (arith, c.in-len1-up.len_at_least)) c.query-item.is))
     (c.in_ok-tallied-in-len1-up.ensures.counts (paired_by Counted given own) (c.in_ok-counts-in-len1-up.ensures.seen m c.args.scope given own is c.in_ok-own-in-len1-up.ensures))
