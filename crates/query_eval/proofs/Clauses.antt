@@ -1,9 +1,11 @@
 -- What the evaluation of each kind of clause gives is what the clause means.
 use Rattle.std.proofs.Common.{◌≡◌, ◌≢◌, ℕ, zero, suc, ◌+◌, ◌<◌, ◌≤◌, Bool, true, false, ◌&&◌, cond, List, [], ◌∷◌, length, map, drop, get_or, filter_map, Option, Some, None, refl, sym, ap, subst, ◌∙◌, arith}
+use Rattle.std.specs.Prelude.{IsSome}
 use Rattle.std.specs.List.{list_all}
 use Rattle.block_join.specs.Merge.{put_together}
 use Rattle.block_join.specs.declared.rule.Rule.{Rule}
 use Rattle.block_join.specs.declared.rule.Rule.TheVariants.{Both, Kept, Without, Plus, Either, Greatest, Counted, AtLeast}
+use Rattle.leaf_search.specs.Found.{leaf_of}
 use Rattle.mapping.specs.Mapping.{Mapping}
 use Rattle.query_ast.specs.Clause.{Clause, Clauses, clause, no_clauses, clauses_of, clause_size, Leaf, match_all, match_none, leaf, bool, constant_score, dis_max, nested, to_child, has_child, has_parent}
 use Rattle.query_ast.specs.Clause.View.{clause_of}
@@ -11,15 +13,17 @@ use Rattle.query_ast.specs.declared.query.Query.{Query}
 use Rattle.query_ast.specs.Hit.{hit, hit_each, scores, wanted, bool_score, boosted, children_score, parent_score}
 use Rattle.query_ast.specs.Joined.{child_trees, parent_trees, roots}
 use Rattle.query_ast.specs.Leaf.{leaf_holds}
+use Rattle.query_ast.specs.Resolved.{IsLeaf, IsResolved}
 use Rattle.score_math.specs.Scores.{mode_of}
 use Rattle.score_math.specs.declared.score.ScoreMode.{ScoreMode}
 use Rattle.score_math.specs.declared.score.TheConstants.{SCORE_CAP}
 use Rattle.segment.specs.Live.{EntryState}
 use Rattle.tree_objects.specs.Object.{Object, inside, root, scope}
 use Rattle.tree_objects.specs.Tree.{Tree}
-use Rattle.query_eval.specs.Folds.{asked_by, asked_score, folded, folded_by, have_none, is_empty, leaf_score, narrows, paired_by, wanted_of, whatever}
+use Rattle.query_eval.specs.Folds.{asked_by, asked_score, boost_in, folded, folded_by, have_none, is_empty, leaf_score, narrows, paired_by, wanted_of, whatever}
 use Rattle.query_eval.specs.Found.{IsFound, IsSeen, score_by}
 use Rattle.query_eval.specs.Nested.{around_by, below_by}
+use Rattle.query_eval.specs.Sides.{children_by, parent_by}
 use Rattle.query_eval.proofs.Bools.{required, bool_asked, plus_asked, one_asked, many_asked, few_scores, fold_greatest, folded_none}
 use Rattle.query_eval.proofs.Entries.{Scores}
 use Rattle.query_eval.proofs.Joined.{no_children}
@@ -36,6 +40,15 @@ clause_some (nested n c mode) = omega arith
 clause_some (to_child n c) = omega arith
 clause_some (has_child r c mode least most) = omega arith
 clause_some (has_parent r c score boost) = omega arith
+
+-- ---- whether there are clauses
+
+pub some_clauses : (a b c d : Bool) → (a && (b && (c && d))) ≡ false → a ≡ true → b ≡ true → c ≡ true → d ≡ true → ⊥
+some_clauses true true true true no must filter should must_not = let none : ⊥ = cc in none
+some_clauses true true true false no must filter should must_not = let none : ⊥ = cc in none
+some_clauses true true false d no must filter should must_not = let none : ⊥ = cc in none
+some_clauses true false c d no must filter should must_not = let none : ⊥ = cc in none
+some_clauses false b c d no must filter should must_not = let none : ⊥ = cc in none
 
 -- ---- the first query of some and the others
 
@@ -56,6 +69,17 @@ none_holds m score o = refl
 module _ (m : Mapping) (view : List EntryState) (n : ℕ) where
   pub found_leaf : (l : Leaf) (boost : ℕ) (made : List Scores) → IsSeen m view n (whatever (leaf_score m l boost)) made → IsFound m view n (leaf l boost) made
   found_leaf l boost made is = seen_alike m view n (whatever (leaf_score m l boost)) (score_by m (leaf l boost)) made (λ live o here. refl) is
+
+  pub found_of_leaf : (c : Clause) (score : ℕ) (made : List Scores) → score ≡ boost_in c → IsSome (leaf_of c) → IsResolved m n c → ((l : Leaf) → leaf_of c ≡ Some l → IsLeaf m l → IsSeen m view n (whatever (leaf_score m l score)) made) → IsFound m view n c made
+  found_of_leaf (leaf l boost) score made same some resolved seen =
+      found_leaf l boost made (subst (λ (k : ℕ). IsSeen m view n (whatever (leaf_score m l k)) made) same (seen l refl resolved.0))
+  found_of_leaf (bool must filter should must_not least) score made same some resolved seen = absurd (let no : ⊥ = cc in no)
+  found_of_leaf (constant_score c boost) score made same some resolved seen = absurd (let no : ⊥ = cc in no)
+  found_of_leaf (dis_max cs) score made same some resolved seen = absurd (let no : ⊥ = cc in no)
+  found_of_leaf (nested p c mode) score made same some resolved seen = absurd (let no : ⊥ = cc in no)
+  found_of_leaf (to_child p c) score made same some resolved seen = absurd (let no : ⊥ = cc in no)
+  found_of_leaf (has_child r c mode least most) score made same some resolved seen = absurd (let no : ⊥ = cc in no)
+  found_of_leaf (has_parent p c given boost) score made same some resolved seen = absurd (let no : ⊥ = cc in no)
 
   -- a clause that hits nothing
   pub found_none : (c : Clause) (made : List Scores) → ((live : List Tree) (o : Object) → scope o ≡ n → hit m live c o ≡ None) → IsSeen m view n (whatever (leaf_score m match_none 0)) made → IsFound m view n c made
@@ -117,6 +141,12 @@ module _ (m : Mapping) (view : List EntryState) (n : ℕ) where
   found_down p c made is = seen_alike m view n (around_by p (score_by m c)) (score_by m (to_child (Some p) c)) made (λ live o here. refl) is
 
   -- ---- joins of trees, of which no object inside a tree has any
+
+  pub found_children : (r : ℕ) (c : Clause) (mode : ScoreMode) (least : ℕ) (most : Option ℕ) (made : List Scores) → IsSeen m view n (children_by m r mode least most (score_by m c)) made → IsFound m view n (has_child (Some r) c mode least most) made
+  found_children r c mode least most made is = seen_alike m view n (children_by m r mode least most (score_by m c)) (score_by m (has_child (Some r) c mode least most)) made (λ live o here. refl) is
+
+  pub found_parent : (p : ℕ) (c : Clause) (score : Bool) (boost : ℕ) (made : List Scores) → IsSeen m view n (parent_by m p score boost (score_by m c)) made → IsFound m view n (has_parent (Some p) c score boost) made
+  found_parent p c score boost made is = seen_alike m view n (parent_by m p score boost (score_by m c)) (score_by m (has_parent (Some p) c score boost)) made (λ live o here. refl) is
 
   childless : (live : List Tree) (r : ℕ) (o : Object) → scope o ≢ 0 → child_trees m live r o ≡ []
   unfolding child_trees

@@ -124,6 +124,12 @@ long_so_far view k d made new long below own =
 pub long_whole : (view : List EntryState) (k : ℕ) (made : List Scores) → AreLong (take k view) made → length view ≤ k → AreLong view made
 long_whole view k made long past = subst (λ (l : List EntryState). AreLong l made) (take_whole view k past) long
 
+-- an entry at a place
+pub entry_at : (view : List EntryState) (k : ℕ) → k < length view → (e : EntryState) × (e ≡ get_or view k e)
+entry_at [] k below = absurd (omega (arith, below))
+entry_at (e ∷ view) zero below = (e, refl)
+entry_at (e ∷ view) (suc k) below = entry_at view k (omega (arith, below))
+
 -- ---- one entry more, as a loop makes it
 
 pub entry_step : (view : List EntryState) (k : ℕ) (e : EntryState) (made items : List Scores) (new : Scores) → e ≡ get_or view k e → k < length view → AreLong (take k view) made → length new ≡ e.columns.documents → items ≡ made ++ new ∷ []

@@ -34,6 +34,17 @@ set_is c n flags long each =
     ∙ sym (map-map (λ (d : FlatDocument). nat_eq d.scope n) (flat_of c) (range_with_len 0 c.documents))
     ∙ sym (map-map (has_scope n) scope_in (flats_of c))
 
+any_default : {A : Type 0} (xs : List A) (k : ℕ) (d e : A) → k < length xs → get_or xs k d ≡ get_or xs k e
+any_default [] k d e below = absurd (omega (arith, below))
+any_default (x ∷ xs) zero d e below = refl
+any_default (x ∷ xs) (suc k) d e below = any_default xs k d e (omega (arith, below))
+
+-- the set of a scope that is there
+pub set_at : (c : Columns) (n : ℕ) (sets : List (List Bool)) (flags made : List Bool) → n < length c.scopes → sets ≡ c.scopes → flags ≡ get_or sets n flags → made ≡ flags → length (get_or c.scopes n []) ≡ c.documents
+    → ((doc : ℕ) → doc < c.documents → get_or (get_or c.scopes n []) doc false ≡ nat_eq (flat_of c doc).scope n) → made ≡ documents_of (scopes_in c) n
+set_at c n sets flags made below same at is long each =
+    is ∙ at ∙ ap (λ (l : List (List Bool)). get_or l n flags) same ∙ any_default c.scopes n flags [] below ∙ set_is c n (get_or c.scopes n []) long each
+
 off_at : (k doc : ℕ) → get_or (replicate k false) doc false ≡ false
 off_at zero doc = refl
 off_at (suc k) zero = refl

@@ -1,6 +1,6 @@
 //! What a query finds in a view.
 
-ghost use Rattle.std.specs.Prelude.{◌≡◌, ◌≤◌, ℕ, true, List, Option, length, map, IfOk};
+ghost use Rattle.std.specs.Prelude.{◌≡◌, ◌≤◌, ◌&&◌, ℕ, true, List, Option, length, map, IfOk};
 ghost use Rattle.block_join.specs.declared.rule.Rule.{Rule};
 ghost use Rattle.join_ordinals.specs.Ordinals.{AreOrdinals};
 ghost use Rattle.query_ast.specs.Clause.{bool as bool_clause, clauses_of, constant_score, dis_max, has_child, has_parent, nested, to_child};
@@ -75,12 +75,16 @@ fn found(
         Query::ConstantScore { filter, boost } => {
             Ok(constant(alloc, entries, mapping, ordinals, filter, *boost, scope)?)
         }
-        Query::DisMax { queries } => Ok(greatest(alloc, entries, mapping, ordinals, queries, scope)?),
+        Query::DisMax { queries } => Ok(greatest(
+            alloc, entries, mapping, ordinals, queries, scope,
+        )?),
         Query::Nested {
             scope: path,
             query,
             mode,
-        } => Ok(nested(alloc, entries, mapping, ordinals, *path, query, *mode, scope)?),
+        } => Ok(nested(
+            alloc, entries, mapping, ordinals, *path, query, *mode, scope,
+        )?),
         Query::ToChild { scope: path, query } => {
             Ok(to_child(alloc, entries, mapping, ordinals, *path, query, scope)?)
         }
@@ -296,10 +300,24 @@ fn bool_of(
     requires joined { joins (bool_clause (clauses_of must.now) (clauses_of filter.now) (clauses_of should.now) (clauses_of must_not.now) least) ≡ true → AreOrdinals entries.now ordinals.now }
     ensures { IfOk result (IsFound mapping.now entries.now scope (bool_clause (clauses_of must.now) (clauses_of filter.now) (clauses_of should.now) (clauses_of must_not.now) least)) }
 {
-    if no_queries(must) && no_queries(filter) && no_queries(should) && no_queries(must_not) {
-        return Ok(leaves(alloc, entries, mapping, &Query::MatchAll { boost: 1 }, scope, 1)?);
+    if no_clauses(must, filter, should, must_not) {
+        return Ok(leaves(
+            alloc,
+            entries,
+            mapping,
+            &Query::MatchAll { boost: 1 },
+            scope,
+            1,
+        )?);
     }
-    let all = leaves(alloc, entries, mapping, &Query::MatchAll { boost: 1 }, scope, 0)?;
+    let all = leaves(
+        alloc,
+        entries,
+        mapping,
+        &Query::MatchAll { boost: 1 },
+        scope,
+        0,
+    )?;
     let hits = folded(
         alloc,
         entries,
@@ -331,27 +349,21 @@ fn bool_of(
         scope,
     )?;
     let wanted = wanted(least, must, filter, should);
+    let should = should.as_slice();
     if wanted == 0 {
         Ok(folded(
             alloc,
             entries,
             mapping,
             ordinals,
-            should.as_slice(),
+            should,
             hits,
             Rule::Plus,
             scope,
         )?)
     } else {
         Ok(asked(
-            alloc,
-            entries,
-            mapping,
-            ordinals,
-            should.as_slice(),
-            hits,
-            wanted,
-            scope,
+            alloc, entries, mapping, ordinals, should, hits, wanted, scope,
         )?)
     }
 }
@@ -484,6 +496,18 @@ fn wanted(least: Option<u64>, must: &QueryList, filter: &QueryList, should: &Que
             0
         },
     }
+}
+
+/// Whether a `bool` has no clause at all.
+fn no_clauses(
+    must: &QueryList,
+    filter: &QueryList,
+    should: &QueryList,
+    must_not: &QueryList,
+) -> bool
+    ensures { result ≡ (is_empty must.now && (is_empty filter.now && (is_empty should.now && is_empty must_not.now))) }
+{
+    no_queries(must) && no_queries(filter) && no_queries(should) && no_queries(must_not)
 }
 
 fn no_queries(queries: &QueryList) -> bool

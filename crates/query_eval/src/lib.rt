@@ -6,8 +6,8 @@
 #![tactic(auto)]
 
 mod answer;
-mod leaves;
 mod evaluation;
+mod leaves;
 mod merges;
 mod nests;
 mod no_memory;

@@ -34,7 +34,10 @@ pub(crate) fn is_nothing(hits: &Matches) -> bool
 fn have_none(scores: &Scored) -> bool
     ensures { result ≡ have_none scores.now }
 {
-    scores.set().next_set(0).is_none()
+    match scores.set().next_set(0) {
+        Some(_) => false,
+        None => true,
+    }
 }
 
 /// Whether a document without a first score gets none.
