@@ -1,5 +1,5 @@
 -- What the evaluation of each kind of clause gives is what the clause means.
-use Rattle.std.proofs.Common.{◌≡◌, ◌≢◌, ℕ, zero, suc, ◌+◌, ◌<◌, ◌≤◌, Bool, true, false, ◌&&◌, cond, List, [], ◌∷◌, length, map, drop, get_or, filter_map, Option, Some, None, refl, sym, ap, subst, ◌∙◌, arith}
+use Rattle.std.proofs.Common.{◌≡◌, ◌≢◌, ℕ, zero, suc, ◌+◌, ◌<◌, ◌≤◌, Bool, true, false, ◌&&◌, ◌||◌, cond, List, [], ◌∷◌, length, map, drop, get_or, filter_map, Option, Some, None, refl, sym, ap, subst, ◌∙◌, arith}
 use Rattle.std.specs.Prelude.{IsSome}
 use Rattle.std.specs.List.{list_all}
 use Rattle.block_join.specs.Merge.{put_together}
@@ -7,13 +7,14 @@ use Rattle.block_join.specs.declared.rule.Rule.{Rule}
 use Rattle.block_join.specs.declared.rule.Rule.TheVariants.{Both, Kept, Without, Plus, Either, Greatest, Counted, AtLeast}
 use Rattle.leaf_search.specs.Found.{leaf_of}
 use Rattle.mapping.specs.Mapping.{Mapping}
-use Rattle.query_ast.specs.Clause.{Clause, Clauses, clause, no_clauses, clauses_of, clause_size, Leaf, match_all, match_none, leaf, bool, constant_score, dis_max, nested, to_child, has_child, has_parent}
+use Rattle.query_ast.specs.Clause.{Clause, Clauses, clause, no_clauses, clauses_of, clause_size, clauses_size, Leaf, match_all, match_none, leaf, bool, constant_score, dis_max, nested, to_child, has_child, has_parent}
 use Rattle.query_ast.specs.Clause.View.{clause_of}
 use Rattle.query_ast.specs.declared.query.Query.{Query}
 use Rattle.query_ast.specs.Hit.{hit, hit_each, scores, wanted, bool_score, boosted, children_score, parent_score}
+use Rattle.query_ast.specs.Joins.{joins, some_join}
 use Rattle.query_ast.specs.Joined.{child_trees, parent_trees, roots}
 use Rattle.query_ast.specs.Leaf.{leaf_holds}
-use Rattle.query_ast.specs.Resolved.{IsLeaf, IsResolved}
+use Rattle.query_ast.specs.Resolved.{AreResolved, IsLeaf, IsResolved}
 use Rattle.score_math.specs.Scores.{mode_of}
 use Rattle.score_math.specs.declared.score.ScoreMode.{ScoreMode}
 use Rattle.score_math.specs.declared.score.TheConstants.{SCORE_CAP}
@@ -55,6 +56,22 @@ some_clauses false b c d no must filter should must_not = let none : ⊥ = cc in
 pub clauses_parts : (qs : List Query) (q : Query) → 0 < length qs → q ≡ get_or qs 0 q → clauses_of (map clause_of qs) ≡ clause (clause_of q) (clauses_of (map clause_of (drop 1 qs)))
 clauses_parts [] q some is = absurd (omega (arith, some))
 clauses_parts (x ∷ qs) q some is = ap (λ (y : Query). clause (clause_of y) (clauses_of (map clause_of qs))) (sym is)
+
+pub rest_size : (qs : List Query) → 0 < length qs → clauses_size (clauses_of (map clause_of (drop 1 qs))) < clauses_size (clauses_of (map clause_of qs))
+rest_size [] some = absurd (omega (arith, some))
+rest_size (x ∷ qs) some = omega (arith, clause_some (clause_of x))
+
+pub rest_resolved : (m : Mapping) (n : ℕ) (qs : List Query) → AreResolved m n (clauses_of (map clause_of qs)) → AreResolved m n (clauses_of (map clause_of (drop 1 qs)))
+rest_resolved m n [] resolved = resolved
+rest_resolved m n (x ∷ qs) resolved = resolved.1
+
+or_right : (a b : Bool) → b ≡ true → (a || b) ≡ true
+or_right true b is = refl
+or_right false b is = is
+
+pub rest_joins : (qs : List Query) → some_join (clauses_of (map clause_of (drop 1 qs))) ≡ true → some_join (clauses_of (map clause_of qs)) ≡ true
+rest_joins [] is = is
+rest_joins (x ∷ qs) is = or_right (joins (clause_of x)) (some_join (clauses_of (map clause_of qs))) is
 
 -- ---- the leaves that begin a fold
 
