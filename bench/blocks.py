@@ -1,0 +1,232 @@
+#!/usr/bin/env python3
+"""How long blocks take beside reading the same lines as JSON, in processor time.
+
+It puts a program into a copy of `crates`, which `rt` (on the path) proves and builds, and runs it over made sources:
+products with up to three offers, each of up to two stocks. A round reads each line (`read`), reads it and looks for
+faults (`faults`), or reads it and makes its block (`block`). The three go by turns, five times, and the best of each counts.
+
+    python3 bench/blocks.py [TREES [WORK]]      # 100,000 trees; the copy is made in the folder WORK
+"""
+import os
+import shutil
+import subprocess
+import sys
+import tempfile
+
+PROGRAM = r'''//! Reads the lines of the standard input as often as the first line says, in the way that it says.
+#![tactic(auto)]
+
+use flattener::block;
+use mapping::Mapping;
+use std::alloc::{AllocError, AllocFailed, Global};
+use std::io;
+use std::io::Read;
+use std::time::CpuClock;
+use tree_json::{Json, JsonReader, compact_len, read};
+use tree_objects::first_fault;
+
+const FIELDS: &str =
+    r#"{"properties":{"name":{"type":"text"},"offers":{"type":"nested","properties":{"color":{"type":"keyword"},"price":{"type":"long"},"stock":{"type":"nested","properties":{"n":{"type":"long"},"site":{"type":"keyword"}}}}},"rel":{"type":"join","relations":{"question":"answer"}}}}"#;
+
+/// Why there is no measurement.
+#[derive(Debug, Drop)]
+enum Fault {
+    Memory,
+    Mapping,
+    Io(io::Error),
+}
+
+impl From<AllocError> for Fault {
+    fn from(_: AllocError) -> Fault {
+        Fault::Memory
+    }
+}
+
+impl<T: Drop> From<AllocFailed<T>> for Fault {
+    fn from(_: AllocFailed<T>) -> Fault {
+        Fault::Memory
+    }
+}
+
+impl From<io::Error> for Fault {
+    fn from(error: io::Error) -> Fault {
+        Fault::Io(error)
+    }
+}
+
+/// What is done with each line.
+#[derive(Clone, Copy)]
+enum Work {
+    Read,
+    Faults,
+    Block,
+}
+
+fn faults(alloc: Global, mapping: &Mapping, source: &Json) -> u64 {
+    match first_fault(alloc, mapping, 1, source) {
+        Ok(None) => 1,
+        _ => 0,
+    }
+}
+
+fn documents(alloc: Global, mapping: &Mapping, source: &Json) -> u64 {
+    let Json::Object(_) = source else {
+        return 0;
+    };
+    if compact_len(source) > 16_777_216 || mapping.generation() < 1 {
+        return 0;
+    }
+    match block(alloc, mapping, 1, source, b"1", 0) {
+        Ok(block) => block.documents.len() as u64,
+        Err(_) => 0,
+    }
+}
+
+fn done(alloc: Global, work: Work, mapping: &Mapping, reader: &mut JsonReader, line: &[u8]) -> u64 {
+    match reader.read(alloc, line) {
+        Ok(source) => match work {
+            Work::Read => 1,
+            Work::Faults => faults(alloc, mapping, &source),
+            Work::Block => documents(alloc, mapping, &source),
+        },
+        Err(_) => 0,
+    }
+}
+
+/// The place of the first newline, or the length.
+fn line_end(text: &[u8]) -> usize {
+    for at in 0..text.len() {
+        if text[at] == b'\n' {
+            return at;
+        }
+    }
+    text.len()
+}
+
+fn round(alloc: Global, work: Work, mapping: &Mapping, text: &[u8]) -> u64 {
+    let mut reader = JsonReader::new(alloc);
+    let mut sum = 0u64;
+    let mut rest = text;
+    for _ in 0..u64::MAX {
+        let at = line_end(rest);
+        if at >= rest.len() {
+            break;
+        }
+        let line = rest.split_at(at).0;
+        sum = sum.wrapping_add(done(alloc, work, mapping, &mut reader, line));
+        rest = rest.split_at(at + 1).1;
+    }
+    sum
+}
+
+/// The microseconds of processor time so far.
+fn spent<R: CpuClock>(rt: &R) -> Result<u64, Fault> {
+    let now = rt.thread_cpu_time()?;
+    Ok(now.as_secs().wrapping_mul(1_000_000).wrapping_add(now.subsec_micros() as u64))
+}
+
+fn report(rt: &HostRuntime, name: &str, from: u64, sum: u64) -> Result<(), Fault> {
+    let spent = spent(rt)?.wrapping_sub(from);
+    println!(rt; "{name} {spent} {sum}")?;
+    Ok(())
+}
+
+fn main(rt: HostRuntime) -> Result<(), Fault> {
+    let mut read_bytes = Vec::new(rt.alloc());
+    rt.reader().read_to_end(&mut read_bytes)?;
+    let text = Vec::from_slice(rt.alloc(), read_bytes.as_slice())?;
+    drop(read_bytes);
+    let Ok(fields) = read(rt.alloc(), FIELDS.as_bytes()) else {
+        return Err(Fault::Mapping);
+    };
+    let Ok(mapping) = Mapping::read(rt.alloc(), &fields) else {
+        return Err(Fault::Mapping);
+    };
+    for _ in 0..5 {
+        let from = spent(&rt)?;
+        let sum = round(rt.alloc(), Work::Read, &mapping, text.as_slice());
+        report(&rt, "read", from, sum)?;
+        let from = spent(&rt)?;
+        let sum = round(rt.alloc(), Work::Faults, &mapping, text.as_slice());
+        report(&rt, "faults", from, sum)?;
+        let from = spent(&rt)?;
+        let sum = round(rt.alloc(), Work::Block, &mapping, text.as_slice());
+        report(&rt, "block", from, sum)?;
+    }
+    Ok(())
+}
+'''
+NAME = "block_times"
+BELOW = (
+    "flattener layout block_bits segment segment_parts stored_sources tree_objects mapping_growth mapping_body"
+    " mapping tree_json analysis itoa"
+)
+HERE = os.path.dirname(os.path.dirname(os.path.abspath(__file__)))
+
+
+class Draws:
+    """Numbers that are the same on each machine."""
+
+    def __init__(self, seed):
+        self.state = seed
+
+    def draw(self, below):
+        self.state = (self.state * 6364136223846793005 + 1442695040888963407) % 2**64
+        return (self.state // 2**33) % below
+
+
+def stock(draws):
+    count = draws.draw(10)
+    return '{"n":%d,"site":"%s"}' % (count, "ab"[draws.draw(2)])
+
+
+def offer(draws):
+    color = ("red", "blue", "green")[draws.draw(3)]
+    price = draws.draw(100)
+    stocks = ",".join(stock(draws) for _ in range(draws.draw(3)))
+    return '{"color":"%s","price":%d,"stock":[%s]}' % (color, price, stocks)
+
+
+def sources(count):
+    draws = Draws(7)
+    for number in range(count):
+        offers = ",".join(offer(draws) for _ in range(draws.draw(4)))
+        yield '{"name":"item %d","offers":[%s]}\n' % (number, offers)
+
+
+def built(work):
+    """The program, proved and built in a copy of the crates."""
+    crates = os.path.join(work, "crates")
+    shutil.copytree(os.path.join(HERE, "crates"), crates, dirs_exist_ok=True, ignore=shutil.ignore_patterns("out"))
+    with open(os.path.join(HERE, "crates.txt")) as lines, open(os.path.join(work, "crates.txt"), "w") as out:
+        out.write(lines.read() + "%s: %s\n" % (NAME, BELOW))
+    with open(os.path.join(HERE, "HANDLES")) as lines, open(os.path.join(work, "HANDLES"), "w") as out:
+        out.write(lines.read())
+    folder = os.path.join(crates, NAME)
+    os.makedirs(os.path.join(folder, "src"), exist_ok=True)
+    with open(os.path.join(folder, "src", "main.rt"), "w") as out:
+        out.write(PROGRAM)
+    subprocess.run(["rt", "run"], cwd=folder, check=True, stdin=subprocess.DEVNULL)
+    return os.path.join(folder, "out", NAME)
+
+
+def main():
+    trees = int(sys.argv[1]) if len(sys.argv) > 1 else 100_000
+    work = sys.argv[2] if len(sys.argv) > 2 else tempfile.mkdtemp()
+    os.makedirs(work, exist_ok=True)
+    program = built(work)
+    lines = os.path.join(work, "sources")
+    with open(lines, "w") as out:
+        out.writelines(sources(trees))
+    with open(lines) as given:
+        said = subprocess.run([program], stdin=given, stdout=subprocess.PIPE, check=True, text=True).stdout
+    best = {}
+    for line in said.splitlines():
+        name, spent, total = line.split()
+        best[name] = min(best.get(name, (10**12, 0)), (int(spent), int(total)))
+    read = best["read"][0]
+    for name, (spent, total) in best.items():
+        print("%-7s %8.1f ms  %5.2f times reading  %d" % (name, spent / 1000, spent / read, total))
+
+
+main()

@@ -1,0 +1,5 @@
+mod Selecting
+mod Cutting
+mod Gathered
+mod Texts
+mod Found

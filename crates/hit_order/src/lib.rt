@@ -1,0 +1,18 @@
+//! The rows of hits with the keys that they are ordered by, and the page that is asked for of them.
+//!
+//! It stands on `query_ast`, whose definitions say when a row comes before another. The one contract that others use:
+//! `top` answers `page_of` of the rows. Begin with `rows`.
+#![tactic(auto)]
+
+mod column;
+mod compare;
+mod keys;
+mod no_memory;
+mod rows;
+mod selection;
+mod table;
+
+pub use column::{Column, ColumnKeys, RowPlace};
+pub use keys::{NumberKeys, TextKeys};
+pub use no_memory::NoMemory;
+pub use rows::{KeyRows, top};
