@@ -1,0 +1,101 @@
+-- What is so of the blocks of an index stays so when the buffer is sealed and when a block comes or goes.
+use Rattle.std.proofs.Common.{◌≡◌, ℕ, suc, ◌+◌, ◌<◌, ◌≤◌, nat_le, nat_lt, Bool, true, false, List, [], ◌∷◌, ◌++◌, length, map, filter, Option, Some, None, refl, sym, ap, subst, ◌∙◌, append-nil, arith}
+use Rattle.std.specs.List.{count_by, sum_by, find, flat_map}
+use Rattle.std.specs.Option.{option_map}
+use Rattle.std.specs.Str.{bytes_eq}
+use Rattle.std.proofs.lemmas.Bool.{leb-false}
+use Rattle.std.proofs.lemmas.List.{length-append}
+use Rattle.std.proofs.lemmas.List.Sums.{sum_by_push, count_by-le-length, length-filter}
+use Rattle.flattener.specs.Block.{BlockState}
+use Rattle.flattener.specs.Fits.{most_live}
+use Rattle.layout.proofs.Changes.{room_numbers, sealed_numbers, change_ascends, own_ids_put, own_ids_taken, found_put, found_taken}
+use Rattle.layout.proofs.Goes.{split, none_goes}
+use Rattle.layout.proofs.Keeps.{sealed_keeps, with_room_keeps, changed_keeps}
+use Rattle.layout.proofs.Looked.{find_none, sum_without}
+use Rattle.layout.specs.Ascending.{Ascend}
+use Rattle.layout.specs.Layout.{Layout, live_items, segment_of, staying, killed, buffer_size, with_buffer_last, sealed, with_room, with_new}
+use Rattle.segment_builder.specs.Blocks.{block_objects, objects_of}
+use Rattle.index_core.specs.Kept.{AreBlocks, HaveOwnIds, block_number, has_block_id, most_opened, numbers_of}
+
+-- ---- sealing
+
+pub sealed_is : (layout : Layout BlockState) → layout.factor ≡ None → sealed layout ≡ with_buffer_last layout
+unfolding sealed
+sealed_is layout none = rw none refl
+
+no_more : (id : ℕ) (blocks : List BlockState) → length (segment_of id blocks) ≤ length blocks
+no_more id [] = omega arith
+no_more id (block ∷ blocks) = omega arith
+
+pub sealed_blocks : (layout : Layout BlockState) (next : ℕ) → layout.factor ≡ None → AreBlocks layout next → AreBlocks (sealed layout) next
+sealed_blocks layout next none is =
+    let buffer : (sealed layout).buffer ≡ [] = ap (λ (l : Layout BlockState). l.buffer) (sealed_is layout none) in
+    let made : (sealed layout).made ≡ layout.made + length (segment_of layout.made layout.buffer) = ap (λ (l : Layout BlockState). l.made) (sealed_is layout none) in
+    record {
+      ascending = subst (λ ns. Ascend 0 ns next) (sym (sealed_numbers block_number layout none)) is.ascending;
+      ids = subst HaveOwnIds (sym (sealed_keeps layout)) is.ids;
+      few = omega (arith, is.few, ap objects_of (sealed_keeps layout));
+      buffer = omega (arith, ap length buffer);
+      made = omega (arith, is.made, made, ap length buffer, no_more layout.made layout.buffer);
+    }
+
+pub record HasRoom (layout : Layout BlockState) (next : ℕ) : Type 0 where
+  pub blocks : AreBlocks layout next
+  pub less : length layout.buffer < buffer_size
+
+pub room_blocks : (layout : Layout BlockState) (next : ℕ) → layout.factor ≡ None → AreBlocks layout next → HasRoom (with_room layout) next
+room_blocks layout next none is =
+    split (nat_le buffer_size (length layout.buffer))
+    (λ full.
+    let buffer : (sealed layout).buffer ≡ [] = ap (λ (l : Layout BlockState). l.buffer) (sealed_is layout none) in
+    rw full (record { blocks = sealed_blocks layout next none is; less = omega (arith, ap length buffer) }))
+    (λ room. rw room (record { blocks = is; less = leb-false buffer_size (length layout.buffer) room }))
+
+-- ---- a change
+
+-- the new blocks: one with the id and the next number, or none
+abbrev pub AreNew : List ℕ → ℕ → List BlockState → Type 0
+AreNew id next [] = Unit {0}
+AreNew id next (block ∷ []) = (block.root.id ≡ id) × (block.root.number ≡ next)
+AreNew id next (block ∷ more ∷ blocks) = ⊥
+
+new_ascends : (id : List ℕ) (next : ℕ) (new : List BlockState) → AreNew id next new → Ascend next (map block_number new) (next + 1)
+new_ascends id next [] are = omega arith
+new_ascends id next (block ∷ []) are = (omega (arith, are.1), omega (arith, are.1))
+new_ascends id next (block ∷ more ∷ blocks) are = absurd are
+
+new_ids : (id : List ℕ) (next : ℕ) (new blocks : List BlockState) → AreNew id next new → HaveOwnIds blocks → HaveOwnIds (filter (staying (has_block_id id)) blocks ++ new)
+new_ids id next [] blocks are own = λ other. own_ids_taken (λ (b : BlockState). b.root.id) id other blocks (own other)
+new_ids id next (block ∷ []) blocks are own = λ other.
+    subst (λ i. count_by (has_block_id other) (filter (staying (has_block_id i)) blocks ++ block ∷ []) ≤ 1) are.0 (own_ids_put (λ (b : BlockState). b.root.id) block other blocks (own other))
+new_ids id next (block ∷ more ∷ blocks') blocks are own = absurd are
+
+few_new : (id : List ℕ) (next : ℕ) (new : List BlockState) → AreNew id next new → length new ≤ 1
+few_new id next [] are = omega arith
+few_new id next (block ∷ []) are = omega arith
+few_new id next (block ∷ more ∷ blocks) are = absurd are
+
+pub change_blocks : (layout : Layout BlockState) (next : ℕ) (id : List ℕ) (new : List BlockState) → HasRoom layout next → AreNew id next new → objects_of (filter (staying (has_block_id id)) (live_items layout) ++ new) ≤ most_live
+    → AreBlocks (with_new new (killed (has_block_id id) layout)) (next + 1)
+change_blocks layout next id new is are few =
+    let keeps = changed_keeps (has_block_id id) new layout in
+    let long = length-append (filter (staying (has_block_id id)) layout.buffer) new in
+    let kept : length (filter (staying (has_block_id id)) layout.buffer) ≤ length layout.buffer = omega (arith, length-filter (staying (has_block_id id)) layout.buffer, count_by-le-length (staying (has_block_id id)) layout.buffer) in
+    record {
+      ascending = change_ascends block_number (has_block_id id) new layout.segments layout.buffer next is.blocks.ascending (new_ascends id next new are);
+      ids = subst HaveOwnIds (sym keeps) (new_ids id next new (live_items layout) are is.blocks.ids);
+      few = omega (arith, few, ap objects_of keeps);
+      buffer = omega (arith, is.less, long, kept, few_new id next new are);
+      made = omega (arith, is.blocks.made, long, kept, few_new id next new are);
+    }
+
+-- ---- objects
+
+pub objects_put : (id : List ℕ) (block : BlockState) (blocks : List BlockState) → objects_of (filter (staying (has_block_id id)) blocks ++ block ∷ []) ≡ objects_of (filter (staying (has_block_id id)) blocks) + block_objects block
+objects_put id block blocks = sum_by_push block_objects (filter (staying (has_block_id id)) blocks) block
+
+pub objects_without : (id : List ℕ) (block : BlockState) (blocks : List BlockState) → HaveOwnIds blocks → find (has_block_id id) blocks ≡ Some block → objects_of (filter (staying (has_block_id id)) blocks) + block_objects block ≡ objects_of blocks
+objects_without id block blocks own found = sum_without (has_block_id id) block_objects blocks block (own id) found
+
+pub objects_same : (id : List ℕ) (blocks : List BlockState) → find (has_block_id id) blocks ≡ None → filter (staying (has_block_id id)) blocks ≡ blocks
+objects_same id blocks none = none_goes (has_block_id id) blocks (find_none (has_block_id id) blocks none)

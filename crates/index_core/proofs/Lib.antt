@@ -1,0 +1,10 @@
+pub mod Numbers
+pub mod Places
+pub mod Killing
+pub mod Changing
+pub mod Sealing
+pub mod Keeping
+pub mod Entering
+pub mod Viewing
+pub mod Laying
+pub mod Writing

@@ -1,0 +1,12 @@
+use Rattle.std.proofs.Common.{map, ap, ◌∙◌}
+use Rattle.flattener.specs.Block.{BlockState}
+use Rattle.layout.specs.Layout.{alive}
+use Rattle.segment_builder.specs.Blocks.{blocks_in}
+use Rattle.index_core.proofs.Sealing.{blocks_alive}
+use Rattle.index_core.proofs.kept_blocks.entry_of.Goals as goal
+
+pub returns-clause-blocks : goal.returns-clause-blocks
+returns-clause-blocks c =
+    ap blocks_in c.in_ok-entry.ensures
+    ∙ blocks_alive c.in_ok-segment.segment c.in_ok-live.live c.blocks_are_whole.ensures.roots c.in_ok-live.ensures.over c.in_ok-live.ensures.dead
+    ∙ ap (map (alive {A = BlockState})) c.in_ok-segment.ensures.blocks
