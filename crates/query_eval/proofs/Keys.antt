@@ -61,9 +61,9 @@ number_range ids (id ∷ own) key from each =
     let here : from + 0 ≡ from = omega arith in (
       subst (λ (n : ℕ). IsNumbered ids id (key n)) here (each 0 id (omega arith)),
       number_range ids own key (from + 1)
-      (λ k d below.
-      let next : from + suc k ≡ from + 1 + k = omega arith in
-      subst (λ (n : ℕ). IsNumbered ids (get_or own k d) (key n)) next (each (suc k) d (omega (arith, below)))),
+          (λ k d below.
+          let next : from + suc k ≡ from + 1 + k = omega arith in
+          subst (λ (n : ℕ). IsNumbered ids (get_or own k d) (key n)) next (each (suc k) d (omega (arith, below)))),
     )
 
 kept_relation : (j : Option Joined) → relation_in (kept_join j) ≡ relation_of j
@@ -153,7 +153,7 @@ module _ (view : List EntryState) (ordinals : Ordinals) (o : AreOrdinals view or
           one k d below any =
               let same : 0 + k ≡ k = omega arith in
               rw same
-                  (subst (λ (x : Option (List ℕ)). IsNumbered o.ids x (key_at m ordinals side e.columns place k)) (sym (map_get (side_id m side) trees k any d below)) (entry_number place e trees at stands k any below))
+              (subst (λ (x : Option (List ℕ)). IsNumbered o.ids x (key_at m ordinals side e.columns place k)) (sym (map_get (side_id m side) trees k any d below)) (entry_number place e trees at stands k any below))
 
 -- ---- scores of one key
 
