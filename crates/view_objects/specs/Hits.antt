@@ -1,0 +1,78 @@
+-- Documents of a view with scores, and the objects that they stand for.
+use Rattle.std.specs.Prelude.{ℕ, ◌+◌, Bool, List, [], ◌∷◌, ◌++◌, map, filter, get_or, Option, Some, None, option_map}
+use Rattle.std.specs.List.{flat_map}
+use Rattle.flattener.specs.StandsFor.{Marked, by_document}
+use Rattle.mapping.specs.Mapping.{Mapping}
+use Rattle.tree_json.specs.Value.{null}
+use Rattle.tree_objects.specs.Enclosing.{stands_at}
+use Rattle.tree_objects.specs.Object.{Object, root, block_objects}
+use Rattle.tree_objects.specs.Tree.{Tree}
+
+-- ---- the trees that a view stands for
+
+abbrev pub is_live : Marked Tree → Bool
+is_live t = t.live
+
+abbrev pub tree_in : Marked Tree → Tree
+tree_in t = t.item
+
+-- the live trees of an entry, and those of a view, in order
+abbrev pub live_in : List (Marked Tree) → List Tree
+live_in trees = map tree_in (filter is_live trees)
+
+abbrev pub live_trees : List (List (Marked Tree)) → List Tree
+live_trees entries = flat_map live_in entries
+
+-- the objects of a scope in these trees, in the order of their documents
+abbrev pub live_objects : Mapping → ℕ → List Tree → List Object
+live_objects m n trees = flat_map (λ tree. filter (stands_at n) (block_objects m tree)) trees
+
+-- ---- documents that have a score
+
+-- the place of the entry in the view, the document there, and its score
+pub record Hit : Type 0 where
+  pub place : ℕ
+  pub doc : ℕ
+  pub score : ℕ
+
+abbrev pub hit_if : ℕ → ℕ → Option ℕ → List Hit
+hit_if place doc None = []
+hit_if place doc (Some score) = record { place = place; doc = doc; score = score } ∷ []
+
+-- those of one entry, from a document on
+abbrev pub hits_from : ℕ → ℕ → List (Option ℕ) → List Hit
+hits_from place doc [] = []
+hits_from place doc (score ∷ scores) = hit_if place doc score ++ hits_from place (doc + 1) scores
+
+-- those of the entries from a place on
+abbrev pub hits_of : ℕ → List (List (Option ℕ)) → List Hit
+hits_of place [] = []
+hits_of place (scores ∷ more) = hits_from place 0 scores ++ hits_of (place + 1) more
+
+-- those of a view, in document order
+abbrev pub hits_in : List (List (Option ℕ)) → List Hit
+hits_in scores = hits_of 0 scores
+
+-- ---- the object that a document stands for
+
+abbrev pub any_object : Bool → Object → Object
+any_object live o = o
+
+-- the objects of an entry's documents, those of dead trees too
+abbrev pub objects_in : Mapping → List (Marked Tree) → List Object
+objects_in m trees = by_document m any_object trees
+
+-- a document that isn't there stands for nothing
+abbrev pub no_object : Object
+no_object = root (record { id = []; number = 0; source = null; generation = 0 })
+
+abbrev pub object_at : Mapping → List (List (Marked Tree)) → ℕ → ℕ → Object
+object_at m trees place doc = get_or (objects_in m (get_or trees place [])) doc no_object
+
+-- the object of a document with its score
+abbrev pub hit_object : Mapping → List (List (Marked Tree)) → Hit → Object × ℕ
+hit_object m trees hit = (object_at m trees hit.place hit.doc, hit.score)
+
+-- an object with what it is given, if anything
+abbrev pub scored : (Object → Option ℕ) → Object → Option (Object × ℕ)
+scored given o = option_map (λ score. (o, score)) (given o)
