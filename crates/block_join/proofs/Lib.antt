@@ -5,6 +5,8 @@ pub mod Summing
 pub mod Built
 pub mod Filling
 pub mod Joining
+pub mod Merging
 pub mod Shared
 pub mod Starts
 pub mod Spreading
+pub mod Sets

@@ -1,9 +1,12 @@
 -- A set with scores, as one optional score a document.
-use Rattle.std.proofs.Common.{◌≡◌, ℕ, zero, suc, ◌+◌, ◌-◌, ◌<◌, ◌≤◌, Bool, true, false, cond, List, [], ◌∷◌, ◌++◌, length, take, drop, replicate, map, set, Option, Some, None, is_some, refl, sym, ap, ◌∙◌, inl, inr, arith, take-append-drop, drop-drop, take-add}
+use Rattle.std.proofs.Common.{◌≡◌, ℕ, zero, suc, ◌+◌, ◌-◌, ◌<◌, ◌≤◌, Bool, true, false, cond, List, [], ◌∷◌, ◌++◌, length, take, drop, replicate, map, set, Option, Some, None, is_some, refl, sym, ap, ◌∙◌, inl, inr, arith, take-append-drop, drop-drop, take-add, min, subst}
 use Rattle.std.specs.List.{position_from, flat_map}
 use Rattle.std.specs.Option.{option_to_list}
 use Rattle.block_bits.specs.Flags.{is_marked}
-use Rattle.block_join.specs.Kept.{shown, marks}
+use Rattle.block_join.specs.Kept.{shown, score_of, marks, AreScores}
+use Rattle.block_join.specs.declared.scores.Scores.{Scores}
+use Rattle.block_join.specs.declared.scores.Scores.TheVariants.{Same}
+use Rattle.score_math.specs.declared.score.TheConstants.{SCORE_CAP}
 use Rattle.block_join.specs.Scores.{filled}
 use Rattle.block_join.proofs.Firsts.{NoneIn, FirstAt}
 
@@ -121,3 +124,18 @@ marks_put zero (true ∷ flags) h none = absurd (omega (arith, none))
 marks_put zero (false ∷ flags) h none = refl
 marks_put (suc doc) (true ∷ flags) h none = ap suc (marks_put doc flags (omega (arith, h)) none)
 marks_put (suc doc) (false ∷ flags) h none = marks_put doc flags (omega (arith, h)) none
+
+-- no score is more than the cap, where some document has it
+filled_capped : (score : ℕ) (flags : List Bool) → ((k : ℕ) → k < marks flags → score ≤ SCORE_CAP) → filled (Some score) flags ≡ filled (Some (min score SCORE_CAP)) flags
+filled_capped score [] h = refl
+filled_capped score (true ∷ flags) h =
+    let same : score ≡ min score SCORE_CAP = omega (arith, h 0 (omega arith)) in
+    ap (λ (n : ℕ). Some n ∷ filled (Some n) flags) same
+filled_capped score (false ∷ flags) h = ap (λ (ss : List (Option ℕ)). None ∷ ss) (filled_capped score flags h)
+
+pub shared_is : (flags : List Bool) (scores : Scores) (score : ℕ) (all : List (Option ℕ)) → scores ≡ Same score → AreScores flags scores → shown (score_of scores) 0 flags ≡ all → all ≡ filled (Some (min score SCORE_CAP)) (map is_some all)
+shared_is flags scores score all is are view =
+    let own : AreScores flags (Same score) = subst (AreScores flags) is are in
+    let read : shown (λ k. score) 0 flags ≡ all = ap (λ (x : Scores). shown (score_of x) 0 flags) (sym is) ∙ view in
+    subst (λ (ss : List (Option ℕ)). ss ≡ filled (Some (min score SCORE_CAP)) (map is_some ss)) read
+    (shown_same score 0 flags ∙ filled_capped score flags own.capped ∙ ap (filled (Some (min score SCORE_CAP))) (sym (shown_set (λ k. score) 0 flags)))

@@ -155,7 +155,7 @@ pub record Spreading (outer inner : ℕ) (scopes : List ℕ) (scores done : List
 pub spreading_starts : (outer inner : ℕ) (scopes : List ℕ) (scores : List (Option ℕ)) → Spreading outer inner scopes scores [] 0
 spreading_starts outer inner scopes scores = record { goes = refl; behind = omega arith; within = omega arith; edge = λ h. absurd (omega (arith, h)) }
 
-length_flags : (scope : ℕ) (ss : List ℕ) → length (documents_of ss scope) ≡ length ss
+pub length_flags : (scope : ℕ) (ss : List ℕ) → length (documents_of ss scope) ≡ length ss
 length_flags scope [] = refl
 length_flags scope (s ∷ ss) = ap suc (length_flags scope ss)
 
@@ -302,7 +302,7 @@ drop_take {A} (suc n) (suc m) [] h = sym (take_nil {A = A} (suc m - suc n))
 drop_take (suc n) (suc m) (x ∷ xs) h =
     let same : m - n ≡ suc m - suc n = omega arith in drop_take n m xs (omega (arith, h)) ∙ ap (λ k. take k (drop n xs)) same
 
-between_one : (scores : List (Option ℕ)) (at : ℕ) → at < length scores → between scores at (at + 1) ≡ option_to_list (get_or scores at None)
+pub between_one : (scores : List (Option ℕ)) (at : ℕ) → at < length scores → between scores at (at + 1) ≡ option_to_list (get_or scores at None)
 between_one scores at h =
     let one : at + 1 - at ≡ 1 = omega arith in
     ap (λ n. flat_map option_to_list (take n (drop at scores))) one
@@ -313,11 +313,11 @@ between_one scores at h =
     only None = refl
     only (Some y) = refl
 
-score_is : (x : Option ℕ) (score : ℕ) (rest : List ℕ) → option_to_list x ≡ score ∷ rest → x ≡ Some score
+pub score_is : (x : Option ℕ) (score : ℕ) (rest : List ℕ) → option_to_list x ≡ score ∷ rest → x ≡ Some score
 score_is None score rest e = absurd (cc)
 score_is (Some y) score rest e = let same : y ≡ score = cc in ap Some same
 
-none_is : (x : Option ℕ) → option_to_list x ≡ [] → x ≡ None
+pub none_is : (x : Option ℕ) → option_to_list x ≡ [] → x ≡ None
 none_is None e = refl
 none_is (Some y) e = absurd (cc)
 

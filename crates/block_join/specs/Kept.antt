@@ -1,5 +1,5 @@
 -- How scores are kept: a set of documents, and either one score for all of them or one each in their order.
-use Rattle.std.specs.Prelude.{◌≡◌, ℕ, suc, ◌+◌, ◌^◌, ◌-◌, ◌<◌, ◌≤◌, Bool, true, false, cond, List, [], ◌∷◌, length, take, drop, replicate, get_or, Option, Some, None, IfSome, ⊤}
+use Rattle.std.specs.Prelude.{◌≡◌, ℕ, suc, min, ◌+◌, ◌^◌, ◌-◌, ◌<◌, ◌≤◌, Bool, true, false, cond, List, [], ◌∷◌, length, take, drop, replicate, get_or, Option, Some, None, IfSome, ⊤}
 use Rattle.std.specs.Option.{is_some, option_and_then}
 use Rattle.block_bits.specs.Flags.{is_marked}
 use Rattle.block_bits.specs.Places.{next_place}
@@ -69,3 +69,9 @@ pub record AreAlike (scores : List (Option ℕ)) : Type 0 where
   pub score : ℕ
   pub count : ℕ → ℕ → ℕ
   pub are : (from end : ℕ) → between scores from end ≡ replicate (count from end) score
+
+-- the earlier of two documents, of which either may be missing
+abbrev pub earlier : Option ℕ → Option ℕ → Option ℕ
+earlier None other = other
+earlier (Some a) None = Some a
+earlier (Some a) (Some b) = Some (min a b)

@@ -3,6 +3,7 @@
 ghost use Rattle.std.specs.Prelude.{◌≡◌, ◌≢◌, ℕ, ◌+◌, ◌<◌, ◌≤◌, ◌++◌, List, length, take, drop, Some, IfOk, OnOk};
 ghost use Rattle.std.specs.List.{zip};
 ghost use Rattle.score_math.specs.declared.score.TheConstants.{SCORE_CAP};
+ghost use Rattle.block_bits.specs.Blocks.{documents_of};
 ghost use Rattle.block_join.specs.Joins.{spread};
 ghost use Rattle.block_join.specs.Kept.{IsStart};
 ghost use Rattle.block_join.specs.Scores.{filled, padded};
@@ -29,9 +30,25 @@ pub fn to_child(
     ensures scores { IfOk result (λ made. made ≡ spread from to (zip bits.now.scopes parent.now)) }
     ensures long { IfOk result (λ made. length made ≡ length bits.now.scopes) }
 {
-    let parents = bits.documents(from);
-    let children = bits.documents(to);
-    let len = bits.len();
+    join_down(alloc, bits.documents(from), bits.documents(to), parent)
+}
+
+/// The join down from the documents of a set to those of another: each of the latter behind a document of the former and
+/// before the next one, if that one is a hit of `parent`, with the hit's score.
+///
+/// In blocks these are the documents inside the hit. It costs the hits and the documents inside them.
+pub fn join_down(
+    alloc: Global,
+    parents: &BitSet,
+    children: &BitSet,
+    parent: &Scored,
+) -> Result<Scored, NoMemory>
+    requires documents { length parent.now ≡ length parents.now }
+    requires inner { length children.now ≡ length parents.now }
+    ensures scores { (scopes : List ℕ) (from to : ℕ) → from ≢ to → parents.now ≡ documents_of scopes from → children.now ≡ documents_of scopes to → IfOk result (λ made. made ≡ spread from to (zip scopes parent.now)) }
+    ensures long { IfOk result (λ made. length made ≡ length parents.now) }
+{
+    let len = parents.len();
     let mut hits = Builder::empty(alloc, len)?;
     let mut left = parent.cursor();
     'parents: while let Some(at) = hitting_parent(parents, &left) {

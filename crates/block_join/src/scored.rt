@@ -1,6 +1,6 @@
 //! A set of documents with a score for each.
 
-ghost use Rattle.std.specs.Prelude.{◌≡◌, ◌≤◌, ◌<◌, ◌^◌, length, map, Some, is_some};
+ghost use Rattle.std.specs.Prelude.{◌≡◌, ◌≤◌, ◌<◌, ◌^◌, length, map, Some, IfSome, is_some};
 ghost use Rattle.block_join.specs.Scores.{filled};
 ghost use Rattle.block_join.specs.Kept.{shown, score_of, AreScores};
 ghost use Rattle.score_math.specs.declared.score.TheConstants.{SCORE_CAP};
@@ -8,6 +8,7 @@ ghost use Rattle.score_math.specs.declared.score.TheConstants.{SCORE_CAP};
 use crate::Cursor;
 use crate::scores::Scores;
 use block_bits::BitSet;
+use score_math::SCORE_CAP;
 use std::marker::Model;
 
 /// The documents that hit, each with a score of at most `SCORE_CAP`, seen as one optional score a document.
@@ -65,6 +66,17 @@ impl Scored {
         ensures { result.now ≡ map is_some self.now }
     {
         &self.set
+    }
+
+    /// The one score of all documents that hit, where that is known without reading them.
+    pub fn shared(&self) -> Option<u64>
+        ensures alike { IfSome result (λ score. self.now ≡ filled (Some score) (map is_some self.now)) }
+        ensures capped { IfSome result (λ score. score ≤ SCORE_CAP) }
+    {
+        match &self.scores {
+            Scores::Same(score) => Some((*score).min(SCORE_CAP)),
+            Scores::Each(_) => None,
+        }
     }
 
     /// The scores in order, from the first document on.

@@ -3,6 +3,7 @@
 ghost use Rattle.std.specs.Prelude.{◌≡◌, ℕ, ◌^◌, ◌<◌, ◌≤◌, List, [], length, map, Option, None, IfSome, IfOk};
 ghost use Rattle.std.specs.List.{zip};
 ghost use Rattle.std.specs.Option.{option_to_list};
+ghost use Rattle.block_bits.specs.Blocks.{documents_of};
 ghost use Rattle.score_math.specs.Scores.{mode_of};
 ghost use Rattle.block_join.specs.Joins.{joined};
 ghost use Rattle.block_join.specs.Kept.{next_parent};
@@ -32,24 +33,24 @@ pub fn to_parent<L: Ledger>(
     ensures long { IfOk result (λ made. length made ≡ length bits.now.scopes) }
     ensures steps { steps.new ≡ steps.old }
 {
-    up(alloc, bits, child, to, mode)
+    join_up(alloc, bits.documents(to), child, mode)
 }
 
-/// The join up.
-fn up(
+/// The join up to the documents of a set: each of them that has hits of `child` behind the one before it, with the mode of
+/// their scores.
+///
+/// In blocks these are the hits inside it. It costs the hits, and not the documents.
+pub fn join_up(
     alloc: Global,
-    bits: &ScopeBits,
+    parents: &BitSet,
     child: &Scored,
-    to: u32,
     mode: ScoreMode,
 ) -> Result<Scored, NoMemory>
-    requires scope { to < length bits.now.parents }
-    requires documents { length child.now ≡ length bits.now.scopes }
-    ensures scores { IfOk result (λ made. made ≡ joined (mode_of mode) None to [] (zip bits.now.scopes (map option_to_list child.now))) }
-    ensures long { IfOk result (λ made. length made ≡ length bits.now.scopes) }
+    requires { length child.now ≡ length parents.now }
+    ensures scores { (scopes : List ℕ) (to : ℕ) → parents.now ≡ documents_of scopes to → IfOk result (λ made. made ≡ joined (mode_of mode) None to [] (zip scopes (map option_to_list child.now))) }
+    ensures long { IfOk result (λ made. length made ≡ length parents.now) }
 {
-    let parents = bits.documents(to);
-    let len = bits.len();
+    let len = parents.len();
     let mut hits = Builder::empty(alloc, len)?;
     let mut left = child.cursor();
     'parents: while let Some(parent) = hitting_parent(parents, &left) {

@@ -8,6 +8,7 @@ use Rattle.mapping.specs.IsMapping.{IsMapping}
 use Rattle.mapping.specs.Mapping.{Mapping, outer}
 use Rattle.tree_json.specs.Value.{JsonValue}
 use Rattle.mapping_body.proofs.Walks.{split}
+use Rattle.flattener.proofs.Lightness.{children_light}
 use Rattle.flattener.specs.Walked.{inner, inside_at, kid_part, walked, flat_pair, flat_at}
 
 pub walked_parts : (m : Mapping) (g left s : ℕ) (v : JsonValue) → walked m g left s v ≡ inner m g left s v ++ (s, v) ∷ []
@@ -59,4 +60,4 @@ pub children_length : (m : Mapping) (g left kid : ℕ) (v : JsonValue) (vs : Lis
     length (flat_map (walked m g left kid) (v ∷ vs)) ≡ length (walked m g left kid v) + length (flat_map (walked m g left kid) vs)
 children_length m g left kid v vs = length-append (walked m g left kid v) (flat_map (walked m g left kid) vs)
 
-pub ruleset blocks = (walked_flats, walked_length, inner_none, inner_all, inside_flats, inside_length, inside_over, children_flats, children_length, order_in_range)
+pub ruleset blocks = (walked_flats, walked_length, inner_none, inner_all, inside_flats, inside_length, inside_over, children_flats, children_length, order_in_range, children_light)

@@ -16,3 +16,5 @@ pub mod Fitting
 pub mod Further
 pub mod FitsFurther
 pub mod Smallness
+pub mod Weights
+pub mod Lightness

@@ -1,5 +1,5 @@
 -- Tokens text by text, and words token by token.
-use Rattle.std.proofs.Common.{◌≡◌, ℕ, List, [], ◌∷◌, ◌++◌, length, refl, sym, ◌∙◌, Option, Some, None}
+use Rattle.std.proofs.Common.{◌≡◌, ℕ, ◌+◌, ◌≤◌, ◌==◌, List, [], ◌∷◌, ◌++◌, length, refl, sym, ap, ◌∙◌, arith, Option, Some, None}
 use Rattle.std.specs.List.{filter_map}
 use Rattle.analysis.specs.Words.{words}
 use Rattle.mapping_body.specs.declared.kind.Kind.TheVariants.{Text}
@@ -7,8 +7,9 @@ use Rattle.tree_json.specs.Value.{JsonValue}
 use Rattle.tree_objects.specs.Values.{convert, text_of}
 use Rattle.flattener.specs.Flat.{texts_in, placed_words}
 use Rattle.flattener.specs.Walked.{one_text}
-use Rattle.flattener.specs.Placing.{tokens_on, texts_among, start_of, end_after}
+use Rattle.flattener.specs.Placing.{tokens_on, texts_among, start_of, end_after, end_of, room}
 use Rattle.flattener.proofs.Numbers.{texts_next}
+use Rattle.mapping_body.proofs.Walks.{split}
 
 pub tokens_next : (end : Option ℕ) (text : List ℕ) (rest : List (List ℕ)) →
     tokens_on end (text ∷ rest) ≡ placed_words (start_of end) (words text) ++ tokens_on (end_after end (length (words text))) rest
@@ -27,6 +28,26 @@ pub tokens_none : (end : Option ℕ) → tokens_on end [] ≡ []
 tokens_none None = refl
 tokens_none (Some end) = refl
 
-pub ruleset wording = (tokens_next, texts_among_next, tokens_none)
+-- ---- positions
+
+room_append : (texts more : List (List ℕ)) → room (texts ++ more) ≡ room texts + room more
+room_append [] more = omega arith
+room_append (text ∷ texts) more = omega (arith, room_append texts more)
+
+pub room_next : (v : JsonValue) (vs : List JsonValue) → room (texts_among (v ∷ vs)) ≡ room (one_text (text_of v)) + room (texts_among vs)
+room_next v vs = ap room (texts_among_next v vs) ∙ room_append (one_text (text_of v)) (texts_among vs)
+
+pub start_after : (end : Option ℕ) → start_of end ≤ end_of end + 100
+start_after None = omega arith
+start_after (Some end) = omega arith
+
+pub end_within : (end : Option ℕ) (count : ℕ) (text : List ℕ) → count ≤ length text → end_of (end_after end count) ≤ end_of end + room (text ∷ [])
+end_within None count text few = omega (arith, few)
+end_within (Some end) count text few =
+    split (count == 0)
+    (λ none. rw none (omega arith))
+    (λ some. rw some (omega (arith, few)))
+
+pub ruleset wording = (tokens_next, texts_among_next, tokens_none, room_next, start_after, end_within)
 
 pub ruleset converting = (texts_convert, tokens_none)

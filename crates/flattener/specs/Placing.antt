@@ -1,5 +1,5 @@
 -- Serves proofs alone: the tokens of a field's values, one value after the other, and their words, one token after the other.
-use Rattle.std.specs.Prelude.{◌≡◌, ℕ, ◌+◌, ◌==◌, if◌then◌else◌, List, Option, Some, None}
+use Rattle.std.specs.Prelude.{◌≡◌, ℕ, ◌+◌, ◌==◌, if◌then◌else◌, List, [], ◌∷◌, length, Option, Some, None}
 use Rattle.std.specs.List.{filter_map}
 use Rattle.analysis.specs.Words.{words}
 use Rattle.tree_json.specs.Value.{JsonValue}
@@ -23,6 +23,15 @@ start_of (Some end) = end + position_gap
 abbrev pub end_after : Option ℕ → ℕ → Option ℕ
 end_after None count = Some count
 end_after (Some end) count = Some (if count == 0 then end else end + position_gap + count)
+
+abbrev pub end_of : Option ℕ → ℕ
+end_of None = 0
+end_of (Some end) = end
+
+-- texts take up at most so many positions: a text has no more words than bytes, and a gap in front of it
+abbrev pub room : List (List ℕ) → ℕ
+room [] = 0
+room (text ∷ texts) = length text + position_gap + room texts
 
 -- the words of tokens from here on, of which one may be begun
 abbrev pub grouped_on : ℕ → Option Word → List (List ℕ × ℕ) → List ((ℕ × List ℕ) × List ℕ)

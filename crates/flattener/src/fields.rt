@@ -1,13 +1,15 @@
 //! The document of an object, field by field.
-ghost use Rattle.std.specs.Prelude.{◌≡◌, ◌++◌, ◌<◌, [], IsTrue, length, map, nat_lt, IfOk, OnOk};
+ghost use Rattle.std.specs.Prelude.{◌≡◌, ◌++◌, ◌<◌, ◌≤◌, ◌^◌, [], IsTrue, length, map, nat_lt, IfOk, OnOk};
 ghost use Rattle.std.specs.List.{filter_map};
 ghost use Rattle.std.specs.Ordering.{int_cmp};
+ghost use Rattle.tree_json.specs.Text.{compact};
 ghost use Rattle.tree_json.specs.View.{view};
 ghost use Rattle.mapping_body.specs.declared.kind.Kind.{Kind};
 ghost use Rattle.tree_objects.specs.Values.{convert, has_values};
 ghost use Rattle.flattener.specs.Adds.{Added, Adds};
 ghost use Rattle.flattener.specs.Flat.{ascending, bytes_cmp, numbers_in, texts_in, tokens, words_of_field};
-ghost use Rattle.flattener.specs.Placing.{texts_among};
+ghost use Rattle.flattener.specs.Fits.{most_source};
+ghost use Rattle.flattener.specs.Placing.{room, texts_among};
 ghost use Rattle.flattener.specs.Seen.{document_seen};
 ghost use Rattle.flattener.specs.Walked.{flat_at, kept, valued};
 
@@ -20,16 +22,18 @@ use mapping::{Kind, Mapping};
 use std::alloc::Global;
 use tree_json::Json;
 
-/// The document of an object of a scope.
+/// The document of an object of a scope. `found` is for items.
 #[tactic(auto, using(crate::proofs::Documents::documents))]
-pub(crate) fn document(
+pub(crate) fn document<'a>(
     alloc: Global,
     mapping: &Mapping,
     generation: u32,
     scope: u32,
-    content: &Json,
+    content: &'a Json,
+    found: &mut Vec<&'a Json>,
 ) -> Result<Document, NoMemory>
-    requires { scope < length mapping.now.scopes }
+    requires scope { scope < length mapping.now.scopes }
+    requires light { length (compact (view content.now)) ≤ most_source }
     ensures { IfOk result (λ d. document_seen d ≡ flat_at mapping.now generation scope (view content.now)) }
 {
     let count = mapping.field_count();
@@ -40,7 +44,6 @@ pub(crate) fn document(
         words: Vec::new(alloc),
         texts: Vec::new(alloc),
     };
-    let mut found = Vec::new(alloc);
     let mut field = 0;
     'fields: while field < count {
         add_field(
@@ -50,7 +53,7 @@ pub(crate) fn document(
             scope,
             content,
             field,
-            &mut found,
+            found,
             &mut document,
         )?;
         field += 1;
@@ -58,8 +61,8 @@ pub(crate) fn document(
     Ok(document)
 }
 
-/// Adds what a field shows to a document. `found` is for the items, so that all fields share its memory.
-#[tactic(auto, using(crate::proofs::Wording::converting))]
+/// Adds what a field shows to a document.
+#[tactic(auto, using(crate::proofs::Wording::converting, crate::proofs::Lightness::light))]
 fn add_field<'a>(
     alloc: Global,
     mapping: &Mapping,
@@ -72,6 +75,7 @@ fn add_field<'a>(
 ) -> Result<(), NoMemory>
     requires field { field < length mapping.now.fields }
     requires scope { scope < length mapping.now.scopes }
+    requires light { length (compact (view content.now)) ≤ most_source }
     ensures { OnOk result (Adds mapping.now generation scope (view content.now) field (document_seen into.old) (document_seen into.new)) }
 {
     match mapping.kind(field) {
@@ -137,6 +141,7 @@ fn add_keywords(
 
 #[tactic(auto, using(crate::proofs::Documents::adding), unfolding(crate::specs::Flat::tokens))]
 fn add_text(alloc: Global, field: u32, items: &[&Json], into: &mut Document) -> Result<(), NoMemory>
+    requires { room (texts_among (map (λ j. view j.now) items.now)) < 2 ^ 32 }
     ensures { OnOk result (Added (document_seen into.old) (document_seen into.new) [] [] (words_of_field field (tokens (texts_among (map (λ j. view j.now) items.now)))) (valued field (texts_among (map (λ j. view j.now) items.now)))) }
 {
     push_words_of_field(alloc, field, tokens(alloc, items)?, &mut into.words)?;

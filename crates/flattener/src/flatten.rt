@@ -1,10 +1,12 @@
 //! The block of a tree.
 ghost use Rattle.std.specs.Prelude.{◌≡◌, ◌⊎◌, ◌≤◌, ◌<◌, ◌^◌, ℕ, List, length, map, Some, None, IfErr, IfOk, IsErrOf, IsOk, OnOk};
+ghost use Rattle.tree_json.specs.Levels.{levels, most_levels};
+ghost use Rattle.tree_json.specs.Reading.{reading, value as is_value};
 ghost use Rattle.tree_json.specs.Text.{compact};
 ghost use Rattle.tree_json.specs.View.{view};
 ghost use Rattle.tree_objects.specs.Fault.{first_fault};
 ghost use Rattle.flattener.specs.Block.{block_of, block_refusal, most_documents, root_of_tree, tree_given};
-ghost use Rattle.flattener.specs.Fits.{BlockFits, IsGiven};
+ghost use Rattle.flattener.specs.Fits.{BlockFits, IsGiven, most_source};
 ghost use Rattle.flattener.specs.Seen.{block_seen, document_seen, root_seen};
 ghost use Rattle.flattener.specs.Walked.{flat_pair, walked};
 
@@ -20,7 +22,8 @@ use tree_objects::{Fault, first_fault};
 
 /// The block of a tree by its source, its id, its sequence number and the generation of the mapping that it is indexed
 /// under. The refusals are looked for in the order of `FlattenRefusal`: a fault is the first that a walk over the
-/// source meets, names in byte order, lists in order, depth first.
+/// source meets, names in byte order, lists in order, depth first. The source that the root keeps reads back as the
+/// value that it was, where that nests as little as what is read.
 #[tactic(auto, using(crate::proofs::Wholes::wholes))]
 pub fn block(
     alloc: Global,
@@ -33,6 +36,7 @@ pub fn block(
     requires { IsGiven mapping.now (tree_given id.now number (view source.now) generation) }
     ensures block { IfOk result (λ b. block_seen b ≡ block_of mapping.now (tree_given id.now number (view source.now) generation)) }
     ensures fits { number ≤ 2 ^ 62 → IfOk result (λ b. BlockFits mapping.now (block_seen b)) }
+    ensures reads_back { IfOk result (λ b. levels (view source.now) ≤ most_levels → reading b.root.source ≡ is_value (view source.now)) }
     ensures accepted { IsOk result → block_refusal mapping.now (tree_given id.now number (view source.now) generation) ≡ None }
     ensures refused { IfErr result (λ e. (e ≡ FlattenRefusal.NoMemory) ⊎ (block_refusal mapping.now (tree_given id.now number (view source.now) generation) ≡ Some e)) }
 {
@@ -70,11 +74,13 @@ fn documents(
     generation: u32,
     source: &Json,
 ) -> Result<Vec<Document>, FlattenRefusal>
+    requires { length (compact (view source.now)) ≤ most_source }
     ensures documents { IfOk result (λ v. map document_seen v.items ≡ map (flat_pair mapping.now generation) (walked mapping.now generation (length mapping.now.scopes) 0 (view source.now))) }
     ensures few { IsOk result → length (walked mapping.now generation (length mapping.now.scopes) 0 (view source.now)) ≤ most_documents }
     ensures many { IfErr result (λ e. (e ≡ FlattenRefusal.NoMemory) ⊎ ((e ≡ FlattenRefusal.TooManyObjects) × (most_documents < length (walked mapping.now generation (length mapping.now.scopes) 0 (view source.now))))) }
 {
     let levels = mapping.scope_count();
+    let mut found = Vec::new(alloc);
     let mut documents = Vec::new(alloc);
     match walk(
         alloc,
@@ -83,6 +89,7 @@ fn documents(
         levels,
         0,
         source,
+        &mut found,
         &mut documents,
     ) {
         Ok(()) => Ok(documents),
@@ -101,7 +108,8 @@ fn root_of(
     id: &[u8],
     number: u64,
 ) -> Result<Root, NoMemory>
-    ensures { IfOk result (λ r. root_seen r ≡ root_of_tree mapping.now (tree_given id.now number (view source.now) generation)) }
+    ensures root { IfOk result (λ r. root_seen r ≡ root_of_tree mapping.now (tree_given id.now number (view source.now) generation)) }
+    ensures reads_back { IfOk result (λ r. levels (view source.now) ≤ most_levels → reading r.source ≡ is_value (view source.now)) }
 {
     Ok(Root {
         id: Bytes::of(id.to_vec(alloc)?),
@@ -114,7 +122,8 @@ fn root_of(
 
 /// The compact text of a value.
 fn compact_text(alloc: Global, value: &Json) -> Result<Vec<u8>, NoMemory>
-    ensures { IfOk result (λ v. v.items ≡ compact (view value.now)) }
+    ensures text { IfOk result (λ v. v.items ≡ compact (view value.now)) }
+    ensures reads_back { IfOk result (λ v. levels (view value.now) ≤ most_levels → reading v.items ≡ is_value (view value.now)) }
 {
     let mut text = OutText::empty(alloc);
     print(value, &mut text)?;

@@ -3,7 +3,7 @@ ghost use Rattle.std.specs.Prelude.{◌≡◌, ◌+◌, ◌<◌, ◌≤◌, ◌^
 ghost use Rattle.tree_json.specs.View.{view};
 ghost use Rattle.tree_objects.specs.Values.{text_of};
 ghost use Rattle.flattener.specs.Flat.{ascending, token_cmp, tokens, grouped, together, placed_words, words_of_field};
-ghost use Rattle.flattener.specs.Placing.{IsOfField, grouped_on, tokens_on, texts_among, start_of, end_after};
+ghost use Rattle.flattener.specs.Placing.{IsOfField, grouped_on, tokens_on, texts_among, start_of, end_after, end_of, room};
 ghost use Rattle.flattener.specs.Walked.{one_text};
 ghost use Rattle.flattener.specs.Seen.{word_seen};
 
@@ -16,8 +16,6 @@ use tree_json::Json;
 
 const POSITION_GAP: u64 = 100;
 
-const MOST_POSITION: u64 = 4_294_967_295;
-
 /// Words with their positions, in the order in which they come.
 #[derive(Drop)]
 pub(crate) struct Placed {
@@ -29,6 +27,7 @@ pub(crate) struct Placed {
 /// The words of the texts that items are, each with its position.
 #[tactic(auto, using(crate::proofs::Wording::wording))]
 pub(crate) fn tokens(alloc: Global, items: &[&Json]) -> Result<Vec<(Vec<u8>, u32)>, NoMemory>
+    requires { room (texts_among (map (λ j. view j.now) items.now)) < 2 ^ 32 }
     ensures { IfOk result (λ v. map (λ t. (t.0.items, t.1)) v.items ≡ tokens_on None (texts_among (map (λ j. view j.now) items.now))) }
 {
     let mut found = Placed {
@@ -44,7 +43,9 @@ pub(crate) fn tokens(alloc: Global, items: &[&Json]) -> Result<Vec<(Vec<u8>, u32
 /// Adds the words of the text that an item is, if it is one.
 #[tactic(auto, using(crate::proofs::Wording::wording))]
 fn push_text(alloc: Global, item: &Json, into: &mut Placed) -> Result<(), NoMemory>
-    ensures { OnOk result ((rest : List (List ℕ)) → map (λ t. (t.0.items, t.1)) into.new.tokens.items ++ tokens_on into.new.end rest ≡ map (λ t. (t.0.items, t.1)) into.old.tokens.items ++ tokens_on into.old.end (one_text (text_of (view item.now)) ++ rest)) }
+    requires { end_of into.old.end + room (one_text (text_of (view item.now))) < 2 ^ 32 }
+    ensures end { OnOk result (end_of into.new.end ≤ end_of into.old.end + room (one_text (text_of (view item.now)))) }
+    ensures tokens { OnOk result ((rest : List (List ℕ)) → map (λ t. (t.0.items, t.1)) into.new.tokens.items ++ tokens_on into.new.end rest ≡ map (λ t. (t.0.items, t.1)) into.old.tokens.items ++ tokens_on into.old.end (one_text (text_of (view item.now)) ++ rest)) }
 {
     match item {
         Json::Text(text) => push_words(alloc, text.as_str(), into),
@@ -58,28 +59,26 @@ fn push_text(alloc: Global, item: &Json, into: &mut Placed) -> Result<(), NoMemo
 /// Adds the words of one more text.
 #[tactic(auto, using(crate::proofs::Wording::wording))]
 fn push_words(alloc: Global, text: &str, into: &mut Placed) -> Result<(), NoMemory>
-    ensures { OnOk result ((rest : List (List ℕ)) → map (λ t. (t.0.items, t.1)) into.new.tokens.items ++ tokens_on into.new.end rest ≡ map (λ t. (t.0.items, t.1)) into.old.tokens.items ++ tokens_on into.old.end (text.now ∷ rest)) }
+    requires { end_of into.old.end + room (text.now ∷ []) < 2 ^ 32 }
+    ensures end { OnOk result (end_of into.new.end ≤ end_of into.old.end + room (text.now ∷ [])) }
+    ensures tokens { OnOk result ((rest : List (List ℕ)) → map (λ t. (t.0.items, t.1)) into.new.tokens.items ++ tokens_on into.new.end rest ≡ map (λ t. (t.0.items, t.1)) into.old.tokens.items ++ tokens_on into.old.end (text.now ∷ rest)) }
 {
     let found = analysis::tokens(alloc, text)?.into_vec();
     let count = found.len() as u64;
-    let from = start_of(into.end)?;
+    let from = start_of(into.end);
     place(found, from, &mut into.tokens)?;
     into.end = end_after(into.end, from, count);
     Ok(())
 }
 
 /// The position at which a text's words begin.
-fn start_of(end: Option<u64>) -> Result<u64, NoMemory>
-    ensures start { IfOk result (λ n. n ≡ start_of end) }
-    ensures bound { IfOk result (λ n. n < 2 ^ 33) }
+fn start_of(end: Option<u64>) -> u64
+    requires { end_of end < 2 ^ 32 }
+    ensures { result ≡ start_of end }
 {
     match end {
-        None => Ok(0),
-        Some(end) => if end > MOST_POSITION {
-            Err(NoMemory)
-        } else {
-            Ok(end + POSITION_GAP)
-        },
+        None => 0,
+        Some(end) => end + POSITION_GAP,
     }
 }
 
@@ -102,7 +101,7 @@ fn end_after(end: Option<u64>, from: u64, count: u64) -> Option<u64>
 /// Adds words with positions one after the other.
 #[tactic(auto, using(crate::proofs::Wording::wording))]
 fn place(found: Vec<Token>, from: u64, into: &mut Vec<(Vec<u8>, u32)>) -> Result<(), NoMemory>
-    requires { from < 2 ^ 33 }
+    requires { from + length found.items ≤ 2 ^ 32 }
     ensures { OnOk result (map (λ t. (t.0.items, t.1)) into.new.items ≡ map (λ t. (t.0.items, t.1)) into.old.items ++ placed_words from (map (λ t. t.folded) found.items)) }
 {
     let mut at = from;
@@ -114,12 +113,9 @@ fn place(found: Vec<Token>, from: u64, into: &mut Vec<(Vec<u8>, u32)>) -> Result
 }
 
 fn push_token(token: Token, at: u64, into: &mut Vec<(Vec<u8>, u32)>) -> Result<(), NoMemory>
-    ensures token { OnOk result (map {B = List ℕ × ℕ} (λ t. (t.0.items, t.1)) into.new.items ≡ map {B = List ℕ × ℕ} (λ t. (t.0.items, t.1)) into.old.items ++ (token.folded, at) ∷ []) }
-    ensures bound { OnOk result (at < 2 ^ 32) }
+    requires { at < 2 ^ 32 }
+    ensures { OnOk result (map {B = List ℕ × ℕ} (λ t. (t.0.items, t.1)) into.new.items ≡ map {B = List ℕ × ℕ} (λ t. (t.0.items, t.1)) into.old.items ++ (token.folded, at) ∷ []) }
 {
-    if at > MOST_POSITION {
-        return Err(NoMemory);
-    }
     into.push((token.folded.into_vec(), at as u32))?;
     Ok(())
 }

@@ -1,8 +1,10 @@
 //! One walk over the objects of a source.
 ghost use Rattle.std.specs.Prelude.{◌≡◌, ◌++◌, ◌+◌, ◌<◌, ◌≤◌, ◌∷◌, [], length, map, IsErrOf, OnOk};
 ghost use Rattle.std.specs.List.{flat_map};
+ghost use Rattle.tree_json.specs.Text.{compact};
 ghost use Rattle.tree_json.specs.View.{view};
 ghost use Rattle.flattener.specs.Block.{most_documents};
+ghost use Rattle.flattener.specs.Fits.{most_source};
 ghost use Rattle.flattener.specs.Seen.{document_seen};
 ghost use Rattle.flattener.specs.Walked.{children_at, inner, kid_part, walked, flat_pair, flat_at};
 
@@ -17,41 +19,48 @@ use tree_json::Json;
 /// The nested objects that a tree may have.
 const MOST_NESTED: usize = 10_000;
 
-/// Adds the documents of an object and of those inside it, its own last. `left` is how many levels may lie below.
+/// Adds the documents of an object and of those inside it, its own last. `left` is how many levels may lie below, and
+/// `found` is for items, so that all documents share its memory.
 #[cycle(walks)]
 #[tactic(auto, using(crate::proofs::Blocks::blocks))]
-pub(crate) fn walk(
+pub(crate) fn walk<'a>(
     alloc: Global,
     mapping: &Mapping,
     generation: u32,
     left: u32,
     scope: u32,
-    content: &Json,
+    content: &'a Json,
+    found: &mut Vec<&'a Json>,
     into: &mut Vec<Document>,
 ) -> Result<(), WalkRefusal>
-    requires { scope < length mapping.now.scopes }
+    requires scope { scope < length mapping.now.scopes }
+    requires light { length (compact (view content.now)) ≤ most_source }
     ensures ok { OnOk result (map document_seen into.new.items ≡ map document_seen into.old.items ++ map (flat_pair mapping.now generation) (walked mapping.now generation left scope (view content.now))) }
     ensures long { OnOk result (length into.new.items ≡ length into.old.items + length (walked mapping.now generation left scope (view content.now))) }
     ensures few { OnOk result (length into.new.items ≤ most_documents) }
     ensures many { IsErrOf result WalkRefusal.TooManyObjects → most_documents < length into.old.items + length (walked mapping.now generation left scope (view content.now)) }
 {
-    walk_inside(alloc, mapping, generation, left, scope, content, into)?;
-    push_document(alloc, mapping, generation, scope, content, into)
+    walk_inside(
+        alloc, mapping, generation, left, scope, content, found, into,
+    )?;
+    push_document(alloc, mapping, generation, scope, content, found, into)
 }
 
 /// Adds the documents of the objects inside an object.
 #[cycle(walks)]
 #[tactic(auto, using(crate::proofs::Blocks::blocks))]
-fn walk_inside(
+fn walk_inside<'a>(
     alloc: Global,
     mapping: &Mapping,
     generation: u32,
     left: u32,
     scope: u32,
-    content: &Json,
+    content: &'a Json,
+    found: &mut Vec<&'a Json>,
     into: &mut Vec<Document>,
 ) -> Result<(), WalkRefusal>
-    requires { scope < length mapping.now.scopes }
+    requires scope { scope < length mapping.now.scopes }
+    requires light { length (compact (view content.now)) ≤ most_source }
     ensures ok { OnOk result (map document_seen into.new.items ≡ map document_seen into.old.items ++ map (flat_pair mapping.now generation) (inner mapping.now generation left scope (view content.now))) }
     ensures long { OnOk result (length into.new.items ≡ length into.old.items + length (inner mapping.now generation left scope (view content.now))) }
     ensures many { IsErrOf result WalkRefusal.TooManyObjects → most_documents < length into.old.items + length (inner mapping.now generation left scope (view content.now)) }
@@ -69,6 +78,7 @@ fn walk_inside(
             scope,
             *kid,
             content,
+            found,
             into,
         )?;
     }
@@ -78,23 +88,25 @@ fn walk_inside(
 /// Adds the documents of the objects at one nested path, if the scope around it is an object's.
 #[cycle(walks)]
 #[tactic(auto, using(crate::proofs::Blocks::blocks))]
-fn walk_if_kid(
+fn walk_if_kid<'a>(
     alloc: Global,
     mapping: &Mapping,
     generation: u32,
     left: u32,
     scope: u32,
     kid: u32,
-    content: &Json,
+    content: &'a Json,
+    found: &mut Vec<&'a Json>,
     into: &mut Vec<Document>,
 ) -> Result<(), WalkRefusal>
-    requires { kid < length mapping.now.scopes }
+    requires kid { kid < length mapping.now.scopes }
+    requires light { length (compact (view content.now)) ≤ most_source }
     ensures ok { OnOk result (map document_seen into.new.items ≡ map document_seen into.old.items ++ map (flat_pair mapping.now generation) (kid_part mapping.now generation left scope (view content.now) kid)) }
     ensures long { OnOk result (length into.new.items ≡ length into.old.items + length (kid_part mapping.now generation left scope (view content.now) kid)) }
     ensures many { IsErrOf result WalkRefusal.TooManyObjects → most_documents < length into.old.items + length (kid_part mapping.now generation left scope (view content.now) kid) }
 {
     if outer(mapping, kid) == scope {
-        walk_kid(alloc, mapping, generation, left, kid, content, into)
+        walk_kid(alloc, mapping, generation, left, kid, content, found, into)
     } else {
         Ok(())
     }
@@ -103,37 +115,41 @@ fn walk_if_kid(
 /// Adds the documents of the objects at one nested path in an object, and of those inside them.
 #[cycle(walks)]
 #[tactic(auto, using(crate::proofs::Blocks::blocks))]
-fn walk_kid(
+fn walk_kid<'a>(
     alloc: Global,
     mapping: &Mapping,
     generation: u32,
     left: u32,
     kid: u32,
-    content: &Json,
+    content: &'a Json,
+    found: &mut Vec<&'a Json>,
     into: &mut Vec<Document>,
 ) -> Result<(), WalkRefusal>
-    requires { kid < length mapping.now.scopes }
+    requires kid { kid < length mapping.now.scopes }
+    requires light { length (compact (view content.now)) ≤ most_source }
     ensures ok { OnOk result (map document_seen into.new.items ≡ map document_seen into.old.items ++ map (flat_pair mapping.now generation) (flat_map (walked mapping.now generation left kid) (children_at mapping.now generation kid (view content.now)))) }
     ensures long { OnOk result (length into.new.items ≡ length into.old.items + length (flat_map (walked mapping.now generation left kid) (children_at mapping.now generation kid (view content.now)))) }
     ensures many { IsErrOf result WalkRefusal.TooManyObjects → most_documents < length into.old.items + length (flat_map (walked mapping.now generation left kid) (children_at mapping.now generation kid (view content.now))) }
 {
     let children = children(alloc, mapping, generation, kid, content)?;
     'children: for child in children.as_slice() {
-        walk(alloc, mapping, generation, left, kid, *child, into)?;
+        walk(alloc, mapping, generation, left, kid, *child, found, into)?;
     }
     Ok(())
 }
 
 /// Adds the document of an object, if there is room in a block.
-fn push_document(
+fn push_document<'a>(
     alloc: Global,
     mapping: &Mapping,
     generation: u32,
     scope: u32,
-    content: &Json,
+    content: &'a Json,
+    found: &mut Vec<&'a Json>,
     into: &mut Vec<Document>,
 ) -> Result<(), WalkRefusal>
-    requires { scope < length mapping.now.scopes }
+    requires scope { scope < length mapping.now.scopes }
+    requires light { length (compact (view content.now)) ≤ most_source }
     ensures ok { OnOk result (map document_seen into.new.items ≡ map document_seen into.old.items ++ flat_at mapping.now generation scope (view content.now) ∷ []) }
     ensures long { OnOk result (length into.new.items ≡ length into.old.items + 1) }
     ensures few { OnOk result (length into.new.items ≤ most_documents) }
@@ -142,7 +158,10 @@ fn push_document(
     if into.len() > MOST_NESTED {
         return Err(WalkRefusal::TooManyObjects);
     }
-    Ok(push(document(alloc, mapping, generation, scope, content)?, into)?)
+    Ok(push(
+        document(alloc, mapping, generation, scope, content, found)?,
+        into,
+    )?)
 }
 
 fn push(document: Document, into: &mut Vec<Document>) -> Result<(), NoMemory>

@@ -1,20 +1,22 @@
--- Every write that is asked for has an id, and its sources are objects.
+-- Every write that is asked for has an id, and its sources are objects; every search that is asked for has a search body.
 use Rattle.std.proofs.Common.{◌≡◌, ◌≤◌, ◌<◌, ℕ, zero, suc, ◌/◌, ◌%◌, ◌==◌, pos, negsuc, true, false, Bool, not, cond, List, [], ◌∷◌, length, codes, decimal, Option, Some, None, is_some, IfSome, option_and_then, option_map, unwrap_or, refl, ap, subst, arith}
 use Rattle.std.proofs.lemmas.Bool.{and_parts}
 use Rattle.std.proofs.lemmas.Slice.Eq.{bytes_eq-Decides}
 use Rattle.std.specs.Fmt.{digits, digits_onto, digit_glyph}
 use Rattle.std.specs.Str.{bytes_eq}
-use Rattle.line_reader.specs.Request.{ReadLine, in_full, too_long, SourceLine}
+use Rattle.line_reader.specs.Request.{ReadLine, in_full, too_long, SourceLine, not_taken, missing, given}
+use Rattle.tree_json.specs.Levels.{levels, members_levels, most_levels}
 use Rattle.tree_json.specs.Reading.{Reading, reading, bad_json, fraction, value}
 use Rattle.tree_json.specs.Value.{JsonValue, null, bool, whole, text, list, object, Members, no_members, member, member_of, is_object}
 use Rattle.request_form.specs.declared.form.Form.{Form}
 use Rattle.request_form.specs.declared.form.Name.{Name}
 use Rattle.request_form.specs.declared.form.Presence.{Presence}
-use Rattle.request_form.specs.Asked.{Asked, asked_in, asked_by, asked_of, asks, refused, asks_or_bad, sourced, operation_of, update_in, changes_of, is_at_odds, SourceValue, no_value, is_value, value_of}
+use Rattle.request_form.specs.Asked.{Asked, asked_in, asked_by, asked_of, asks, refused, asks_or_bad, sourced, operation_of, update_in, changes_of, is_at_odds, SourceValue, no_value, is_value, value_in, value_of}
 use Rattle.request_form.specs.Command.{Target, Write, Action, Operation, index, create, update, delete, Command, alone, indexes, creates, updates, if_formed, id_by, id_in, target_of, part_of, part_in, command_by, command_under, command_named, command_in, command_of, name_among}
 use Rattle.request_form.specs.Command as asked
 use Rattle.request_form.specs.Form.{are_taken, is_taken, has_required, has_lines, members_in, single_of}
-use Rattle.request_form.specs.Formed.{IsFormed, HasObjects}
+use Rattle.request_form.specs.Formed.{IsFormed, HasSources, IsSourceValue}
+use Rattle.search_form.specs.Form.{is_search_body}
 use Rattle.request_form.specs.Table.{names, is_id, create_lines, write_lines, update_lines}
 
 -- ---- what comes out of an option
@@ -57,7 +59,7 @@ digits_onto_some (suc k) n x acc = let d = digit_glyph false (n % 10) in either_
 
 decimal_some : (n : ℕ) → 0 < length (decimal n)
 unfolding digits
-decimal_some n = let d = digit_glyph false (n % 10) in either_some (n / 10 == 0) d [] _ (digits_onto_some 63 (n / 10) d [])
+decimal_some n = let d = digit_glyph false (n % 10) in either_some (n / 10 == 0) d [] (digits_onto 63 10 false (n / 10) (d ∷ [])) (digits_onto_some 63 (n / 10) d [])
 
 id_some : (v : JsonValue) → is_id v ≡ true → 1 ≤ length (id_by v)
 id_some null h = absurd (cc)
@@ -89,6 +91,7 @@ create_id ms h =
 
 abbrev ActionIsFormed : Action → Type 0
 ActionIsFormed (asked.write it) = IsFormed it
+ActionIsFormed (asked.search body) = is_search_body body ≡ true
 ActionIsFormed action = Unit {0}
 
 abbrev CommandIsFormed : Command → Type 0
@@ -122,7 +125,7 @@ by_name Name.Create ms c e = let f = formed_if _ _ c e in subst CommandIsFormed 
 by_name Name.Update ms c e = let f = formed_if _ _ c e in subst CommandIsFormed f.1 (write_id ms f.0)
 by_name Name.Delete ms c e = let f = formed_if _ _ c e in subst CommandIsFormed f.1 (record { id = write_id ms f.0; sources = tt })
 by_name Name.Mapping ms c e = subst CommandIsFormed (ap (λ o. unwrap_or o (alone (asked.map_body (object ms)))) e) tt
-by_name Name.Search ms c e = subst CommandIsFormed (formed_if _ _ c e).1 tt
+by_name Name.Search ms c e = let f = formed_if _ _ c e in subst CommandIsFormed f.1 f.0
 by_name Name.Refresh ms c e = subst CommandIsFormed (formed_if _ _ c e).1 tt
 by_name Name.Segments ms c e = subst CommandIsFormed (formed_if _ _ c e).1 tt
 by_name Name.OpenPit ms c e = subst CommandIsFormed (formed_if _ _ c e).1 tt
@@ -147,33 +150,63 @@ command_formed v (Some c) e = in_formed (option_and_then single_of (members_in v
 
 -- ---- source lines
 
-object_named : (o : Option JsonValue) → is_some o ≡ true → ((v : JsonValue) → o ≡ Some v → is_object v ≡ true) → is_object (unwrap_or o null) ≡ true
-object_named None some all = absurd (cc)
-object_named (Some v) some all = all v refl
+member_within : (ms : Members) (name : List ℕ) (v : JsonValue) → member_of ms name ≡ Some v → levels v ≤ members_levels ms
+member_within no_members name v there = absurd (cc)
+member_within (member k d ms) name v there =
+    elim (bytes_eq k name) as (λ b. cond b (Some d) (member_of ms name) ≡ Some v → levels v ≤ members_levels (member k d ms)) [
+      | true ↦ λ here. subst (λ w. levels w ≤ members_levels (member k d ms)) (ap (λ o. unwrap_or o d) here) (omega arith)
+      | false ↦ λ here. omega (arith, member_within ms name v here)
+    ] there
 
-object_if : (o : Option JsonValue) → ((v : JsonValue) → o ≡ Some v → is_object v ≡ true) → IfSome o (λ v. is_object v ≡ true)
-object_if None all = tt
-object_if (Some v) all = all v refl
+source_named : (o : Option JsonValue) → is_some o ≡ true → ((v : JsonValue) → o ≡ Some v → IsSourceValue v) → IsSourceValue (unwrap_or o null)
+source_named None some all = absurd (cc)
+source_named (Some v) some all = all v refl
 
-changes_objects : (ms : Members) → has_lines update_lines ms ≡ true → HasObjects (update (changes_of ms))
-changes_objects ms h =
+source_if : (o : Option JsonValue) → ((v : JsonValue) → o ≡ Some v → IsSourceValue v) → IfSome o IsSourceValue
+source_if None all = tt
+source_if (Some v) all = all v refl
+
+changes_sources : (ms : Members) → levels (object ms) ≤ most_levels → has_lines update_lines ms ≡ true → HasSources (update (changes_of ms))
+changes_sources ms few h =
     let p = and_parts (has_required update_lines ms) (are_taken update_lines ms) h in
     let doc = member_of ms (codes "doc") in (
-      object_named doc (and_parts (is_some doc) true p.0).0 (λ v there. taken_at update_lines ms (codes "doc") v p.1 there),
-      object_if (member_of ms (codes "upsert")) (λ v there. taken_at update_lines ms (codes "upsert") v p.1 there),
+      source_named doc (and_parts (is_some doc) true p.0).0 (λ v there. (taken_at update_lines ms (codes "doc") v p.1 there, omega (arith, few, member_within ms (codes "doc") v there))),
+      source_if (member_of ms (codes "upsert")) (λ v there. (taken_at update_lines ms (codes "upsert") v p.1 there, omega (arith, few, member_within ms (codes "upsert") v there))),
     )
 
-update_objects : (target : Target) (o : Option Members) (op : Operation) → update_in target o ≡ Some op → HasObjects op
-update_objects target None op e = absurd (cc)
-update_objects target (Some ms) op e =
+update_if : (target : Target) (ms : Members) (op : Operation) → levels (object ms) ≤ most_levels → update_in target (Some ms) ≡ Some op → HasSources op
+update_if target ms op few e =
     let f = formed_if _ _ op e in
-    subst HasObjects f.1 (changes_objects ms (and_parts (has_lines update_lines ms) (not (is_at_odds target (changes_of ms))) f.0).0)
+    subst HasSources f.1 (changes_sources ms few (and_parts (has_lines update_lines ms) (not (is_at_odds target (changes_of ms))) f.0).0)
 
-operation_objects : (command : Command) (v : JsonValue) (op : Operation) → operation_of command v ≡ Some op → HasObjects op
-operation_objects (alone action) v op e = absurd (cc)
-operation_objects (indexes target) v op e = let f = formed_if (is_object v) (index v) op e in subst HasObjects f.1 f.0
-operation_objects (creates target) v op e = let f = formed_if (is_object v) (create v) op e in subst HasObjects f.1 f.0
-operation_objects (updates target) v op e = update_objects target (members_in v) op e
+update_sources : (target : Target) (v : JsonValue) (op : Operation) → levels v ≤ most_levels → update_in target (members_in v) ≡ Some op → HasSources op
+update_sources target null op few e = absurd (cc)
+update_sources target (bool b) op few e = absurd (cc)
+update_sources target (whole z) op few e = absurd (cc)
+update_sources target (text s) op few e = absurd (cc)
+update_sources target (list ds) op few e = absurd (cc)
+update_sources target (object ms) op few e = update_if target ms op few e
+
+operation_sources : (command : Command) (v : JsonValue) (op : Operation) → levels v ≤ most_levels → operation_of command v ≡ Some op → HasSources op
+operation_sources (alone action) v op few e = absurd (cc)
+operation_sources (indexes target) v op few e = let f = formed_if (is_object v) (index v) op e in subst HasSources f.1 (f.0, few)
+operation_sources (creates target) v op few e = let f = formed_if (is_object v) (create v) op e in subst HasSources f.1 (f.0, few)
+operation_sources (updates target) v op few e = update_sources target v op few e
+
+-- what is read has few levels
+abbrev ReadsFew : Type 0
+ReadsFew = (bytes : List ℕ) (v : JsonValue) → reading bytes ≡ value v → levels v ≤ most_levels
+
+value_read : (line : Reading) (v : JsonValue) → value_in line ≡ is_value v → line ≡ value v
+value_read bad_json v e = absurd (cc)
+value_read fraction v e = absurd (cc)
+value_read (value w) v e = cc
+
+source_few : (few : ReadsFew) (source : SourceLine) (v : JsonValue) → value_of source ≡ is_value v → levels v ≤ most_levels
+source_few few not_taken v e = absurd (cc)
+source_few few missing v e = absurd (cc)
+source_few few (given too_long) v e = absurd (cc)
+source_few few (given (in_full bytes)) v e = few bytes v (value_read (reading bytes) v e)
 
 -- ---- what is asked for
 
@@ -188,29 +221,57 @@ write_in other action = other
 asked_write : (it : Write) (action : Action) → asks action ≡ asks (asked.write it) → action ≡ asked.write it
 asked_write it action e = ap (action_in action) e
 
-bad_formed : (o : Option Operation) (target : Target) (it : Write) → 1 ≤ length target.id → ((op : Operation) → o ≡ Some op → HasObjects op) → asks_or_bad o target ≡ asks (asked.write it) → IsFormed it
+bad_formed : (o : Option Operation) (target : Target) (it : Write) → 1 ≤ length target.id → ((op : Operation) → o ≡ Some op → HasSources op) → asks_or_bad o target ≡ asks (asked.write it) → IsFormed it
 bad_formed None target it id all e = absurd (cc)
 bad_formed (Some op) target it id all e =
     let given : Write = record { target = target; operation = op } in
     subst IsFormed (ap (write_in given) (asked_write it (asked.write given) e)) (record { id = id; sources = all op refl })
 
-sourced_formed : (command : Command) (target : Target) (source : SourceValue) (it : Write) → 1 ≤ length target.id → sourced command target source ≡ asks (asked.write it) → IsFormed it
-sourced_formed command target (no_value why) it id e = absurd (cc)
-sourced_formed command target (is_value v) it id e = bad_formed (operation_of command v) target it id (operation_objects command v) e
+sourced_formed : (command : Command) (target : Target) (source : SourceValue) (it : Write) → 1 ≤ length target.id → ((v : JsonValue) → source ≡ is_value v → levels v ≤ most_levels)
+    → sourced command target source ≡ asks (asked.write it) → IsFormed it
+sourced_formed command target (no_value why) it id few e = absurd (cc)
+sourced_formed command target (is_value v) it id few e = bad_formed (operation_of command v) target it id (λ op. operation_sources command v op (few v refl)) e
 
-by_formed : (c : Option Command) (source : SourceLine) (it : Write) → IfSome c CommandIsFormed → asked_by c source ≡ asks (asked.write it) → IsFormed it
-by_formed None source it formed e = absurd (cc)
-by_formed (Some (alone action)) source it formed e = subst ActionIsFormed (asked_write it action e) formed
-by_formed (Some (indexes target)) source it formed e = sourced_formed (indexes target) target (value_of source) it formed e
-by_formed (Some (creates target)) source it formed e = sourced_formed (creates target) target (value_of source) it formed e
-by_formed (Some (updates target)) source it formed e = sourced_formed (updates target) target (value_of source) it formed e
+by_formed : (few : ReadsFew) (c : Option Command) (source : SourceLine) (it : Write) → IfSome c CommandIsFormed → asked_by c source ≡ asks (asked.write it) → IsFormed it
+by_formed few None source it formed e = absurd (cc)
+by_formed few (Some (alone action)) source it formed e = subst ActionIsFormed (asked_write it action e) formed
+by_formed few (Some (indexes target)) source it formed e = sourced_formed (indexes target) target (value_of source) it formed (source_few few source) e
+by_formed few (Some (creates target)) source it formed e = sourced_formed (creates target) target (value_of source) it formed (source_few few source) e
+by_formed few (Some (updates target)) source it formed e = sourced_formed (updates target) target (value_of source) it formed (source_few few source) e
 
-in_formed_line : (line : Reading) (source : SourceLine) (it : Write) → asked_in line source ≡ asks (asked.write it) → IsFormed it
-in_formed_line bad_json source it e = absurd (cc)
-in_formed_line fraction source it e = absurd (cc)
-in_formed_line (value v) source it e = by_formed (command_of v) source it (command_formed v (command_of v) refl) e
+in_formed_line : (few : ReadsFew) (line : Reading) (source : SourceLine) (it : Write) → asked_in line source ≡ asks (asked.write it) → IsFormed it
+in_formed_line few bad_json source it e = absurd (cc)
+in_formed_line few fraction source it e = absurd (cc)
+in_formed_line few (value v) source it e = by_formed few (command_of v) source it (command_formed v (command_of v) refl) e
 
-pub asked_formed : (first : ReadLine) (source : SourceLine) (it : Write) → asked_of first source ≡ asks (asked.write it) → IsFormed it
+pub asked_formed : (few : ReadsFew) (first : ReadLine) (source : SourceLine) (it : Write) → asked_of first source ≡ asks (asked.write it) → IsFormed it
 unfolding asked_of
-asked_formed too_long source it e = absurd (cc)
-asked_formed (in_full bytes) source it e = in_formed_line (reading bytes) source it e
+asked_formed few too_long source it e = absurd (cc)
+asked_formed few (in_full bytes) source it e = in_formed_line few (reading bytes) source it e
+
+-- ---- searches
+
+not_written : (o : Option Operation) (target : Target) (body : JsonValue) → asks_or_bad o target ≡ asks (asked.search body) → ⊥
+not_written None target body e = cc
+not_written (Some op) target body e = cc
+
+not_sourced : (command : Command) (target : Target) (source : SourceValue) (body : JsonValue) → sourced command target source ≡ asks (asked.search body) → ⊥
+not_sourced command target (no_value why) body e = cc
+not_sourced command target (is_value v) body e = not_written (operation_of command v) target body e
+
+search_by : (c : Option Command) (source : SourceLine) (body : JsonValue) → IfSome c CommandIsFormed → asked_by c source ≡ asks (asked.search body) → is_search_body body ≡ true
+search_by None source body formed e = absurd (cc)
+search_by (Some (alone action)) source body formed e = subst ActionIsFormed (ap (action_in action) e) formed
+search_by (Some (indexes target)) source body formed e = absurd (not_sourced (indexes target) target (value_of source) body e)
+search_by (Some (creates target)) source body formed e = absurd (not_sourced (creates target) target (value_of source) body e)
+search_by (Some (updates target)) source body formed e = absurd (not_sourced (updates target) target (value_of source) body e)
+
+search_in : (line : Reading) (source : SourceLine) (body : JsonValue) → asked_in line source ≡ asks (asked.search body) → is_search_body body ≡ true
+search_in bad_json source body e = absurd (cc)
+search_in fraction source body e = absurd (cc)
+search_in (value v) source body e = search_by (command_of v) source body (command_formed v (command_of v) refl) e
+
+pub asked_search : (first : ReadLine) (source : SourceLine) (body : JsonValue) → asked_of first source ≡ asks (asked.search body) → is_search_body body ≡ true
+unfolding asked_of
+asked_search too_long source body e = absurd (cc)
+asked_search (in_full bytes) source body e = search_in (reading bytes) source body e

@@ -63,6 +63,7 @@ fn renewed_parts(alloc: Global, bytes: &[u8]) -> Result<Option<Vec<u8>>, NoMemor
         return Ok(None);
     };
     new.extend_from_slice(rest)?;
+    new.shrink_to_fit();
     Ok(Some(new))
 }
 

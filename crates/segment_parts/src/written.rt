@@ -26,6 +26,8 @@ pub fn segment_bytes(alloc: Global, columns: &Columns) -> Result<Vec<u8>, NoMemo
     put_ordinals(columns, &mut bytes)?;
     put_numbers(columns, &mut bytes)?;
     put_present(columns.present.as_slice(), &mut bytes)?;
+    // a segment lives long: it keeps no room that it grew by
+    bytes.shrink_to_fit();
     Ok(bytes)
 }
 
@@ -37,7 +39,8 @@ fn put_head(columns: &Columns, into: &mut Vec<u8>) -> Result<(), NoMemory>
     put_head_of(columns.documents, columns.scopes.as_slice(), into)
 }
 
-/// Appends a number of documents, and the documents of each of these scopes.
+/// Appends a number of documents, and the documents of each of these scopes. Where memory runs out, a part of them may stand
+/// there.
 #[tactic(auto, unfolding(crate::specs::Text::head_text))]
 pub fn put_head_of(documents: u32, scopes: &[BitSet], into: &mut Vec<u8>) -> Result<(), NoMemory>
     requires { length scopes.now < 2 ^ 32 }

@@ -29,16 +29,16 @@ abbrev with_told : ℕ → Option ℕ → ℕ × Option ℕ
 with_told n x = (n, x)
 
 -- a document that tells nothing
-abbrev silent_doc : Object → ℕ × Seq ℕ
-silent_doc o = (scope o, [])
+abbrev silent_doc : {A : Type 0} → Object → ℕ × Seq A
+silent_doc {A} o = (scope o, [])
 
 abbrev no_doc : Object → ℕ × Option ℕ
 no_doc o = (scope o, None)
 
-abbrev nothing : Object → Option ℕ
-nothing o = None
+abbrev nothing : {A : Type 0} → Object → Option A
+nothing {A} o = None
 
-silent_up : (mode : Seq ℕ → Option ℕ) (to : ℕ) → mode [] ≡ None → (xs : Seq Object) (rest : Seq (ℕ × Seq ℕ)) → joined mode None to [] (map silent_doc xs ++ rest) ≡ map nothing xs ++ joined mode None to [] rest
+silent_up : {A B : Type 0} (mode : Seq A → Option B) (to : ℕ) → mode [] ≡ None → (xs : Seq Object) (rest : Seq (ℕ × Seq A)) → joined mode None to [] (map silent_doc xs ++ rest) ≡ map nothing xs ++ joined mode None to [] rest
 silent_up mode to none [] rest = refl
 silent_up mode to none (o ∷ xs) rest =
     by_test (scope o == to)
@@ -48,8 +48,8 @@ silent_up mode to none (o ∷ xs) rest =
 module _ (m : Mapping) (laws : Laws m) where
   -- ---- up
 
-  module _ (to from : ℕ) (above : IsAbove m to from) (score : Object → Option ℕ) (mode : Seq ℕ → Option ℕ) (none : mode [] ≡ None) where
-    abbrev docs_up : Seq (Marked Tree) → Seq (ℕ × Seq ℕ)
+  module _ {A B : Type 0} (to from : ℕ) (above : IsAbove m to from) (score : Object → Option A) (mode : Seq A → Option B) (none : mode [] ≡ None) where
+    abbrev docs_up : Seq (Marked Tree) → Seq (ℕ × Seq A)
     docs_up trees = zip (scopes_of m trees) (map option_to_list (seen m (at_scope from score) trees))
 
     tree_up : (t : Marked Tree) (trees : Seq (Marked Tree)) → docs_up (t ∷ trees) ≡ map (λ o. (scope o, option_to_list (if_live (at_scope from score) t.live o))) (block_objects m t.item) ++ docs_up trees
@@ -59,7 +59,7 @@ module _ (m : Mapping) (laws : Laws m) where
         ∙ ap (λ zs. zs ++ map option_to_list (seen m (at_scope from score) trees)) (map_map option_to_list (if_live (at_scope from score) t.live) (block_objects m t.item)))
         ∙ zip_map (scope_mark t.live) (λ o. option_to_list (if_live (at_scope from score) t.live o)) (block_objects m t.item) (scopes_of m trees) (map option_to_list (seen m (at_scope from score) trees))
 
-    up_tree : (live : Bool) (tree : Tree) (rest : Seq (ℕ × Seq ℕ))
+    up_tree : (live : Bool) (tree : Tree) (rest : Seq (ℕ × Seq A))
         → joined mode None to [] (map (λ o. (scope o, option_to_list (if_live (at_scope from score) live o))) (block_objects m tree) ++ rest)
         ≡ map (if_live (at_scope to (gathered m mode from score)) live) (block_objects m tree) ++ joined mode None to [] rest
     unfolding block_objects

@@ -24,22 +24,22 @@ put : {A : Type 0} (o : Option A) (xs : Seq A) → option_to_list o ++ xs ≡ co
 put None xs = refl
 put (Some x) xs = refl
 
-module _ (m : Mapping) (laws : Laws m) (to from : ℕ) (above : IsAbove m to from) (score : Object → Option ℕ) (mode : Seq ℕ → Option ℕ) where
+module _ {A B : Type 0} (m : Mapping) (laws : Laws m) (to from : ℕ) (above : IsAbove m to from) (score : Object → Option A) (mode : Seq A → Option B) where
   -- what an object tells, with its scope, and what it answers
-  abbrev pub told : Object → Seq ℕ
+  abbrev pub told : Object → Seq A
   told o = option_to_list (at_scope from score o)
 
-  abbrev pub shown : Object → ℕ × Seq ℕ
+  abbrev pub shown : Object → ℕ × Seq A
   shown o = (scope o, told o)
 
-  abbrev pub answer : Object → Option ℕ
+  abbrev pub answer : Object → Option B
   answer o = at_scope to (gathered m mode from score) o
 
-  abbrev join : Seq ℕ → Seq (ℕ × Seq ℕ) → Seq (Option ℕ)
+  abbrev join : Seq A → Seq (ℕ × Seq A) → Seq (Option B)
   join since docs = joined mode None to since docs
 
   told_nothing : (o : Object) → (scope o == from) ≡ false → told o ≡ []
-  told_nothing o apart = by_choice (λ (x : Option ℕ). option_to_list x ≡ []) (scope o == from) (score o) None (λ held. absurd (false≢true (sym apart ∙ held))) (λ failed. refl)
+  told_nothing o apart = by_choice (λ (x : Option A). option_to_list x ≡ []) (scope o == from) (score o) None (λ held. absurd (false≢true (sym apart ∙ held))) (λ failed. refl)
 
   told_below : (xs : Seq Object) → flat_map told xs ≡ filter_map score (filter (stands_at from) xs)
   told_below [] = refl
@@ -53,7 +53,7 @@ module _ (m : Mapping) (laws : Laws m) (to from : ℕ) (above : IsAbove m to fro
   flat_append (x ∷ xs) ys = ap (λ zs. told x ++ zs) (flat_append xs ys) ∙ sym (append_assoc (told x) (flat_map told xs) (flat_map told ys))
 
   -- objects of other scopes only add to what was told
-  quiet : (xs : Seq Object) (since : Seq ℕ) (rest : Seq (ℕ × Seq ℕ)) → Each (λ (y : Object). (scope y == to) ≡ false) xs
+  quiet : (xs : Seq Object) (since : Seq A) (rest : Seq (ℕ × Seq A)) → Each (λ (y : Object). (scope y == to) ≡ false) xs
       → join since (map shown xs ++ rest) ≡ map answer xs ++ join (since ++ flat_map told xs) rest
   quiet [] since rest h = rw (append_nil since) refl
   quiet (y ∷ xs) since rest h =
@@ -62,7 +62,7 @@ module _ (m : Mapping) (laws : Laws m) (to from : ℕ) (above : IsAbove m to fro
       rw h.0 (ap (λ zs. None ∷ zs) (rw same at more))
 
   abbrev Passes : Seq Object → Type 0
-  Passes xs = (rest : Seq (ℕ × Seq ℕ)) → join [] (map shown xs ++ rest) ≡ map answer xs ++ join [] rest
+  Passes xs = (rest : Seq (ℕ × Seq A)) → join [] (map shown xs ++ rest) ≡ map answer xs ++ join [] rest
 
   passes_append : (xs ys : Seq Object) → Passes xs → Passes ys → Passes (xs ++ ys)
   passes_append xs ys h g rest =

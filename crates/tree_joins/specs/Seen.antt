@@ -1,5 +1,5 @@
 -- What evaluators give for the documents of a segment, said of the objects that these stand for.
-use Rattle.std.specs.Prelude.{ℕ, ◌==◌, Bool, cond, List, Option, None}
+use Rattle.std.specs.Prelude.{ℕ, ◌==◌, Bool, cond, List, [], ◌∷◌, Option, Some, None, option_map}
 use Rattle.std.specs.List.{filter_map}
 use Rattle.flattener.specs.StandsFor.{Marked, by_document}
 use Rattle.mapping.specs.Mapping.{Mapping}
@@ -29,6 +29,16 @@ module _ {A : Type 0} where
   abbrev pub handed : ℕ → (Object → Option A) → Object → Option A
   handed from f o = f (around o from)
 
--- the scores of the objects below an object, put together
-abbrev pub gathered : Mapping → (List ℕ → Option ℕ) → ℕ → (Object → Option ℕ) → Object → Option ℕ
-gathered m mode from score o = mode (filter_map score (below m o from))
+module _ {A B : Type 0} where
+  -- what the objects below an object have, put together
+  abbrev pub gathered : Mapping → (List A → Option B) → ℕ → (Object → Option A) → Object → Option B
+  gathered m mode from score o = mode (filter_map score (below m o from))
+
+-- a list, if it has anything
+abbrev pub some_of : {A : Type 0} → List A → Option (List A)
+some_of {A} [] = None
+some_of {A} (x ∷ xs) = Some (x ∷ xs)
+
+-- an object with the score that it is given, if any
+abbrev pub scored : (Object → Option ℕ) → Object → Option (Object × ℕ)
+scored given o = option_map (λ score. (o, score)) (given o)

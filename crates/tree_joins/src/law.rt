@@ -5,7 +5,7 @@ ghost use Rattle.block_join.specs.Joins.{joined, spread};
 ghost use Rattle.flattener.specs.StandsFor.{Marked};
 ghost use Rattle.mapping.specs.IsMapping.{IsMapping};
 ghost use Rattle.mapping.specs.Mapping.{Mapping, IsAbove};
-ghost use Rattle.tree_joins.specs.Seen.{scopes_of, seen, at_scope, gathered, handed};
+ghost use Rattle.tree_joins.specs.Seen.{scopes_of, seen, at_scope, gathered, handed, scored, some_of};
 ghost use Rattle.tree_objects.specs.Object.{Object};
 ghost use Rattle.tree_objects.specs.Tree.{Tree};
 
@@ -13,9 +13,11 @@ use mapping::scopes_form_chains;
 use tree_objects::objects_nest;
 
 /// Scores that go up in blocks, from a scope to one above it, are at each object those of the objects below it, put together
-/// by the mode; a dead block has none. Scores that go down are at each object that of the object around it.
+/// by the mode; a dead block has none. Scores that go down are at each object that of the object around it. So it is of lists
+/// of objects with their scores that go up.
 pub fn joins_are_of_trees()
     ensures up { (m : Mapping) (to from : ℕ) (score : Object → Option ℕ) (mode : List ℕ → Option ℕ) (trees : List (Marked Tree)) → IsMapping m → IsAbove m to from → mode [] ≡ None → joined mode None to [] (zip (scopes_of m trees) (map option_to_list (seen m (at_scope from score) trees))) ≡ seen m (at_scope to (gathered m mode from score)) trees }
+    ensures inside { (m : Mapping) (to from : ℕ) (given : Object → Option ℕ) (trees : List (Marked Tree)) → IsMapping m → IsAbove m to from → joined some_of None to [] (zip (scopes_of m trees) (map option_to_list (seen m (at_scope from (scored given)) trees))) ≡ seen m (at_scope to (gathered m some_of from (scored given))) trees }
     ensures down { (m : Mapping) (from to : ℕ) (score : Object → Option ℕ) (trees : List (Marked Tree)) → IsMapping m → IsAbove m from to → spread from to (zip (scopes_of m trees) (seen m (at_scope from score) trees)) ≡ seen m (at_scope to (handed from score)) trees }
 {
     scopes_form_chains();

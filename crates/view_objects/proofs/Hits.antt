@@ -1,7 +1,7 @@
 -- Documents with scores are the objects that they stand for.
-use Rattle.std.proofs.Common.{◌≡◌, ℕ, ◌+◌, ◌==◌, List as Seq, [], ◌∷◌, ◌++◌, length, map, filter, flat_map, get_or, Bool, true, false, cond, Option, Some, None, refl, sym, ap, ◌∙◌, arith, append_assoc}
+use Rattle.std.proofs.Common.{◌≡◌, ℕ, ◌+◌, ◌==◌, List as Seq, [], ◌∷◌, ◌++◌, length, map, filter, flat_map, get_or, Bool, true, false, cond, Option, Some, None, refl, sym, ap, ◌∙◌, append_assoc}
 use Rattle.std.proofs.Math.Seq.{get_or-append_seam}
-use Rattle.std.proofs.lemmas.List.{map-append}
+use Rattle.std.proofs.lemmas.List.{length-append, map-append}
 use Rattle.std.proofs.lemmas.List.Concat.{flat_map-append}
 use Rattle.std.proofs.lemmas.List.Elements.{filter_map-append}
 use Rattle.std.specs.List.{filter_map, cons_option}
@@ -42,6 +42,9 @@ first_read : (objects : Seq Object) (o : Object) (place doc : ℕ) (score : Opti
 first_read objects o place doc None hits here = refl
 first_read objects o place doc (Some s) hits here = ap (λ x. (x, s) ∷ map (read_in objects) hits) here
 
+one_longer : {A : Type 0} (xs : Seq A) (x : A) (k : ℕ) → length xs ≡ k → length (xs ++ x ∷ []) ≡ k + 1
+one_longer xs x k same = length-append xs (x ∷ []) ∙ ap (λ n. n + 1) same
+
 module _ (m : Mapping) where
   documents_of : Seq (Marked Tree) → Seq Document
   documents_of trees = by_document m document trees
@@ -72,10 +75,7 @@ module _ (m : Mapping) where
             ∙ ap (λ k. get_or (before ++ d.1 ∷ map object_of ds) k no_object) (sym long)
             ∙ get_or-append_seam before d.1 (map object_of ds) no_object in
         first_read objects d.1 place doc (told d) (hits_from place (doc + 1) (map told ds)) here
-        ∙ ap (cons_option (chosen d)) (entry_hits objects (before ++ d.1 ∷ []) place (doc + 1) ds (longer before d.1 doc long) (same ∙ sym (append_assoc before (d.1 ∷ []) (map object_of ds))))
-      where
-        longer : (xs : Seq Object) (x : Object) (k : ℕ) → length xs ≡ k → length (xs ++ x ∷ []) ≡ k + 1
-        longer xs x k same = grind arith
+        ∙ ap (cons_option (chosen d)) (entry_hits objects (before ++ d.1 ∷ []) place (doc + 1) ds (one_longer before d.1 doc long) (same ∙ sym (append_assoc before (d.1 ∷ []) (map object_of ds))))
 
     -- the objects of a live tree that are given something, and of a dead one none
     of_live : (os : Seq Object) → filter_map chosen (map (document true) os) ≡ filter_map (scored given) (filter (stands_at n) os)
@@ -137,12 +137,9 @@ module _ (m : Mapping) where
         ∙ ap (λ zs. zs ++ map (hit_object m all) hits)
           (placed all place 0 scores ∙ ap (λ ts. map (read_in (objects_in m ts)) (hits_from place 0 scores)) here ∙ entry_found place trees)
         ∙ ap (λ zs. filter_map (scored given) (live_objects m n (live_in trees)) ++ zs)
-          (view_found all (before ++ trees ∷ []) (place + 1) entries (longer before trees place long) (same ∙ sym (append_assoc before (trees ∷ []) entries)))
+          (view_found all (before ++ trees ∷ []) (place + 1) entries (one_longer before trees place long) (same ∙ sym (append_assoc before (trees ∷ []) entries)))
         ∙ sym (filter_map-append (scored given) (live_objects m n (live_in trees)) (live_objects m n (live_trees entries)))
         ∙ ap (filter_map (scored given)) (sym (flat_map-append (λ tree. filter (stands_at n) (block_objects m tree)) (live_in trees) (live_trees entries)))
-      where
-        longer : (xs : Seq (Seq (Marked Tree))) (x : Seq (Marked Tree)) (k : ℕ) → length xs ≡ k → length (xs ++ x ∷ []) ≡ k + 1
-        longer xs x k same = grind arith
 
     pub hits_found : (entries : Seq (Seq (Marked Tree))) → map (hit_object m entries) (hits_of 0 (map (seen m (at_scope n given)) entries)) ≡ filter_map (scored given) (live_objects m n (live_trees entries))
     hits_found entries = view_found entries [] 0 entries refl refl

@@ -6,10 +6,10 @@ use Rattle.flattener.proofs.flatten.block.Goals as goal
 pub returns-clause-block : goal.returns-clause-block
 returns-clause-block c =
     block_made c.args.mapping.now c.args.id.now c.args.number (view c.args.source.now) c.args.generation _ _
-    c.in_ok-documents.ensures.documents c.in_ok-root.ensures
+    c.in_ok-documents.ensures.documents c.in_ok-root.ensures.root
 
 pub returns-clause-fits : goal.returns-clause-fits
 returns-clause-fits c = λ small. block_fits c.args.mapping.now c.args.id.now c.args.number (view c.args.source.now) c.args.generation _
     c.requires c.in_ok-faultless.ensures.ok (c.in_ok-documents.ensures.few refl) small
     (block_made c.args.mapping.now c.args.id.now c.args.number (view c.args.source.now) c.args.generation _ _
-    c.in_ok-documents.ensures.documents c.in_ok-root.ensures)
+    c.in_ok-documents.ensures.documents c.in_ok-root.ensures.root)

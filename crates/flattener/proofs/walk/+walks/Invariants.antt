@@ -1,6 +1,8 @@
-use Rattle.std.proofs.Common.{◌≡◌, ◌+◌, ◌-◌, ◌*◌, ◌++◌, length, map, drop}
+use Rattle.std.proofs.Common.{◌≡◌, ◌+◌, ◌-◌, ◌*◌, ◌≤◌, ◌++◌, length, map, drop}
 use Rattle.std.specs.List.{flat_map}
 use Rattle.tree_json.specs.View.{view}
+use Rattle.tree_objects.proofs.Weights.{total, weight_of}
+use Rattle.flattener.specs.Fits.{most_source}
 use Rattle.flattener.specs.Seen.{document_seen}
 use Rattle.flattener.specs.Walked.{inner, inside_at, walked, flat_pair}
 use Rattle.flattener.proofs.walk.+walks.Given as goal
@@ -30,3 +32,4 @@ invariant-walk_kid-children l =
     ≡ map document_seen l.fn.into.items ++ map (flat_pair l.mapping l.generation) (flat_map (walked l.mapping l.generation l.left l.kid) (map (λ j. view j.now) l.child-items)))
     × (length l.into.items + length (flat_map (walked l.mapping l.generation l.left l.kid) (map (λ j. view j.now) (drop l.child-index l.child-items)))
     ≡ length l.fn.into.items + length (flat_map (walked l.mapping l.generation l.left l.kid) (map (λ j. view j.now) l.child-items)))
+    × (total weight_of (map (λ j. view j.now) (drop l.child-index l.child-items)) ≤ most_source)

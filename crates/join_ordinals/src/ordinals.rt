@@ -1,0 +1,91 @@
+//! The ordinals of the roots of a view.
+
+ghost use Rattle.std.specs.Prelude.{◌≡◌, ◌<◌, [], IfOk, IfSome};
+ghost use Rattle.join_ordinals.specs.Ordinals.{AreOrdinals, ordinal_at};
+ghost use Rattle.join_ordinals.specs.Rows.{rows_seen};
+
+use crate::NoMemory;
+use crate::ids::Ids;
+use crate::rows::{Whose, rows_of};
+use segment_view::View;
+use std::alloc::Global;
+use std::marker::Model;
+
+/// An ordinal for the id of each live root of a view, and one for the id of its parent where it names one. They are made
+/// for a search that joins, and serve as long as the view stands.
+#[derive(Drop)]
+pub struct JoinOrdinals {
+    count: usize,
+    own: Vec<Vec<Option<u32>>>,
+    parents: Vec<Vec<Option<u32>>>,
+}
+
+impl Model for JoinOrdinals {
+    ghost use Rattle.join_ordinals.specs.Ordinals.{Ordinals};
+    ghost use Rattle.join_ordinals.specs.Rows.{rows_seen};
+
+    ghost Value = { Ordinals };
+
+    ghost view = { λ it. record { count = it.count; own = rows_seen it.own.items; parents = rows_seen it.parents.items } };
+}
+
+impl JoinOrdinals {
+    /// The ordinals of a view. It costs one look-up of an id for each live root, and one for its parent.
+    pub fn over(alloc: Global, view: &View) -> Result<JoinOrdinals, NoMemory>
+        ensures { IfOk result (AreOrdinals view.now) }
+    {
+        let mut ids = Ids::none(alloc);
+        let own = rows_of(alloc, view.entries(), Whose::Own, &mut ids)?;
+        let parents = rows_of(alloc, view.entries(), Whose::Parent, &mut ids)?;
+        let count = ids.count();
+        Ok(JoinOrdinals {
+            count,
+            own,
+            parents,
+        })
+    }
+
+    /// No ordinals, for a search that joins nothing. Takes no memory.
+    pub fn none(alloc: Global) -> JoinOrdinals
+        ensures { result ≡ record { count = 0; own = []; parents = [] } }
+    {
+        JoinOrdinals {
+            count: 0,
+            own: Vec::new(alloc),
+            parents: Vec::new(alloc),
+        }
+    }
+
+    /// How many ids there are: above every ordinal.
+    pub fn count(&self) -> usize
+        ensures { result ≡ self.now.count }
+    {
+        self.count
+    }
+
+    /// The ordinal of a root of the entry at a place; of ordinals of a view None exactly where no live root is there.
+    pub fn own(&self, place: usize, root: u32) -> Option<u32>
+        ensures { result ≡ ordinal_at self.now.own place root }
+    {
+        ordinal_of(self.own.as_slice(), place, root)
+    }
+
+    /// The ordinal of its parent; of ordinals of a view None exactly where no live root is there that names one.
+    pub fn parent(&self, place: usize, root: u32) -> Option<u32>
+        ensures { result ≡ ordinal_at self.now.parents place root }
+    {
+        ordinal_of(self.parents.as_slice(), place, root)
+    }
+}
+
+fn ordinal_of(rows: &[Vec<Option<u32>>], place: usize, root: u32) -> Option<u32>
+    ensures { result ≡ ordinal_at (rows_seen rows.now) place root }
+{
+    match rows.get(place) {
+        Some(row) => match row.get(root as usize) {
+            Some(ordinal) => *ordinal,
+            None => None,
+        },
+        None => None,
+    }
+}

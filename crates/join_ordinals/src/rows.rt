@@ -1,0 +1,97 @@
+//! The ordinals of the roots of each entry.
+
+ghost use Rattle.std.specs.Prelude.{◌≡◌, ◌<◌, length, IfOk, OnOk};
+ghost use Rattle.std.specs.Option.{option_map};
+ghost use Rattle.stored_sources.specs.Roots.{lent_join};
+ghost use Rattle.join_ordinals.specs.Ordinals.{AreRows, IsNumbered, parent_in};
+ghost use Rattle.join_ordinals.specs.Rows.{Keep, IsRow, id_by, rows_seen};
+
+use crate::NoMemory;
+use crate::ids::Ids;
+use segment::JoinValue;
+use segment_view::Entry;
+use std::alloc::Global;
+
+/// Whose id is numbered: the root's own, or its parent's.
+#[derive(Clone, Copy, Debug, PartialEq, Eq)]
+pub(crate) enum Whose {
+    Own,
+    Parent,
+}
+
+/// The id that is numbered of a root.
+fn id_of(entry: &Entry, whose: Whose, root: u32) -> Option<&[u8]>
+    requires { root < length entry.now.columns.roots }
+    ensures { option_map (λ id. id.now) result ≡ id_by whose entry.now root }
+{
+    let live = entry.live();
+    if !live.root(root) {
+        return None;
+    }
+    match whose {
+        Whose::Own => Some(entry.segment().root_id(root)),
+        Whose::Parent => parent_in(entry.segment().root_join(root)),
+    }
+}
+
+/// The id of the parent that a join value names.
+fn parent_in(join: JoinValue<'_>) -> Option<&[u8]>
+    ensures { option_map (λ id. id.now) result ≡ parent_in (lent_join join.entry) }
+{
+    match join {
+        JoinValue::Unjoined => None,
+        JoinValue::Named(_) => None,
+        JoinValue::Child(_, parent) => Some(parent),
+    }
+}
+
+/// The ordinal of an id, if there is one.
+fn number_of<'a>(ids: &mut Ids<'a>, id: Option<&'a [u8]>) -> Result<Option<u32>, NoMemory>
+    ensures numbered { IfOk result (λ ordinal. IsNumbered ids.new (option_map (λ id. id.now) id.entry) ordinal) }
+    ensures keep { OnOk result (Keep ids.old ids.new) }
+{
+    match id {
+        Some(id) => Ok(Some(ids.ordinal(id)?)),
+        None => Ok(None),
+    }
+}
+
+/// The ordinals of an entry's roots.
+#[tactic(auto, using(crate::proofs::Numbering::row_start, crate::proofs::Numbering::row_more, crate::proofs::Numbering::keep_same, crate::proofs::Numbering::keep_on))]
+fn row_of<'a>(
+    alloc: Global,
+    entry: &'a Entry,
+    whose: Whose,
+    ids: &mut Ids<'a>,
+) -> Result<Vec<Option<u32>>, NoMemory>
+    ensures long { IfOk result (λ row. length row.items ≡ length entry.now.columns.roots) }
+    ensures row { IfOk result (λ row. IsRow ids.new (id_by whose entry.now) row.items) }
+    ensures keep { OnOk result (Keep ids.old ids.new) }
+{
+    let count = entry.segment().roots();
+    let mut row = Vec::with_capacity(alloc, count as usize)?;
+    'roots: for root in 0..count {
+        let ordinal = number_of(ids, id_of(entry, whose, root))?;
+        row.push(ordinal)?;
+    }
+    Ok(row)
+}
+
+/// The ordinals of the roots of each entry.
+pub(crate) fn rows_of<'a>(
+    alloc: Global,
+    entries: &'a [Entry],
+    whose: Whose,
+    ids: &mut Ids<'a>,
+) -> Result<Vec<Vec<Option<u32>>>, NoMemory>
+    ensures rows { IfOk result (λ rows. AreRows ids.new (id_by whose) entries.now (rows_seen rows.items)) }
+    ensures keep { OnOk result (Keep ids.old ids.new) }
+{
+    let mut rows = Vec::with_capacity(alloc, entries.len())?;
+    'entries: for entry in entries {
+        let _live = entry.live();
+        let row = row_of(alloc, entry, whose, ids)?;
+        rows.push(row)?;
+    }
+    Ok(rows)
+}
