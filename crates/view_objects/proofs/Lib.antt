@@ -1,1 +1,2 @@
 mod Hits
+mod Inside

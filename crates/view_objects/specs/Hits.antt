@@ -1,6 +1,9 @@
 -- Documents of a view with scores, and the objects that they stand for.
-use Rattle.std.specs.Prelude.{ℕ, ◌+◌, Bool, List, [], ◌∷◌, ◌++◌, map, filter, get_or, Option, Some, None, option_map}
+use Rattle.std.specs.Prelude.{ℕ, ◌+◌, Bool, List, [], ◌∷◌, ◌++◌, map, filter, get_or, take, drop, Option, Some, None}
 use Rattle.std.specs.List.{flat_map}
+use Rattle.std.specs.Option.{option_map_or}
+use Rattle.block_bits.specs.Blocks.{has_scope}
+use Rattle.block_bits.specs.Places.{previous_place}
 use Rattle.flattener.specs.StandsFor.{Marked, by_document}
 use Rattle.mapping.specs.Mapping.{Mapping}
 use Rattle.tree_json.specs.Value.{null}
@@ -73,6 +76,12 @@ object_at m trees place doc = get_or (objects_in m (get_or trees place [])) doc 
 abbrev pub hit_object : Mapping → List (List (Marked Tree)) → Hit → Object × ℕ
 hit_object m trees hit = (object_at m trees hit.place hit.doc, hit.score)
 
--- an object with what it is given, if anything
-abbrev pub scored : (Object → Option ℕ) → Object → Option (Object × ℕ)
-scored given o = option_map (λ score. (o, score)) (given o)
+-- ---- the documents inside another one
+
+-- where the documents inside a document of a scope begin: behind the one of that scope before it
+abbrev pub start_before : ℕ → ℕ → List ℕ → ℕ
+start_before n doc scopes = option_map_or (λ previous. previous + 1) (previous_place (has_scope n) doc scopes) 0
+
+-- the documents with scores from one on, up to another
+abbrev pub hits_between : ℕ → ℕ → ℕ → List (Option ℕ) → List Hit
+hits_between place start end scores = hits_from place start (drop start (take end scores))

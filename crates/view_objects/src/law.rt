@@ -1,21 +1,26 @@
 //! Laws of documents and the objects that they stand for, as the contract of a function that does nothing.
-ghost use Rattle.std.specs.Prelude.{◌≡◌, ℕ, List, map, filter_map, Option};
+ghost use Rattle.std.specs.Prelude.{◌≡◌, ℕ, List, [], get_or, map, filter_map, Option, Some, None};
 ghost use Rattle.flattener.specs.StandsFor.{Marked};
 ghost use Rattle.mapping.specs.IsMapping.{IsMapping};
-ghost use Rattle.mapping.specs.Mapping.{Mapping};
+ghost use Rattle.mapping.specs.Mapping.{Mapping, IsAbove};
 ghost use Rattle.query_ast.specs.Joined.{roots};
-ghost use Rattle.tree_joins.specs.Seen.{at_scope, seen};
-ghost use Rattle.tree_objects.specs.Object.{Object};
+ghost use Rattle.tree_joins.specs.Seen.{at_scope, scopes_of, scored, seen};
+ghost use Rattle.tree_objects.specs.Object.{Object, below};
 ghost use Rattle.tree_objects.specs.Tree.{Tree};
-ghost use Rattle.view_objects.specs.Hits.{hit_object, hits_in, live_objects, live_trees, scored};
+ghost use Rattle.view_objects.specs.Hits.{hit_object, hits_between, hits_in, live_objects, live_trees, object_at, start_before};
 
+use tree_joins::joins_are_of_trees;
 use tree_objects::objects_nest;
 
 /// Where each document of a live object of a scope has what the object is given, the documents that have something are the
-/// objects that are given something, in document order; at the scope of roots these are the roots of the live trees.
+/// objects that are given something, in document order; at the scope of roots these are the roots of the live trees. Inside a
+/// document that has something they are the objects below its own: they stand from behind the document of its scope before it.
 pub fn hits_are_objects()
     ensures hits { (m : Mapping) (n : ℕ) (given : Object → Option ℕ) (trees : List (List (Marked Tree))) → map (hit_object m trees) (hits_in (map (seen m (at_scope n given)) trees)) ≡ filter_map (scored given) (live_objects m n (live_trees trees)) }
     ensures roots { (m : Mapping) (trees : List Tree) → IsMapping m → live_objects m 0 trees ≡ roots trees }
+    ensures inside { (m : Mapping) (n p : ℕ) (owner given : Object → Option ℕ) (trees : List (List (Marked Tree))) (place doc score : ℕ) → IsMapping m → IsAbove m n p → get_or (seen m (at_scope n owner) (get_or trees place [])) doc None ≡ Some score
+        → map (hit_object m trees) (hits_between place (start_before n doc (scopes_of m (get_or trees place []))) doc (seen m (at_scope p given) (get_or trees place []))) ≡ filter_map (scored given) (below m (object_at m trees place doc) p) }
 {
     objects_nest();
+    joins_are_of_trees();
 }
