@@ -1,21 +1,19 @@
 -- What is so of the blocks of an index stays so when the buffer is sealed and when a block comes or goes.
-use Rattle.std.proofs.Common.{◌≡◌, ℕ, suc, ◌+◌, ◌<◌, ◌≤◌, nat_le, nat_lt, Bool, true, false, List, [], ◌∷◌, ◌++◌, length, map, filter, Option, Some, None, refl, sym, ap, subst, ◌∙◌, append-nil, arith}
-use Rattle.std.specs.List.{count_by, sum_by, find, flat_map}
-use Rattle.std.specs.Option.{option_map}
-use Rattle.std.specs.Str.{bytes_eq}
+use Rattle.std.proofs.Common.{◌≡◌, ℕ, ◌+◌, ◌<◌, ◌≤◌, nat_le, List, [], ◌∷◌, ◌++◌, length, map, filter, Some, None, refl, sym, ap, subst, arith}
+use Rattle.std.specs.List.{count_by, find}
 use Rattle.std.proofs.lemmas.Bool.{leb-false}
 use Rattle.std.proofs.lemmas.List.{length-append}
 use Rattle.std.proofs.lemmas.List.Sums.{sum_by_push, count_by-le-length, length-filter}
 use Rattle.flattener.specs.Block.{BlockState}
 use Rattle.flattener.specs.Fits.{most_live}
-use Rattle.layout.proofs.Changes.{room_numbers, sealed_numbers, change_ascends, own_ids_put, own_ids_taken, found_put, found_taken}
+use Rattle.layout.proofs.Changes.{sealed_numbers, change_ascends, own_ids_put, own_ids_taken}
 use Rattle.layout.proofs.Goes.{split, none_goes}
-use Rattle.layout.proofs.Keeps.{sealed_keeps, with_room_keeps, changed_keeps}
+use Rattle.layout.proofs.Keeps.{sealed_keeps, changed_keeps}
 use Rattle.layout.proofs.Looked.{find_none, sum_without}
 use Rattle.layout.specs.Ascending.{Ascend}
 use Rattle.layout.specs.Layout.{Layout, live_items, segment_of, staying, killed, buffer_size, with_buffer_last, sealed, with_room, with_new}
 use Rattle.segment_builder.specs.Blocks.{block_objects, objects_of}
-use Rattle.index_core.specs.Kept.{AreBlocks, HaveOwnIds, block_number, has_block_id, most_opened, numbers_of}
+use Rattle.index_core.specs.Kept.{AreBlocks, HaveOwnIds, block_number, has_block_id}
 
 -- ---- sealing
 

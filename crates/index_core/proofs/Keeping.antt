@@ -1,24 +1,24 @@
 -- What an index keeps, after its buffer was sealed and after a change.
-use Rattle.std.proofs.Common.{◌≡◌, ℕ, ◌+◌, ◌<◌, ◌≤◌, nat_le, Bool, true, false, cond, List, [], ◌∷◌, ◌++◌, length, map, filter, Option, Some, None, refl, sym, ap, subst, ◌∙◌, arith}
-use Rattle.std.specs.List.{All, find, flat_map}
+use Rattle.std.proofs.Common.{◌≡◌, ℕ, ◌+◌, ◌≤◌, nat_le, cond, List, [], ◌∷◌, ◌++◌, length, filter, Option, Some, None, refl, sym, ap, subst, ◌∙◌, arith}
+use Rattle.std.specs.List.{All, find}
 use Rattle.std.specs.Option.{option_map}
 use Rattle.std.specs.Str.{bytes_eq}
 use Rattle.std.proofs.lemmas.List.Elements.{All-nil, All-cons, All-head, All-tail, All-append, All-filter}
 use Rattle.flattener.specs.Block.{BlockState}
 use Rattle.flattener.specs.Fits.{BlockFits, SegmentFits, most_live}
 use Rattle.flattener.specs.Seen.{block_seen}
-use Rattle.layout.proofs.Changes.{room_numbers, sealed_numbers, found_put, found_taken}
+use Rattle.layout.proofs.Changes.{room_numbers, found_put, found_taken}
 use Rattle.layout.proofs.Goes.{split}
 use Rattle.layout.proofs.Keeps.{sealed_keeps, with_room_keeps, changed_keeps}
 use Rattle.layout.specs.Ascending.{Ascend}
 use Rattle.layout.specs.Layout.{Layout, live_items, staying, killed, sealed, with_room, with_new, with_change, buffer_size}
 use Rattle.mapping.specs.Mapping.{Mapping}
 use Rattle.segment.specs.Live.{EntryState}
-use Rattle.segment_builder.specs.Blocks.{block_objects, objects_of}
-use Rattle.index_core.specs.Found.{BlocksState, HasOld, HasLive, IsLive, AreFit, columns_of, layout_of, live_blocks, number_under}
+use Rattle.segment_builder.specs.Blocks.{objects_of}
+use Rattle.index_core.specs.Found.{BlocksState, HasOld, HasLive, AreFit, columns_of, layout_of, live_blocks, number_under}
 use Rattle.index_core.specs.Inside.{IsKept}
 use Rattle.index_core.specs.declared.index_core.IndexCore.TheInside.{Inside}
-use Rattle.index_core.specs.Kept.{AreBlocks, HaveOwnIds, IndexState, block_number, has_block_id, laid, layout_kept, live_block, live_kept, numbers_of}
+use Rattle.index_core.specs.Kept.{AreBlocks, HaveOwnIds, block_number, has_block_id, laid, numbers_of}
 use Rattle.index_core.specs.Write.{id_of, new_of, new_number, IsNext}
 use Rattle.index_core.specs.declared.live_numbers.LiveNumbers.{LiveNumbers}
 use Rattle.index_core.specs.declared.op.WriteOp.{WriteOp}

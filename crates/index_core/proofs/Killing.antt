@@ -1,6 +1,6 @@
 -- The live block with an id goes: what becomes of entries and of the buffer.
-use Rattle.std.proofs.Common.{◌≡◌, ℕ, zero, suc, ◌+◌, ◌-◌, ◌==◌, ◌<◌, ◌≤◌, Bool, true, false, List, [], ◌∷◌, ◌++◌, length, map, filter, take, drop, set, get_or, slice_get, slice_set, slice_index_or, IsSomeAnd, Option, Some, None, refl, sym, ap, subst, ◌∙◌, arith, eqb-true}
-use Rattle.std.specs.List.{count_by, find, flat_map, take-map, drop-map}
+use Rattle.std.proofs.Common.{◌≡◌, ℕ, zero, suc, ◌+◌, ◌-◌, ◌==◌, ◌<◌, ◌≤◌, Bool, true, false, List, [], ◌∷◌, ◌++◌, map, filter, take, drop, set, get_or, slice_get, slice_set, IsSomeAnd, Some, refl, sym, ap, subst, ◌∙◌, arith, eqb-true}
+use Rattle.std.specs.List.{count_by, flat_map, take-map, drop-map}
 use Rattle.std.proofs.lemmas.List.{map-append, map-set}
 use Rattle.std.proofs.lemmas.List.Elements.{All-get_or, All-set}
 use Rattle.flattener.specs.Block.{BlockState}
@@ -14,7 +14,7 @@ use Rattle.segment_parts.specs.declared.columns.Columns.{Columns}
 use Rattle.segment_builder.specs.Blocks.{blocks_of, blocks_in, marked_by, dead_at}
 use Rattle.segment_view.specs.Views.{is_live_root, with_dead}
 use Rattle.index_core.specs.Kept.{HaveOwnIds, has_block_id, laid, numbers_in, segment_kept, segments_kept}
-use Rattle.index_core.specs.Found.{AreBelow, AreWhole, IsLive, IsRootAt, IsWhole, columns_of, live_blocks, root_numbers}
+use Rattle.index_core.specs.Found.{AreBelow, IsLive, IsRootAt, IsWhole, columns_of, live_blocks}
 use Rattle.index_core.proofs.Places.{at_map, element}
 
 some_is : {A : Type 0} (x y : A) → Some x ≡ Some y → x ≡ y

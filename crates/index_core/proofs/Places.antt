@@ -1,5 +1,5 @@
 -- Where the live block with a number stands.
-use Rattle.std.proofs.Common.{◌≡◌, ◌⊎◌, inl, inr, ℕ, zero, suc, ◌+◌, ◌-◌, ◌<◌, ◌≤◌, nat_le, Bool, true, false, List, [], ◌∷◌, ◌++◌, length, map, get_or, slice_get, Option, Some, None, refl, sym, ap, subst, ◌∙◌, arith}
+use Rattle.std.proofs.Common.{◌≡◌, inl, inr, ℕ, zero, suc, ◌-◌, ◌<◌, ◌≤◌, true, false, List, [], ◌∷◌, length, map, get_or, slice_get, Some, refl, sym, ap, subst, ◌∙◌, arith}
 use Rattle.std.specs.List.{find, flat_map, position_or_len}
 use Rattle.std.proofs.lemmas.Bool.{cases_lt, leb-true, leb-false}
 use Rattle.std.proofs.lemmas.List.{get_or-map, length-map}
@@ -7,7 +7,7 @@ use Rattle.std.proofs.lemmas.List.Elements.{All-get_or}
 use Rattle.std.proofs.lemmas.List.Folds.{find_at}
 use Rattle.flattener.specs.Block.{BlockState}
 use Rattle.layout.proofs.Ascending.{middle, ascend_first, ascend_second, ascend_at, ascend_two}
-use Rattle.layout.proofs.Looked.{IsThere, IsSomewhere, IsKeptBelow, IsBuffered, somewhere, earlier, where_found}
+use Rattle.layout.proofs.Looked.{IsThere, somewhere, earlier, where_found}
 use Rattle.layout.specs.Ascending.{Ascend}
 use Rattle.layout.specs.Layout.{Marked, SegmentOf, live_in}
 use Rattle.segment.specs.Live.{EntryState}
@@ -17,7 +17,7 @@ use Rattle.flattener.specs.Seen.{block_seen}
 use Rattle.flattener.specs.declared.document.Block.{Block}
 use Rattle.index_core.specs.declared.place.Place.{Place}
 use Rattle.index_core.specs.Kept.{has_block_id, block_number, numbers_in, segment_kept, segments_kept}
-use Rattle.index_core.specs.Found.{Rise, StandsAt, Stands, IsHalving, root_numbers, first_number, first_numbers, block_numbers, begins_by, IsWhole, AreWhole, live_blocks, all_numbers, IsLive, IsLiveNumber, IsRootAt, IsAt}
+use Rattle.index_core.specs.Found.{Rise, StandsAt, Stands, IsHalving, root_numbers, first_number, first_numbers, block_numbers, begins_by, IsWhole, AreWhole, all_numbers, IsLive, IsLiveNumber, IsRootAt, IsAt}
 
 some_is : {A : Type 0} (x y : A) → Some x ≡ Some y → x ≡ y
 some_is x y e = cc (e)

@@ -1,19 +1,17 @@
 -- A segment that is made of the buffer has its blocks, all of them live.
-use Rattle.std.proofs.Common.{◌≡◌, ◌≢◌, ◌↔◌, ℕ, zero, suc, ◌+◌, ◌<◌, Bool, true, false, List, [], ◌∷◌, ◌++◌, length, map, get_or, slice_index_or, replicate, Contains, Option, None, refl, sym, ap, ◌∙◌, append-nil, arith}
-use Rattle.std.specs.List.{All}
+use Rattle.std.proofs.Common.{◌≡◌, ◌≢◌, ◌↔◌, ℕ, suc, ◌+◌, ◌<◌, Bool, true, false, List, [], ◌∷◌, ◌++◌, length, map, get_or, slice_index_or, Contains, refl, sym, ap, ◌∙◌, append-nil, arith}
 use Rattle.std.proofs.lemmas.List.{map-append, length-map}
 use Rattle.std.proofs.lemmas.List.Elements.{All-append, All-cons, All-nil, All-weaker}
 use Rattle.flattener.specs.Block.{BlockState}
 use Rattle.flattener.specs.Fits.{SegmentFits}
 use Rattle.flattener.specs.Seen.{block_seen}
 use Rattle.flattener.specs.declared.document.Block.{Block}
-use Rattle.layout.specs.Layout.{Marked, SegmentOf, Layout, alive, sealed}
+use Rattle.layout.specs.Layout.{Marked, SegmentOf, alive, sealed}
 use Rattle.mapping.specs.Mapping.{Mapping}
 use Rattle.segment.specs.Flat.{FlatRoot, flat_root, roots_of}
 use Rattle.segment.specs.Live.{EntryState, LiveState, IsLiveOver}
 use Rattle.segment_parts.specs.declared.columns.Columns.{Columns}
 use Rattle.segment_builder.specs.Blocks.{blocks_of, blocks_in, marked_by}
-use Rattle.stored_sources.specs.declared.root.Root.{Root}
 use Rattle.index_core.specs.Kept.{laid, segment_kept, segments_kept}
 use Rattle.segment_view.specs.Views.{IsNewId}
 use Rattle.index_core.specs.Found.{AreBelow, AreCounted, AreFit, IsWhole, root_numbers}

@@ -1,5 +1,5 @@
 -- These serve proofs alone: what is looked up by number and by id.
-use Rattle.std.specs.Prelude.{◌≡◌, ℕ, ◌+◌, ◌-◌, ◌<◌, ◌≤◌, nat_le, Bool, true, false, List, [], ◌∷◌, ◌++◌, length, map, filter, count_by, get_or, slice_get, find, Option, Some, Vec}
+use Rattle.std.specs.Prelude.{◌≡◌, ℕ, ◌<◌, ◌≤◌, nat_le, Bool, true, false, List, [], ◌∷◌, ◌++◌, length, map, filter, count_by, get_or, slice_get, find, Option, Some}
 use Rattle.std.specs.BTreeMap.{get_by}
 use Rattle.std.specs.Cmp.Lexicographic.{slice_cmp}
 use Rattle.std.specs.List.{All, flat_map}
@@ -9,7 +9,7 @@ use Rattle.block_bits.specs.Flags.{is_marked}
 use Rattle.flattener.specs.Block.{BlockState}
 use Rattle.flattener.specs.Fits.{SegmentFits}
 use Rattle.layout.specs.Ascending.{Ascend}
-use Rattle.layout.specs.Layout.{Marked, Layout, is_live, item_in, live_in}
+use Rattle.layout.specs.Layout.{Layout, is_live, item_in, live_in}
 use Rattle.mapping.specs.Mapping.{Mapping}
 use Rattle.segment.specs.Live.{EntryState, LiveState, IsLiveOver}
 use Rattle.segment_parts.specs.declared.columns.Columns.{Columns}

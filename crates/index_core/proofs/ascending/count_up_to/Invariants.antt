@@ -1,4 +1,4 @@
-use Rattle.std.proofs.Common.{ℕ, ◌-◌}
+use Rattle.std.proofs.Common.{◌-◌}
 use Rattle.index_core.specs.Found.{IsHalving}
 use Rattle.index_core.proofs.ascending.count_up_to.Given as goal
 

@@ -1,4 +1,4 @@
-use Rattle.std.proofs.Common.{◌≡◌, ℕ, sym, ap, ◌∙◌, arith}
+use Rattle.std.proofs.Common.{◌≡◌, ℕ, ap, ◌∙◌, arith}
 use Rattle.segment.specs.Live.{EntryState}
 use Rattle.index_core.proofs.Killing.{root_block}
 use Rattle.index_core.proofs.Places.{element}

@@ -1,4 +1,4 @@
-use Rattle.std.proofs.Common.{◌≡◌, ◌<◌, ◌≤◌, length, map, subst, sym, ap, ◌∙◌, arith}
+use Rattle.std.proofs.Common.{◌≡◌, length, map, subst, ap, arith}
 use Rattle.flattener.specs.Block.{BlockState}
 use Rattle.segment.specs.Flat.{roots_of}
 use Rattle.segment_builder.specs.Blocks.{blocks_of}

@@ -1,4 +1,4 @@
-use Rattle.std.proofs.Common.{◌≤◌, drop, length}
+use Rattle.std.proofs.Common.{drop}
 use Rattle.segment_builder.specs.Blocks.{blocks_in}
 use Rattle.index_core.proofs.Entering.{IsPending, live}
 use Rattle.index_core.proofs.opening.add_entry.Given as goal

@@ -1,4 +1,4 @@
-use Rattle.std.proofs.Common.{◌≡◌, ◌+◌, ◌<◌, ◌∷◌, length, drop, max, sym, ap, ◌∙◌, arith}
+use Rattle.std.proofs.Common.{◌≡◌, ◌+◌, drop, max, sym, ap, ◌∙◌}
 use Rattle.std.specs.Ordering.{nat_cmp, ord_max}
 use Rattle.layout.specs.Layout.{live_in}
 use Rattle.index_core.specs.Kept.{segment_kept}

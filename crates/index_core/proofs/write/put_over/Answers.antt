@@ -1,4 +1,4 @@
-use Rattle.std.proofs.Common.{◌≡◌, ◌∷◌, [], ap, ◌∙◌}
+use Rattle.std.proofs.Common.{◌∷◌, [], ap, ◌∙◌}
 use Rattle.flattener.specs.Seen.{block_seen}
 use Rattle.layout.specs.Layout.{killed, with_new}
 use Rattle.index_core.specs.Kept.{has_block_id}

@@ -1,4 +1,4 @@
-use Rattle.std.proofs.Common.{◌∙◌, sym}
+use Rattle.std.proofs.Common.{◌∙◌}
 use Rattle.index_core.proofs.Laying.{live_number, nothing_new}
 use Rattle.index_core.proofs.write.take_live.Goals as goal
 

@@ -1,8 +1,6 @@
-use Rattle.std.proofs.Common.{◌≡◌, List, sym, ap, subst}
+use Rattle.std.proofs.Common.{sym, subst}
 use Rattle.flattener.specs.Fits.{ViewFits}
-use Rattle.segment.specs.Live.{EntryState}
 use Rattle.segment_view.specs.Views.{HaveOwnBits}
-use Rattle.index_core.specs.Inside.{state_of}
 use Rattle.index_core.specs.Kept.{IndexFits, IndexState}
 use Rattle.index_core.proofs.Viewing.{view_fits}
 use Rattle.index_core.proofs.index_core.IndexCore.view.Goals as goal

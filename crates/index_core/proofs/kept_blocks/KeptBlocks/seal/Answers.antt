@@ -8,7 +8,7 @@ use Rattle.layout.specs.Layout.{alive, sealed}
 use Rattle.segment_builder.specs.Blocks.{blocks_in}
 use Rattle.index_core.specs.Found.{AreFit, BlocksState, layout_of}
 use Rattle.index_core.specs.Kept.{laid}
-use Rattle.index_core.proofs.Sealing.{fit_more, new_id, no_blocks, sealed_by, sealed_empty}
+use Rattle.index_core.proofs.Sealing.{below_more, fit_more, new_id, no_blocks, sealed_by, sealed_empty}
 use Rattle.index_core.proofs.kept_blocks.KeptBlocks.seal.Goals as goal
 
 pub push-requires : goal.push-requires
@@ -33,3 +33,7 @@ returns-then-is_empty-clause-sealed c =
     let none : length c.self.inside.buffer.items ≡ 0 = grind (arith, nat_tests, c.self.inside.buffer.ok.0) in
     subst (λ (s : BlocksState). layout_of s ≡ sealed (layout_of s)) c.self.view_is
     (sealed_empty c.self.inside.view (map block_seen c.self.inside.buffer.items) c.self.inside.made (no_blocks c.self.inside.buffer.items none))
+
+pub invariant_of-self-2 : goal.invariant_of-self-2
+invariant_of-self-2 c =
+    below_more c.self.inside.view c.push.new.self c.self.inside.made (c.self.inside.made + 1) c.in_ok-entry.entry c.self.invariant c.in_ok-push.ensures.pushed refl c.in_ok-entry.ensures.id c.in_ok-entry.ensures.whole

@@ -1,6 +1,5 @@
-use Rattle.std.proofs.Common.{◌≡◌, ◌<◌, List, map, length, vec_len, sym, ap, subst, ◌∙◌, arith}
+use Rattle.std.proofs.Common.{map, sym, ap, subst, ◌∙◌, arith}
 use Rattle.std.proofs.lemmas.List.{length-map}
-use Rattle.flattener.specs.Block.{BlockState}
 use Rattle.flattener.specs.Seen.{block_seen}
 use Rattle.layout.specs.Layout.{killed}
 use Rattle.index_core.specs.Found.{BlocksState, IsLive, IsLiveNumber, IsRootAt, columns_of, layout_of, live_blocks}
