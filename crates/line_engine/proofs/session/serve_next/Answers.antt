@@ -21,7 +21,7 @@ returns-in-Ok-clause-served g c = λ limits start left taken served.
     c.args.session.now.reader.input c.next_request.new.self.input c.args.session.now.engine c.answer-answered.new.self c.next_request.new.self.request
     (request_of c.first_line.result c.source_line.result) c.answer-answered.result c.answer-answered.new.out.bytes c.args.steps.now c.answer-answered.new.steps served
     (c.in_ok-next_request.ensures.gives limits.session_bytes left (requests_of served.turns) served.given)
-    c.first_line.ensures c.source_line.ensures (c.answer-answered.ensures.may (last_state start served.turns) served.stands) c.in-Ok.ensures.bytes c.answer-answered.ensures.limits
+    c.first_line.ensures c.source_line.ensures (c.answer-answered.ensures.answers (last_state start served.turns) served.stands) c.in-Ok.ensures.bytes c.answer-answered.ensures.limits
 
 pub returns-in-Err-clause-serves : goal.returns-in-Err-clause-serves
 returns-in-Err-clause-serves g c = λ limits start left taken served.
@@ -29,4 +29,4 @@ returns-in-Err-clause-serves g c = λ limits start left taken served.
     c.args.session.now.reader.input c.next_request.new.self.input c.args.session.now.engine c.answer-answered.new.self c.next_request.new.self.request
     (request_of c.first_line.result c.source_line.result) c.answer-answered.result c.answer-answered.new.out.bytes c.args.steps.now c.answer-answered.new.steps served
     (c.in_ok-next_request.ensures.gives limits.session_bytes left (requests_of served.turns) served.given)
-    c.first_line.ensures c.source_line.ensures (c.answer-answered.ensures.may (last_state start served.turns) served.stands) c.in-Err.ensures.part
+    c.first_line.ensures c.source_line.ensures (c.answer-answered.ensures.answers (last_state start served.turns) served.stands) c.in-Err.ensures.part
