@@ -1,0 +1,10 @@
+-- Blocks stand for trees; replies and want of memory; writes; mapping lines; searches; and what holds whatever the state.
+pub mod Standing
+pub mod Answering
+pub mod Writing
+pub mod Taking
+pub mod Lines
+pub mod Finding
+pub mod Leaving
+pub mod Ending
+pub mod Pages
