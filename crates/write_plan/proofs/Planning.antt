@@ -1,5 +1,5 @@
 -- What is put, and mappings that have grown.
-use Rattle.std.proofs.Common.{ℕ, ◌≡◌, ◌≤◌, ◌++◌, ◌∷◌, [], List, Bool, true, false, cond, codes, Option, Some, None, IfSome, refl, ap, subst, sym, append-nil}
+use Rattle.std.proofs.Common.{ℕ, ◌≡◌, ◌≤◌, ◌++◌, ◌∷◌, [], List, Bool, true, false, cond, codes, Option, Some, None, IfSome, refl, ap, subst, sym, ◌∙◌, append-nil}
 use Rattle.std.specs.List.{list_all}
 use Rattle.flattener.specs.Block.{block_of, root_of_tree}
 use Rattle.flattener.specs.Seen.{block_seen}
@@ -10,6 +10,7 @@ use Rattle.mapping.specs.Mapping.{Mapping, mapping_of}
 use Rattle.mapping_body.specs.Body.{is_body, member_named}
 use Rattle.mapping_growth.specs.Bodies.{AreBodies, adds}
 use Rattle.tree_json.proofs.RoundTrip.{reads_back}
+use Rattle.tree_json.specs.Reading.{reading}
 use Rattle.tree_json.specs.Levels.{levels, most_levels}
 use Rattle.tree_json.specs.Sound.{IsSound}
 use Rattle.tree_json.specs.Text.{compact}
@@ -25,7 +26,10 @@ unfolding root_of_tree
 kept_source m tree b e = ap (λ it. it.root.source) e
 
 pub block_text : (m : Mapping) (id : List ℕ) (source : JsonValue) (number : ℕ) (b : Block) → block_seen b ≡ block_of m (new_tree id source m number) → IsSound source → levels source ≤ most_levels → IsTextOf b.root.source source
-block_text m id source number b e sound few = record { text = kept_source m (new_tree id source m number) b e; reads = reads_back source sound few }
+block_text m id source number b e sound few = record {
+  text = kept_source m (new_tree id source m number) b e;
+  reads = ap reading (kept_source m (new_tree id source m number) b e) ∙ reads_back source sound few;
+}
 
 pub ruleset blocks = (block_text)
 

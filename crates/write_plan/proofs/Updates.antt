@@ -16,7 +16,7 @@ pub one_value : (bytes : List ℕ) (a b : JsonValue) → reading bytes ≡ value
 one_value bytes a b first second = ap (value_in a) (sym first ∙ second)
 
 pub same_text : (text : List ℕ) (whole live : JsonValue) → reading (compact whole) ≡ value whole → IsTextOf text live → compact whole ≡ text → whole ≡ live
-same_text text whole live again kept same = one_value text whole live (ap reading (sym same) ∙ again) kept.reads
+same_text text now live again kept same = one_value text now live (ap reading (sym same) ∙ again) kept.reads
 
 -- whether two values are the same is whether they are equal
 abbrev SameIsEqual : Type 0
@@ -26,9 +26,9 @@ pub is_same_by : SameIsEqual → (a b : JsonValue) → a ≡ b → is_same a b �
 is_same_by equal a b e = (equal a b).1 e
 
 pub is_other_by : SameIsEqual → (text : List ℕ) (whole live : JsonValue) → IsTextOf text live → compact whole ≢ text → is_same whole live ≡ false
-is_other_by equal text whole live kept other =
-    elim (is_same whole live) as (λ b. is_same whole live ≡ b → b ≡ false) [
-      | true ↦ λ e. absurd (other (ap compact ((equal whole live).0 e) ∙ sym kept.text))
+is_other_by equal text now live kept other =
+    elim (is_same now live) as (λ b. is_same now live ≡ b → b ≡ false) [
+      | true ↦ λ e. absurd (other (ap compact ((equal now live).0 e) ∙ sym kept.text))
       | false ↦ λ e. refl
     ] refl
 

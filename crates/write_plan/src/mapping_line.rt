@@ -70,21 +70,38 @@ pub fn further_mapping(
 {
     further_bodies_stand_behind();
     let _generation = mapping.generation();
-    let growth = mapping.grown(alloc, body);
-    if !matches!(&growth, Err(MappingRefusal::BadRequest)) && names_another(mapping, body) {
-        return Err(PlanRefusal::Refused(Refusal::IndexNotFound));
-    }
+    let other = names_another(mapping, body);
     let dynamic = flag_after(mapping.dynamic(), member_named(body, b"dynamic"));
-    match growth {
-        Ok(Growth::Added(grown)) => Ok(Further {
-            added: Some(grown),
-            dynamic,
-        }),
-        Ok(Growth::Same) => Ok(Further {
-            added: None,
-            dynamic,
-        }),
-        Err(why) => Err(refusal_of(why)),
+    match mapping.grown(alloc, body) {
+        Ok(Growth::Added(grown)) => if other {
+            Err(PlanRefusal::Refused(Refusal::IndexNotFound))
+        } else {
+            Ok(Further {
+                added: Some(grown),
+                dynamic,
+            })
+        },
+        Ok(Growth::Same) => if other {
+            Err(PlanRefusal::Refused(Refusal::IndexNotFound))
+        } else {
+            Ok(Further {
+                added: None,
+                dynamic,
+            })
+        },
+        Err(MappingRefusal::BadRequest) => Err(PlanRefusal::Refused(Refusal::BadRequest)),
+        Err(MappingRefusal::NoMemory) => Err(PlanRefusal::NoMemory),
+        Err(MappingRefusal::Conflict(field)) => if other {
+            Err(PlanRefusal::Refused(Refusal::IndexNotFound))
+        } else {
+            Err(PlanRefusal::Refused(Refusal::MappingConflict { field }))
+        },
+        Err(MappingRefusal::TooMuch(limit)) => if other {
+            Err(PlanRefusal::Refused(Refusal::IndexNotFound))
+        } else {
+            let limit = limit_named(limit);
+            Err(PlanRefusal::Refused(Refusal::MappingLimit { limit }))
+        },
     }
 }
 
@@ -100,7 +117,7 @@ fn names_another(mapping: &Mapping, body: &Json) -> bool
 
 /// The flag that a body gives, or else the one before.
 fn flag_after(before: bool, given: Option<&Json>) -> bool
-    ensures { result ≡ flag_after before (option_map (λ v. view v.now) given) }
+    ensures { result ≡ flag_after before (option_map (λ v. view v.now) given.entry) }
 {
     match given {
         Some(Json::Bool(on)) => *on,
