@@ -145,3 +145,7 @@ acceptance_ends mapping index state answer given (Ok Accepted) out f e told_so s
     subst (λ it. Answers state (outcome_of state it) Written out mapping index) (sym e) (accepted mapping index state state given out f told_so said)
 acceptance_ends mapping index state answer given (Ok ended.Refused) out f e told_so said = absurd said
 acceptance_ends mapping index state answer given (Err none) out f e told_so said = lacking mapping index state (outcome_of state answer) out f
+
+pub if_lacking : (mapping : Option Mapping) (index : IndexState) (state : State) (outcome : Outcome) (out : List ℕ) (result : Result Ended memory.NoMemory) (err : memory.NoMemory) → result ≡ Err err
+    → Answers state outcome NoMemory out mapping index → Answers state outcome (answered_of result) out mapping index
+if_lacking mapping index state outcome out result err e a = subst (λ (it : Result Ended memory.NoMemory). Answers state outcome (answered_of it) out mapping index) (sym e) a

@@ -92,14 +92,14 @@ taken_values id index index' true nothing all e =
 taken_values id index index' false nothing all e =
     values_changed (has_block_id id) [] (layout_kept index) (layout_kept index') all (All-nil HasValue) (e ∙ rw nothing refl)
 
-pub take_leaves : (m : Mapping) (id : List ℕ) (index index' : IndexState) (result : Result Ended memory.NoMemory) (out out' : List ℕ) → IsMapping m → IsIndexOf m index
+pub take_leaves : (m : Mapping) (id : List ℕ) (index index' : IndexState) (result : Result Ended memory.NoMemory) (out out' : List ℕ) → IsIndexOf m index
     → IsChanged result (Take id) index index' out out' → IndexFits m index' → index'.objects ≡ index.objects → Leaves (answered_of result) (Some m) (Some m) m index index'
-take_leaves m id index index' (Ok Accepted) out out' is index_of changed fits objects = record {
+take_leaves m id index index' (Ok Accepted) out out' index_of changed fits objects = record {
   kept = record { fits = fits; values = taken_values id index index' (has_nothing (Take id) index) refl index_of.values changed.0.layout };
   objects = objects;
   stays = tt;
 }
-take_leaves m id index index' (Ok Refused) out out' is index_of changed fits objects =
+take_leaves m id index index' (Ok Refused) out out' index_of changed fits objects =
     subst (λ (at : IndexState). Leaves answered.Refused (Some m) (Some m) m index at) (sym changed.same) (leaves_same answered.Refused m index index_of)
-take_leaves m id index index' (Err none) out out' is index_of changed fits objects =
+take_leaves m id index index' (Err none) out out' index_of changed fits objects =
     leaves_sealed answered.NoMemory m index index' index_of fits changed.next objects (stays_or_seals (layout_kept index) (layout_kept index') changed.layout)

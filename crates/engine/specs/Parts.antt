@@ -11,7 +11,7 @@ use Rattle.machine.specs.declared.limits.Limits.{Limits}
 use Rattle.mapping.specs.IsMapping.{IsMapping}
 use Rattle.mapping.specs.Mapping.{Mapping}
 use Rattle.reply_text.specs.Text.{reply_text}
-use Rattle.reply_text.specs.declared.refusal.Refusal.{Refusal as why}
+use Rattle.reply_text.specs.declared.refusal.Refusal.{Refusal}
 use Rattle.reply_text.specs.declared.refusal.Refusal.TheVariants.{IndexFull}
 use Rattle.reply_text.specs.declared.reply.Reply.{Reply}
 use Rattle.reply_text.specs.declared.reply.Reply.TheVariants as reply
@@ -38,7 +38,7 @@ pub record Leaves (answered : Answered) (mapping mapping' : Option Mapping) (m' 
   pub stays : IfNotDone answered (StaysOrSeals mapping mapping' index index')
 
 -- a refusal was written, or there was no memory
-abbrev pub IsRefusal : why → Result Ended memory.NoMemory → List ℕ → Type 0
+abbrev pub IsRefusal : Refusal → Result Ended memory.NoMemory → List ℕ → Type 0
 IsRefusal refusal (Ok Accepted) out = ⊥
 IsRefusal refusal (Ok Refused) out = out ≡ reply_text (reply.Refused refusal)
 IsRefusal refusal (Err none) out = Unit {0}
@@ -91,9 +91,9 @@ abbrev pub delete_step : Limits → Mapping → List ℕ → State → Answer
 delete_step limits m id state = later_step limits m id delete state
 
 -- where memory didn't run out, it is refused so
-abbrev pub IsRefusedAs : Option why → Result Ended memory.NoMemory → List ℕ → Type 0
+abbrev pub IsRefusedAs : Option Refusal → Result Ended memory.NoMemory → List ℕ → Type 0
 IsRefusedAs why (Ok Accepted) out = ⊥
-IsRefusedAs why (Ok Refused) out = (refusal : why) × (why ≡ Some refusal) × (out ≡ reply_text (reply.Refused refusal))
+IsRefusedAs why (Ok Refused) out = (refusal : Refusal) × (why ≡ Some refusal) × (out ≡ reply_text (reply.Refused refusal))
 IsRefusedAs why (Err none) out = Unit {0}
 
 -- what holds of everything that is asked for

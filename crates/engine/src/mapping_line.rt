@@ -15,6 +15,7 @@ ghost use Rattle.engine.specs.Parts.{Leaves, answered_of};
 
 use crate::no_memory::NoMemory;
 use crate::reply::{Ended, refuse, write};
+use flattener::further_bodies_leave_blocks;
 use index_core::IndexCore;
 use mapping::Mapping;
 use reply_text::Reply;
@@ -88,6 +89,8 @@ fn further_line(
     ensures leaves { Leaves (answered_of result) (Some mapping.old) (Some mapping.new) mapping.new index.old index.new }
     ensures room { room_of out.old ≤ room_of out.new }
 {
+    further_bodies_leave_blocks();
+    let _scopes = mapping.scope_count();
     match further_mapping(alloc, mapping, body) {
         Ok(further) => {
             write(&Reply::Mapped, out)?;

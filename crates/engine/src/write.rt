@@ -29,6 +29,7 @@ ghost use Rattle.engine.specs.Reads.{reads_of};
 use crate::change::change;
 use crate::no_memory::NoMemory;
 use crate::reply::{Ended, accept, refuse, write};
+use flattener::further_bodies_leave_blocks;
 use index_core::{IndexCore, WriteOp};
 use mapping::Mapping;
 use reply_text::{Reply, WriteResult};
@@ -92,6 +93,8 @@ fn put(
     ensures leaves { Leaves (answered_of result) (Some mapping.old) (Some mapping.new) mapping.new index.old index.new }
     ensures room { room_of out.old ≤ room_of out.new }
 {
+    further_bodies_leave_blocks();
+    let _scopes = mapping.scope_count();
     match planned(alloc, mapping, id.as_slice(), source, index.next()) {
         Ok(plan) => {
             write(&written(id, index.next(), put_result(live)), out)?;
