@@ -1,10 +1,10 @@
 -- Searches: what the machine finds among trees, as the engine finds it among blocks.
-use Rattle.std.proofs.Common.{◌≡◌, ◌≤◌, ◌+◌, ℕ, zero, suc, Bool, true, false, not, ◌&&◌, cond, ◌==◌, pos, List, [], ◌∷◌, ◌++◌, length, map, take, Option, Some, None, is_some, option_map, refl, sym, ap, subst, ◌∙◌, append-nil, arith}
+use Rattle.std.proofs.Common.{◌≡◌, ◌≤◌, ◌+◌, ℕ, zero, suc, Bool, true, false, not, ◌&&◌, cond, ◌==◌, pos, List, [], ◌∷◌, ◌++◌, length, map, take, Option, Some, None, is_some, option_map, Result, Ok, Err, IfOk, OnOk, refl, sym, ap, subst, ◌∙◌, append-nil, arith}
 use Rattle.std.proofs.lemmas.Bool.{and_parts}
 use Rattle.std.proofs.lemmas.List.{length-map, map-append}
 use Rattle.std.specs.List.{flat_map}
 use Rattle.flattener.specs.Block.{BlockState, block_of, root_of_tree}
-use Rattle.index_core.specs.Kept.{IndexState, layout_kept, segment_kept, segments_kept}
+use Rattle.index_core.specs.Kept.{IndexState, laid, layout_kept, segment_kept, segments_kept}
 use Rattle.layout.specs.Layout.{Layout, live_in, live_items, sealed}
 use Rattle.machine.specs.Answer.{Answer, answers, outcome_of, refused_if, refuses}
 use Rattle.machine.specs.Searching.{body_refusal, boost_at, boost_in, boost_of_all, found_by, is_by_score, is_last, is_none, is_plain, is_score, search_all, search_by, search_over, search_step, searched, within}
@@ -37,7 +37,12 @@ use Rattle.engine.specs.Faithful.{AreFaithful, Indexed, StandsFor, block_in, tre
 use Rattle.engine.specs.Hits.{live_roots, root_hit, root_in, roots_in}
 use Rattle.engine.specs.declared.engine.Answered.{Answered}
 use Rattle.engine.specs.declared.engine.Answered.TheVariants as answered
-use Rattle.engine.proofs.Answering.{told}
+use Rattle.engine.specs.Parts.{answered_of}
+use Rattle.engine.specs.declared.no_memory.NoMemory as memory
+use Rattle.engine.specs.declared.reply.Ended.{Ended}
+use Rattle.engine.specs.declared.reply.Ended.TheVariants.{Accepted}
+use Rattle.engine.specs.declared.reply.Ended.TheVariants as ended
+use Rattle.engine.proofs.Answering.{lacking_sealed, told}
 use Rattle.engine.proofs.Standing.{live_blocks, live_trees, map-map}
 
 -- ---- a search for everything
@@ -160,7 +165,7 @@ found_same law m index state search boost f buffer all =
     ∙ sym (ap (found_by m state.content.live) is)
 
 hits_on : Reply → List Hit
-hits_on (reply.Found page answers) = page.hits
+hits_on (reply.Found page buckets) = page.hits
 hits_on other = []
 
 -- as many hits are on the page
@@ -212,3 +217,25 @@ found_all law limits m search index state boost ends out f buffer none all some 
     subst (λ answer. Answers state (outcome_of state answer) ends out (Some m) index) (sym e)
     (told (Some m) index state (sealed_state state) ends (within limits (found_by m state.content.live search)) out f some
     (told_so ∙ ap (λ (given : Reply). answered_by (within limits given)) found) (text ∙ ap (λ (given : Reply). reply_text (within limits given)) found))
+
+-- ---- by what the writing of the reply came to
+
+sealed_buffer : (entries : List EntryState) (buffer : List BlockState) (made : ℕ) → (sealed (laid entries buffer made)).buffer ≡ []
+unfolding sealed
+sealed_buffer entries buffer made = refl
+
+pub buffer_sealed : (index index' : IndexState) → layout_kept index' ≡ sealed (layout_kept index) → index'.buffer ≡ []
+buffer_sealed index index' e = ap (λ (layout : Layout BlockState). layout.buffer) e ∙ sealed_buffer index.entries index.buffer index.made
+
+some_answer : (ends : Ended) → answered_of (Ok ends) ≡ answered.NoMemory → ⊥
+some_answer Accepted e = cc
+some_answer ended.Refused e = cc
+
+pub found_ends : InOrder → (limits : Limits) (m : Mapping) (search : SearchBody) (index : IndexState) (state : State) (boost : ℕ) (given : Reply) (result : Result Ended memory.NoMemory) (out : List ℕ)
+    → AreFaithful (Some m) index (sealed_state state) → index.buffer ≡ [] → is_some search.pit ≡ false → boost_of_all search ≡ Some boost
+    → given ≡ reply_found boost search.size search.source (live_roots index.entries) → IfOk result (λ ends. answered_of (Ok ends) ≡ answered_by (within limits given)) → OnOk result (out ≡ reply_text (within limits given))
+    → Answers state (outcome_of state (search_by limits m search (sealed_state state))) (answered_of result) out (Some m) index
+found_ends law limits m search index state boost given (Ok ends) out f buffer none all is told_so text =
+    found_all law limits m search index state boost (answered_of (Ok ends)) out f buffer none all (some_answer ends) (told_so ∙ ap (λ (it : Reply). answered_by (within limits it)) is)
+    (text ∙ ap (λ (it : Reply). reply_text (within limits it)) is)
+found_ends law limits m search index state boost given (Err none) out f buffer no_pit all is told_so text = lacking_sealed m index state _ out f

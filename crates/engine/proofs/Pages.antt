@@ -69,8 +69,8 @@ page_more score source size done all root roots few page =
     }
 
 take_two : {A : Type 0} (k : ℕ) (xs ys : List A) → take k (xs ++ ys) ≡ take k xs ++ take (k - length xs) ys
-take_two zero xs ys = refl
-take_two (suc k) [] ys = refl
+take_two zero xs ys = let none : 0 - length xs ≡ 0 = omega arith in ap (λ n. take n ys) (sym none)
+take_two (suc k) [] ys = let all : suc k - 0 ≡ suc k = omega arith in ap (λ n. take n ys) (sym all)
 take_two (suc k) (x ∷ xs) ys =
     let less : suc k - length (x ∷ xs) ≡ k - length xs = omega arith in
     ap (λ rest. x ∷ rest) (take_two k xs ys) ∙ ap (λ n. x ∷ (take k xs ++ take n ys)) (sym less)

@@ -20,6 +20,7 @@ use Rattle.reply_text.specs.declared.reply.Reply.TheVariants as reply
 use Rattle.reply_text.specs.declared.reply.WriteResult.TheVariants.{Deleted, Noop}
 use Rattle.request_form.specs.Command.{Changes}
 use Rattle.segment_builder.specs.Blocks.{objects_of}
+use Rattle.tree_json.specs.Reading.{reading}
 use Rattle.tree_json.specs.Text.{compact}
 use Rattle.tree_json.specs.Value.{JsonValue}
 use Rattle.tree_objects.specs.Tree.{Tree, has_id, without}
@@ -143,7 +144,7 @@ source_same m tree = refl
 
 -- the source of the live block is that of the live tree
 pub live_text : (m : Mapping) (id : List ℕ) (index : IndexState) (state : State) (number : ℕ) (live : IsLive m id index state number) → IsTextOf (block_of m live.it.tree).root.source live.it.tree.source
-live_text m id index state number live = record { text = source_same m live.it.tree; reads = live.it.reads }
+live_text m id index state number live = record { text = source_same m live.it.tree; reads = ap reading (source_same m live.it.tree) ∙ live.it.reads }
 
 pub updated_noop : (limits : Limits) (m : Mapping) (id : List ℕ) (changes : Changes) (index : IndexState) (state : State) (number : ℕ) (out : List ℕ) → AreFaithful (Some m) index state
     → (live : IsLive m id index state number) → is_same (merged changes.doc live.it.tree.source) live.it.tree.source ≡ true → out ≡ reply_text (reply.Written id number Noop)

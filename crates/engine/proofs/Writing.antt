@@ -24,6 +24,7 @@ use Rattle.reply_text.specs.declared.reply.Reply.TheVariants as reply
 use Rattle.reply_text.specs.declared.reply.WriteResult.TheVariants.{Deleted}
 use Rattle.request_form.specs.Command.{Target, Write}
 use Rattle.segment_builder.specs.Blocks.{objects_of}
+use Rattle.tree_json.specs.Reading.{reading}
 use Rattle.tree_json.specs.Value.{JsonValue}
 use Rattle.tree_objects.specs.Tree.{Tree, has_id, without}
 use Rattle.write_plan.specs.Planned.{IsPlanned, mapping_after, refusals_of, tree_of}
@@ -106,8 +107,8 @@ planned_next : (m : Mapping) (id : List ℕ) (source : JsonValue) (plan : Plan) 
     → IsPlanned m id source state.content.next plan
 planned_next m id source plan index state f p = subst (λ n. IsPlanned m id source n plan) (sym f.next) p
 
-planned_tree : (m : Mapping) (id : List ℕ) (source : JsonValue) (number : ℕ) (plan : Plan) → IsPlanned m id source number plan → Indexed (mapping_after m source)
-planned_tree m id source number plan p = record { tree = tree_of m id source number; given = p.given; reads = p.text.reads }
+abbrev planned_tree : (m : Mapping) (id : List ℕ) (source : JsonValue) (number : ℕ) (plan : Plan) → IsPlanned m id source number plan → Indexed (mapping_after m source)
+planned_tree m id source number plan p = record { tree = tree_of m id source number; given = p.given; reads = ap reading (sym p.text.text) ∙ p.text.reads }
 
 planned_id : (m : Mapping) (id : List ℕ) (source : JsonValue) (number : ℕ) (plan : Plan) → IsPlanned m id source number plan → plan.block.root.id ≡ id
 unfolding root_of_tree
@@ -121,7 +122,6 @@ stands_after same m id source number plan index state is p f =
 put_full_by : SameBlocks → (limits : Limits) (m : Mapping) (id : List ℕ) (source : JsonValue) (plan : Plan) (index : IndexState) (state : State) (b : Bool) → IsMapping m → index.objects ≡ limits.objects
     → AreFaithful (Some m) index state → IsPlanned m id source state.content.next plan → is_refused (Put plan.block) index ≡ b
     → first_of (full limits (mapping_after m source) (with_put (tree_of m id source state.content.next) state.content.live) state.content.next ∷ []) ≡ cond b (Some IndexFull) None
-unfolding planned_tree
 put_full_by same limits m id source plan index state b is most f p test =
     let n = state.content.next in
     let m2 = mapping_after m source in
@@ -162,7 +162,6 @@ put_faithful : SameBlocks → (m : Mapping) (id : List ℕ) (source : JsonValue)
     → IsPlanned m id source state.content.next plan → IsMade (Put plan.block) index index'
     → AreFaithful (Some (mapping_after m source)) index'
     (changed_state (mapping_after m source) id (with_put (tree_of m id source state.content.next) state.content.live) (tree_of m id source state.content.next ∷ []) state)
-unfolding planned_tree
 put_faithful same m id source plan index index' state is f p made =
     let n = state.content.next in
     let m2 = mapping_after m source in

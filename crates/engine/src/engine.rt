@@ -65,9 +65,13 @@ pub struct Engine {
 }
 
 impl Model for Engine {
+    ghost use Rattle.std.specs.Coded.{codes};
+    ghost use Rattle.mapping.specs.Code.{mapping_code};
     ghost use Rattle.engine.specs.Kept.{EngineState, IsEngine};
 
     ghost Value = { EngineState };
+
+    ghost coded = { Prim.hlevel (codes, mapping_code) };
 
     ghost view = { λ engine. record {
       limits = engine.limits;

@@ -22,7 +22,9 @@ use crate::reply::{Ended, refuse};
 use index_core::IndexCore;
 use machine::Limits;
 use mapping::Mapping;
-use query_ast::{Missing, Query, QueryBox, SearchBody, Sort, SortKey};
+use query_ast::{
+    Missing, Query, QueryBox, SearchBody, Sort, SortKey, everything_is_found_in_order,
+};
 use query_parser::{SearchRefusal, resolved};
 use reply_text::{Refusal, Reply, TextRefusal, text};
 use search_form::ShapeRefusal;
@@ -101,6 +103,7 @@ fn search_over<L: Ledger>(
     ensures reads { (state : State) → AreFaithful (Some mapping.now) index.old state → steps.new ≤ steps.old + length (hit_page mapping.now state.content.live search.now).hits }
     ensures room { room_of out.old ≤ room_of out.new }
 {
+    everything_is_found_in_order();
     if search.pit.is_some() {
         return refuse(Refusal::UnknownPit, out);
     }
