@@ -2,10 +2,11 @@
 use Rattle.std.proofs.Common.{◌≡◌, ◌⊎◌, true, false, ℕ, List, [], ◌∷◌, Option, Some, None, Result, Ok, Err, option_map, unwrap_or, refl, sym, ap, subst, inl, Bool, ◌∙◌}
 use Rattle.std.proofs.lemmas.List.Elements.{All-cons, All-nil}
 use Rattle.std.specs.List.{All}
-use Rattle.flattener.specs.Block.{BlockState}
+use Rattle.flattener.specs.Block.{BlockState, root_of_tree}
+use Rattle.flattener.specs.Fits.{BlockFits}
 use Rattle.flattener.specs.Seen.{block_seen}
 use Rattle.index_core.specs.Kept.{IndexFits, IndexState, block_number, has_block_id, layout_kept, live_block}
-use Rattle.index_core.specs.Write.{has_nothing, id_of, new_of, written}
+use Rattle.index_core.specs.Write.{IsNext, has_nothing, id_of, new_of, written}
 use Rattle.index_core.specs.declared.op.WriteOp.{WriteOp}
 use Rattle.index_core.specs.declared.op.WriteOp.TheVariants.{Put, Take}
 use Rattle.layout.specs.Layout.{live_items, with_change}
@@ -103,3 +104,13 @@ take_leaves m id index index' (Ok Refused) out out' index_of changed fits object
     subst (λ (at : IndexState). Leaves answered.Refused (Some m) (Some m) m index at) (sym changed.same) (leaves_same answered.Refused m index index_of)
 take_leaves m id index index' (Err none) out out' index_of changed fits objects =
     leaves_sealed answered.NoMemory m index index' index_of fits changed.next objects (stays_or_seals (layout_kept index) (layout_kept index') changed.layout)
+
+-- ---- what `put_planned` asks for
+
+planned_number : (m : Mapping) (id : List ℕ) (source : JsonValue) (number : ℕ) (plan : Plan) → IsPlanned m id source number plan → plan.block.root.number ≡ number
+unfolding root_of_tree
+planned_number m id source number plan p = ap (λ (block : BlockState). block.root.number) p.block
+
+pub planned_next_to : (m : Mapping) (id : List ℕ) (source : JsonValue) (number : ℕ) (plan : Plan) → IsPlanned m id source number plan → IsNext (unwrap_or plan.grown m) number (Put plan.block)
+planned_next_to m id source number plan p =
+    (subst (λ (it : Mapping). BlockFits it (block_seen plan.block)) (sym p.grown) p.fits, planned_number m id source number plan p)

@@ -4,8 +4,8 @@ use Rattle.std.proofs.lemmas.List.Elements.{All-append, All-cons, All-filter, Al
 use Rattle.std.specs.List.{All}
 use Rattle.flattener.specs.Block.{BlockState}
 use Rattle.flattener.specs.Fits.{BlockFits, SegmentFits}
-use Rattle.index_core.specs.Kept.{IndexFits, IndexState, layout_kept, live_kept}
-use Rattle.layout.specs.Layout.{Layout, live_items, sealed, staying, with_change}
+use Rattle.index_core.specs.Kept.{IndexFits, IndexState, layout_kept, live_kept, segments_kept}
+use Rattle.layout.specs.Layout.{Layout, empty_layout, live_items, sealed, staying, with_change}
 use Rattle.layout.proofs.Keeps.{change_keeps, sealed_keeps}
 use Rattle.mapping.specs.Growth.{HasFurtherBodies}
 use Rattle.mapping.specs.IsMapping.{IsMapping}
@@ -69,4 +69,19 @@ pub index_grown : SegmentsFit → BlocksFit → (m m2 : Mapping) → IsMapping m
 index_grown segments blocks m m2 is is2 further index fits = record {
   entries = All-weaker (λ (entry : EntryState). SegmentFits m entry.columns) (λ (entry : EntryState). SegmentFits m2 entry.columns) (λ entry. segments m m2 entry.columns is further) index.entries fits.entries;
   buffer = All-weaker (BlockFits m) (BlockFits m2) (λ block. blocks m m2 block is is2 further) index.buffer fits.buffer;
+}
+
+-- ---- an index in which nothing is kept
+
+no_entries : (entries : List EntryState) → segments_kept entries ≡ [] → entries ≡ []
+no_entries [] e = refl
+no_entries (entry ∷ entries) e = absurd (cc)
+
+pub empty_index : (m : Mapping) (index : IndexState) → layout_kept index ≡ empty_layout → IsIndexOf m index
+empty_index m index e = record {
+  fits = record {
+    entries = All-same (λ (entry : EntryState). SegmentFits m entry.columns) index.entries [] (no_entries index.entries (ap (λ (layout : Layout BlockState). layout.segments) e)) (All-nil (λ (entry : EntryState). SegmentFits m entry.columns));
+    buffer = All-same (BlockFits m) index.buffer [] (ap (λ (layout : Layout BlockState). layout.buffer) e) (All-nil (BlockFits m));
+  };
+  values = All-same HasValue (live_kept index) [] (ap live_items e) (All-nil HasValue);
 }
