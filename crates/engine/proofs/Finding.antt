@@ -7,7 +7,7 @@ use Rattle.flattener.specs.Block.{BlockState, block_of, root_of_tree}
 use Rattle.index_core.specs.Kept.{IndexState, laid, layout_kept, segment_kept, segments_kept}
 use Rattle.layout.specs.Layout.{Layout, live_in, live_items, sealed}
 use Rattle.machine.specs.Answer.{Answer, answers, outcome_of, refused_if, refuses}
-use Rattle.machine.specs.Searching.{body_refusal, boost_at, boost_in, boost_of_all, found_by, is_by_score, is_last, is_none, is_plain, is_score, search_all, search_by, search_over, search_step, searched, within}
+use Rattle.machine.specs.Searching.{refusal_of, body_refusal, boost_at, boost_in, boost_of_all, found_by, is_by_score, is_last, is_none, is_plain, is_score, search_all, search_by, search_over, search_step, searched, within}
 use Rattle.machine.specs.State.{State, no_points, sealed_state}
 use Rattle.machine.specs.declared.limits.Limits.{Limits}
 use Rattle.mapping.specs.Mapping.{Mapping}
@@ -28,6 +28,7 @@ use Rattle.reply_text.specs.declared.reply.Reply.{Reply}
 use Rattle.reply_text.specs.declared.reply.Reply.TheVariants as reply
 use Rattle.search_walk.specs.Refusal.{first_refusal}
 use Rattle.search_walk.specs.declared.refusal.SearchRefusal.{SearchRefusal}
+use Rattle.search_walk.specs.declared.refusal.SearchRefusal.TheVariants as body
 use Rattle.segment.specs.Flat.{FlatRoot}
 use Rattle.segment.specs.Live.{EntryState}
 use Rattle.tree_json.specs.Value.{JsonValue}
@@ -37,12 +38,12 @@ use Rattle.engine.specs.Faithful.{AreFaithful, Indexed, StandsFor, block_in, tre
 use Rattle.engine.specs.Hits.{live_roots, root_hit, root_in, roots_in}
 use Rattle.engine.specs.declared.engine.Answered.{Answered}
 use Rattle.engine.specs.declared.engine.Answered.TheVariants as answered
-use Rattle.engine.specs.Parts.{answered_of}
+use Rattle.engine.specs.Parts.{IsRefusedAs, answered_of}
 use Rattle.engine.specs.declared.no_memory.NoMemory as memory
 use Rattle.engine.specs.declared.reply.Ended.{Ended}
 use Rattle.engine.specs.declared.reply.Ended.TheVariants.{Accepted}
 use Rattle.engine.specs.declared.reply.Ended.TheVariants as ended
-use Rattle.engine.proofs.Answering.{lacking_sealed, told}
+use Rattle.engine.proofs.Answering.{lacking, lacking_sealed, refusal_ends, told}
 use Rattle.engine.proofs.Standing.{live_blocks, live_trees, map-map}
 
 -- ---- a search for everything
@@ -239,3 +240,21 @@ found_ends law limits m search index state boost given (Ok ends) out f buffer no
     found_all law limits m search index state boost (answered_of (Ok ends)) out f buffer none all (some_answer ends) (told_so ∙ ap (λ (it : Reply). answered_by (within limits it)) is)
     (text ∙ ap (λ (it : Reply). reply_text (within limits it)) is)
 found_ends law limits m search index state boost given (Err none) out f buffer no_pit all is told_so text = lacking_sealed m index state _ out f
+
+-- ---- by what the writing of a body's refusal came to
+
+-- a refusal that isn't want of memory is the body's first
+abbrev pub FirstIs : Option SearchRefusal → SearchRefusal → Type 0
+FirstIs first body.NoMemory = Unit {0}
+FirstIs first other = first ≡ Some other
+
+first_said : (first : Option SearchRefusal) (given : SearchRefusal) (refusal : Refusal) → FirstIs first given → refusal_of given ≡ Some refusal → body_refusal first ≡ Some refusal
+first_said first body.NoMemory refusal is said = absurd (cc)
+first_said first other refusal is said = ap body_refusal is ∙ said
+
+pub body_ends : (limits : Limits) (json : JsonValue) (m : Mapping) (index : IndexState) (state : State) (given : SearchRefusal) (result : Result Ended memory.NoMemory) (out : List ℕ) → AreFaithful (Some m) index state
+    → FirstIs (first_refusal m json) given → IsRefusedAs (refusal_of given) result out → Answers state (outcome_of state (search_step limits json m (sealed_state state))) (answered_of result) out (Some m) index
+body_ends limits json m index state given (Ok Accepted) out f first said = absurd said
+body_ends limits json m index state given (Ok ended.Refused) out f first said =
+    refusal_ends (Some m) index state (search_step limits json m (sealed_state state)) said.0 (Ok ended.Refused) out f (body_refused limits json m state said.0 (first_said (first_refusal m json) given said.0 first said.1)) said.2
+body_ends limits json m index state given (Err none) out f first said = lacking (Some m) index state _ out f

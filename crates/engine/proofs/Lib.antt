@@ -1,4 +1,5 @@
--- Blocks stand for trees; replies and want of memory; writes; mapping lines; searches; and what holds whatever the state.
+-- Blocks stand for trees; replies and want of memory; writes; mapping lines; searches; what holds whatever the state; and what
+-- is asked for.
 pub mod Standing
 pub mod Answering
 pub mod Writing
@@ -8,3 +9,4 @@ pub mod Finding
 pub mod Leaving
 pub mod Ending
 pub mod Pages
+pub mod Asking
