@@ -6,6 +6,7 @@ ghost use Rattle.machine.specs.Limit.{AreLimits};
 ghost use Rattle.machine.specs.State.{State};
 ghost use Rattle.line_reader.specs.View.{first_line_of, source_line_of};
 ghost use Rattle.machine.specs.Step.{action_step, asked_step, refusal_formed};
+ghost use Rattle.reply_text.specs.declared.refusal.Refusal.TheVariants.{NoMapping as no_mapping};
 ghost use Rattle.request_form.specs.Asked.{asked_of};
 ghost use Rattle.request_form.specs.Command.{refresh as refreshes, search as searches, write as writes};
 ghost use Rattle.request_form.specs.Formed.{IsFormed};
@@ -16,7 +17,7 @@ ghost use Rattle.tree_json.specs.View.{view};
 ghost use Rattle.engine.specs.Answers.{Answers, AnswersTo, IfNotDone};
 ghost use Rattle.engine.specs.Faithful.{IsFaithful};
 ghost use Rattle.engine.specs.Kept.{StaysOrSeals};
-ghost use Rattle.engine.specs.Parts.{IsActionFormed, answered_of};
+ghost use Rattle.engine.specs.Parts.{IsActionFormed, IsRefusal, answered_of};
 ghost use Rattle.engine.specs.Reads.{hits_of, reads_asked, reads_by, reads_of};
 ghost use Rattle.engine.specs.View.{request_of};
 
@@ -229,7 +230,7 @@ impl Engine {
     {
         match &mut self.mapping {
             Some(mapping) => write_tree(self.alloc, mapping, &mut self.index, it, out, steps),
-            None => refuse(Refusal::NoMapping, out),
+            None => without_mapping(it, out),
         }
     }
 
@@ -277,6 +278,15 @@ impl Engine {
             None => refuse(Refusal::NoMapping, out),
         }
     }
+}
+
+/// Refuses a write where there is no mapping.
+fn without_mapping(_it: Write, out: &mut OutText) -> Result<Ended, NoMemory>
+    requires { out.old.bytes ≡ [] }
+    ensures refused { IsRefusal no_mapping result out.new.bytes }
+    ensures room { room_of out.old ≤ room_of out.new }
+{
+    refuse(Refusal::NoMapping, out)
 }
 
 /// Why lines are no request, as a reply says it.
