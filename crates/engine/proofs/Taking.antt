@@ -73,6 +73,10 @@ live_of m id index state number f some =
 
 -- ---- deletes
 
+pub nothing_to_take : (limits : Limits) (m : Mapping) (id : List ℕ) (index : IndexState) (state : State) → AreFaithful (Some m) index state → None ≡ option_map block_number (live_block id index)
+    → delete_step limits m id state ≡ answers (reply.NotFound id) state
+nothing_to_take limits m id index state f none = rw (no_tree m id index state f none) refl
+
 pub not_there : (limits : Limits) (m : Mapping) (id : List ℕ) (index : IndexState) (state : State) (out : List ℕ) → AreFaithful (Some m) index state → None ≡ option_map block_number (live_block id index)
     → out ≡ reply_text (reply.NotFound id) → Answers state (outcome_of state (delete_step limits m id state)) answered.Written out (Some m) index
 not_there limits m id index state out f none text =
