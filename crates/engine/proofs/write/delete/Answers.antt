@@ -16,13 +16,13 @@ returns-in_err-to_vec-in-Some-clause-answers c = λ limits state most f.
 
 pub returns-in-None-clause-answers : goal.returns-in-None-clause-answers
 returns-in-None-clause-answers c = λ limits state most f.
-    acceptance_ends (Some c.args.mapping.now) c.args.index.now state (delete_step limits c.args.mapping.now c.args.id state) (NotFound c.args.id) c.accept.result c.accept.new.out.bytes f
-    (nothing_to_take limits c.args.mapping.now c.args.id c.args.index.now state f (sym c.in-None.is ∙ c.requires.live)) refl c.accept.ensures.accepted
+    acceptance_ends (Some c.args.mapping.now) c.args.index.now state (delete_step limits c.args.mapping.now c.args.id state) (NotFound c.of-id.result) c.accept.result c.accept.new.out.bytes f
+    (nothing_to_take limits c.args.mapping.now c.args.id c.args.index.now state f (sym c.in-None.is ∙ c.requires.live) ∙ ?) refl c.accept.ensures.accepted
 
 pub returns-in_ok-write-in-Some-clause-answers : goal.returns-in_ok-write-in-Some-clause-answers
 returns-in_ok-write-in-Some-clause-answers c = λ limits state most f. ?
 
 pub returns-in_err-write-in-Some-clause-answers : goal.returns-in_err-write-in-Some-clause-answers
 returns-in_err-write-in-Some-clause-answers c = λ limits state most f.
-    let e = err_from_is_err_and c.from_residual-in_err-write.result c.from_residual-in_err-write.ensures.1 in
-    if_lacking (Some c.args.mapping.now) c.args.index.now state _ c.write.new.out.bytes c.from_residual-in_err-write.result e.0 e.1 (lacking (Some c.args.mapping.now) c.args.index.now state _ c.write.new.out.bytes f)
+    let e = err_from_is_err_and c.from_residual-in_err-write-in-Some.result c.from_residual-in_err-write-in-Some.ensures.1 in
+    if_lacking (Some c.args.mapping.now) c.args.index.now state _ c.write.new.out.bytes c.from_residual-in_err-write-in-Some.result e.0 e.1 (lacking (Some c.args.mapping.now) c.args.index.now state _ c.write.new.out.bytes f)
