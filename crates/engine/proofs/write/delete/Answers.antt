@@ -1,5 +1,6 @@
 use Rattle.std.proofs.Common.{◌≡◌, ◌++◌, ℕ, List, Some, None, ap, refl, sym, ◌∙◌}
 use Rattle.std.proofs.lemmas.Result.{err_from_is_err_and}
+use Rattle.machine.specs.Answer.{answers}
 use Rattle.reply_text.specs.Text.{reply_text}
 use Rattle.reply_text.specs.declared.reply.Reply.TheVariants.{NotFound, Written}
 use Rattle.reply_text.specs.declared.reply.WriteResult.TheVariants.{Deleted}
@@ -17,7 +18,7 @@ returns-in_err-to_vec-in-Some-clause-answers c = λ limits state most f.
 pub returns-in-None-clause-answers : goal.returns-in-None-clause-answers
 returns-in-None-clause-answers c = λ limits state most f.
     acceptance_ends (Some c.args.mapping.now) c.args.index.now state (delete_step limits c.args.mapping.now c.args.id state) (NotFound c.of-id.result) c.accept.result c.accept.new.out.bytes f
-    (nothing_to_take limits c.args.mapping.now c.args.id c.args.index.now state f (sym c.in-None.is ∙ c.requires.live) ∙ ?) refl c.accept.ensures.accepted
+    (nothing_to_take limits c.args.mapping.now c.args.id c.args.index.now state f (sym c.in-None.is ∙ c.requires.live) ∙ ap (λ (id : List ℕ). answers (NotFound id) state) (sym (c.of-id.ensures ∙ c.into_vec.ensures))) refl c.accept.ensures.accepted
 
 pub returns-in_ok-write-in-Some-clause-answers : goal.returns-in_ok-write-in-Some-clause-answers
 returns-in_ok-write-in-Some-clause-answers c = λ limits state most f. ?

@@ -7,6 +7,8 @@ use Rattle.reply_text.specs.Text.{reply_text}
 use Rattle.reply_text.specs.declared.reply.Reply.{Reply}
 use Rattle.reply_text.specs.declared.reply.Reply.TheVariants.{Written}
 use Rattle.write_plan.specs.Planned.{IsPlanned, refusals_of}
+use Rattle.reply_text.specs.declared.refusal.Refusal.{Refusal}
+use Rattle.engine.specs.Parts.{IsRefusal}
 use Rattle.engine.proofs.Answering.{if_lacking, lacking, refusal_ends}
 use Rattle.engine.proofs.Ending.{planned_next_to, put_ends, put_leaves}
 use Rattle.engine.proofs.Writing.{put_refused}
@@ -52,7 +54,7 @@ returns-in-Err-Refused-clause-answers c = λ limits state tree most f number.
     (c.in-Err-Refused.ensures.refused c.in-Err-Refused.why (ap Err c.in-Err-Refused.field-0-is))) in
     refusal_ends (Some c.args.mapping.now) c.args.index.now state (put_source limits c.args.mapping.now c.args.id (view c.args.source.now) (added_body c.args.mapping.now (view c.args.source.now)) tree state)
     c.in-Err-Refused.why c.refuse.result c.refuse.new.out.bytes f (put_refused limits c.args.mapping.now c.args.id (view c.args.source.now) tree c.args.index.now state c.in-Err-Refused.why f first)
-    c.refuse.ensures.refused
+    (subst (λ (w : Refusal). IsRefusal w c.refuse.result c.refuse.new.out.bytes) c.in-Err-Refused.why-is c.refuse.ensures.refused)
 
 pub returns-clause-answers : goal.returns-clause-answers
 returns-clause-answers c = λ limits state tree most f number. lacking (Some c.args.mapping.now) c.args.index.now state _ c.args.out.now.bytes f
