@@ -1,0 +1,4 @@
+pub mod Marked
+pub mod Means
+pub mod Middle
+pub mod Moded

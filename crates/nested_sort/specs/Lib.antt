@@ -1,0 +1,5 @@
+-- What a reader must believe, in this order: the filters of a sort, and the rows of what was found.
+pub mod Filters
+pub mod Keyed
+-- For proofs alone: the documents inside a document.
+pub mod Inside

@@ -1,0 +1,17 @@
+//! The keys of hits: what each was found with, made the rows that are put in order.
+//!
+//! Stands on `query_eval` for what was found, on `segment` for the columns of values, on `block_bits` for the documents
+//! inside a document, and on `hit_order` for rows. The contract that others use: `keys` gives each hit the `sort_key` of
+//! each clause. Begin with `specs/Keyed`, then `rows`.
+#![tactic(auto)]
+
+mod inside;
+mod levels;
+mod modes;
+mod no_memory;
+mod numbers;
+mod rows;
+mod texts;
+
+pub use no_memory::NoMemory;
+pub use rows::keys;
