@@ -47,3 +47,5 @@ added_more f g start end at flags had now all next was is =
     let more : flat_map f (flat_map g (marked_within start end flags)) ≡ flat_map f (g at) ++ flat_map f (flat_map g rest) =
     ap (λ docs. flat_map f (flat_map g docs)) (within_more start end at flags next) ∙ flat_map-append f (g at) (flat_map g rest) in
     ap (λ values. values ++ flat_map f (flat_map g rest)) is ∙ (append_assoc had (flat_map f (g at)) (flat_map f (flat_map g rest)) ∙ (ap (λ values. had ++ values) (sym more) ∙ was))
+
+pub ruleset marked = (added_more, within_none)

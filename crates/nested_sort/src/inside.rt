@@ -36,6 +36,7 @@ pub(crate) fn gather<T: ColumnValue>(
 
 /// Those from the documents of a level that pass, of a range.
 #[cycle(gather)]
+#[tactic(auto, using(crate::proofs::Marked::marked))]
 fn gather_in<T: ColumnValue>(
     column: &Column<'_, T>,
     level: &Level<'_>,
