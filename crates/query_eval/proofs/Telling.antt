@@ -1,5 +1,5 @@
 -- Scores that are told key by key, and the entries that tell them one after the other.
-use Rattle.std.proofs.Common.{◌≡◌, ◌≢◌, ℕ, zero, suc, ◌+◌, ◌==◌, ◌<◌, ◌≤◌, min, Bool, true, false, cond, List, [], ◌∷◌, ◌++◌, length, map, take, get_or, set, slice_get, All, Option, Some, None, IfSome, refl, sym, ap, subst, ◌∙◌, inl, inr, arith, append_assoc}
+use Rattle.std.proofs.Common.{◌≡◌, ◌≢◌, ℕ, zero, suc, ◌+◌, ◌==◌, ◌<◌, ◌≤◌, min, Bool, true, false, cond, List, [], ◌∷◌, ◌++◌, length, map, take, get_or, set, slice_get, Option, Some, None, IfSome, refl, sym, ap, subst, ◌∙◌, inl, inr, arith, append_assoc}
 use Rattle.std.specs.List.{range_with_len}
 use Rattle.std.proofs.lemmas.Bool.{cases_Bool, eqb-true}
 use Rattle.std.proofs.lemmas.List.{length-map}
@@ -29,8 +29,8 @@ told_next (x ∷ keys) (s ∷ scores) zero d inside = nil_append (pair_if x s)
 told_next (x ∷ keys) (s ∷ scores) (suc k) d inside =
     let same : suc k + 1 ≡ suc (k + 1) = omega arith in
     rw same
-        (ap (λ (l : List (ℕ × ℕ)). pair_if x s ++ l) (told_next keys scores k d (omega (arith, inside)))
-        ∙ sym (append_assoc (pair_if x s) (told (take k keys) (take k scores)) (pair_if (get_or keys k None) (get_or scores k d))))
+    (ap (λ (l : List (ℕ × ℕ)). pair_if x s ++ l) (told_next keys scores k d (omega (arith, inside)))
+    ∙ sym (append_assoc (pair_if x s) (told (take k keys) (take k scores)) (pair_if (get_or keys k None) (get_or scores k d))))
 
 pub told_cut : (keys scores : List (Option ℕ)) (n : ℕ) → min (length keys) (length scores) ≤ n → told (take n keys) (take n scores) ≡ told keys scores
 told_cut [] scores zero past = refl

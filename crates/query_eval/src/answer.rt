@@ -18,7 +18,10 @@ pub(crate) enum Answer {
         most: Option<u64>,
     },
     /// The parent's, or the boost in its place.
-    Parent { score: bool, boost: u32 },
+    Parent {
+        score: bool,
+        boost: u32,
+    },
 }
 
 /// What is given by these scores.
@@ -32,13 +35,7 @@ pub(crate) fn answer_of(tally: &Tally, answer: Answer) -> Option<u64>
     match answer {
         Answer::Children { mode, least, most } => {
             if is_between(tally.count, least, most) {
-                Some(combine(
-                    mode,
-                    tally.total,
-                    tally.count,
-                    tally.least,
-                    tally.greatest,
-                ))
+                Some(combine(mode, tally.total, tally.count, tally.least, tally.greatest))
             } else {
                 None
             }

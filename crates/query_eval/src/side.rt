@@ -42,12 +42,7 @@ pub(crate) fn key_of(
 }
 
 /// The ordinal by which a root of the entry at a place would take part.
-pub(crate) fn ordinal_by(
-    joins: &JoinOrdinals,
-    place: usize,
-    root: u32,
-    side: Side,
-) -> Option<u32>
+pub(crate) fn ordinal_by(joins: &JoinOrdinals, place: usize, root: u32, side: Side) -> Option<u32>
     ensures { result ≡ ordinal_by side (ordinal_at joins.now.own place root) (ordinal_at joins.now.parents place root) }
 {
     match side {

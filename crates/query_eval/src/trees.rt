@@ -113,7 +113,15 @@ fn joined(
         let segment = entries[place].segment();
         let roots = scope_set(alloc, segment, 0)?;
         let scores = given(
-            alloc, mapping, joins, segment, place, &roots, to, tallies.as_slice(), answer,
+            alloc,
+            mapping,
+            joins,
+            segment,
+            place,
+            &roots,
+            to,
+            tallies.as_slice(),
+            answer,
         )?;
         made.push(scores)?;
     }
@@ -140,7 +148,14 @@ fn gathered(
         let segment = entries[place].segment();
         let roots = scope_set(alloc, segment, 0)?;
         tell(
-            &mut tallies, mapping, joins, segment, place, &roots, side, &hits[place],
+            &mut tallies,
+            mapping,
+            joins,
+            segment,
+            place,
+            &roots,
+            side,
+            &hits[place],
         )?;
     }
     Ok(tallies)
@@ -222,11 +237,7 @@ fn key_if(
 }
 
 /// Adds a score to the tally of its key, where there are both.
-fn tell_one(
-    tallies: &mut Vec<Tally>,
-    key: Option<u32>,
-    score: Option<u64>,
-) -> Result<(), NoMemory>
+fn tell_one(tallies: &mut Vec<Tally>, key: Option<u32>, score: Option<u64>) -> Result<(), NoMemory>
     requires key { IfSome key (λ key. key < length tallies.old.items) }
     requires capped { IfSome score (λ score. score ≤ SCORE_CAP) }
     ensures long { length tallies.new.items ≡ length tallies.old.items }
