@@ -1,5 +1,5 @@
 -- A set with scores, as one optional score a document.
-use Rattle.std.proofs.Common.{◌≡◌, ℕ, zero, suc, ◌+◌, ◌-◌, ◌<◌, ◌≤◌, Bool, true, false, cond, List, [], ◌∷◌, ◌++◌, length, take, drop, replicate, map, set, Option, Some, None, is_some, refl, sym, ap, ◌∙◌, inl, inr, arith, take-append-drop, drop-drop, take-add, min, subst}
+use Rattle.std.proofs.Common.{◌≡◌, ℕ, zero, suc, ◌+◌, ◌<◌, ◌≤◌, Bool, true, false, List, [], ◌∷◌, ◌++◌, length, take, drop, replicate, map, set, Option, Some, None, is_some, refl, sym, ap, ◌∙◌, arith, take-append-drop, take-add, min, subst}
 use Rattle.std.specs.List.{position_from, flat_map}
 use Rattle.std.specs.Option.{option_to_list}
 use Rattle.block_bits.specs.Flags.{is_marked}

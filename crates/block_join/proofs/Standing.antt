@@ -1,17 +1,16 @@
 -- A cursor over scores, by the walk that it keeps.
-use Rattle.std.proofs.Common.{◌≡◌, ℕ, zero, suc, subst, ◌+◌, ◌-◌, ◌<◌, ◌≤◌, Bool, true, false, cond, List, [], ◌∷◌, ◌++◌, length, take, drop, max, Option, Some, None, IfSome, IfNone, is_some, refl, sym, ap, ◌∙◌, inl, inr, arith, take-append-drop, drop-drop, length-drop, zero-add}
+use Rattle.std.proofs.Common.{◌≡◌, ℕ, suc, subst, ◌+◌, ◌-◌, ◌<◌, ◌≤◌, Bool, List, [], ◌∷◌, length, take, drop, max, Option, Some, None, IfSome, IfNone, is_some, sym, ap, ◌∙◌, arith, drop-drop, length-drop, zero-add}
 use Rattle.std.specs.List.{position_from, flat_map}
 use Rattle.std.specs.Option.{option_to_list}
 use Rattle.block_bits.specs.Flags.{is_marked}
 use Rattle.block_bits.specs.Places.{next_place}
 use Rattle.block_bits.specs.Walks.{Walking}
-use Rattle.score_math.specs.declared.score.TheConstants.{SCORE_CAP}
 use Rattle.block_join.specs.declared.scores.Scores.{Scores}
-use Rattle.block_join.specs.declared.scores.Scores.TheVariants.{Same, Each}
+use Rattle.block_join.specs.declared.scores.Scores.TheVariants.{Same}
 use Rattle.block_join.specs.Kept.{shown, score_of, marks, IsLong, IsPlaced, AreScores, IsStanding}
 use Rattle.block_join.specs.Scores.{Standing, between}
-use Rattle.block_join.proofs.Firsts.{NoneIn, FirstAt, FoundAt, first_at, none_at, none_before, passed_over, first_within}
-use Rattle.block_join.proofs.Shown.{length_shown, shown_next, shown_drop, marks_add, marks_parts, marks_le, marks_none, marks_first, none_between, first_between}
+use Rattle.block_join.proofs.Firsts.{NoneIn, first_at, none_at, none_before, passed_over, first_within}
+use Rattle.block_join.proofs.Shown.{length_shown, shown_next, shown_drop, marks_add, marks_parts, marks_none, marks_first, none_between, first_between}
 
 -- the documents from `from` on
 pub shown_from : (f : ℕ → ℕ) (flags : List Bool) (from : ℕ) → drop from (shown f 0 flags) ≡ shown f (marks (take from flags)) (drop from flags)

@@ -1,4 +1,4 @@
-use Rattle.std.proofs.Common.{◌≡◌, ℕ, ◌+◌, ◌≤◌, List, Option, Some, None, is_some, get_or, length, sym, ap, ◌∙◌, arith}
+use Rattle.std.proofs.Common.{◌≡◌, ℕ, ◌+◌, List, Option, Some, None, is_some, get_or, length, sym, ap, ◌∙◌, arith}
 use Rattle.block_bits.specs.Places.{next_place}
 use Rattle.block_join.specs.Kept.{next_by}
 use Rattle.block_join.specs.Merge.{put_together}

@@ -1,4 +1,4 @@
-use Rattle.std.proofs.Common.{◌≡◌, ◌-◌, ◌≤◌, length, refl}
+use Rattle.std.proofs.Common.{◌≡◌, ◌-◌, ◌≤◌, length}
 use Rattle.block_join.specs.Merge.{put_together}
 use Rattle.block_join.proofs.Merging.{Merging}
 use Rattle.block_join.proofs.merge.merged.Given as goal

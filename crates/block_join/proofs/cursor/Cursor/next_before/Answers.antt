@@ -1,4 +1,4 @@
-use Rattle.std.proofs.Common.{◌≡◌, ℕ, ◌+◌, ◌<◌, ◌≤◌, List, [], ◌∷◌, length, take, Some, refl, sym, subst, ◌∙◌, arith}
+use Rattle.std.proofs.Common.{◌≡◌, ◌+◌, ◌≤◌, [], ◌∷◌, take, refl, sym, subst, ◌∙◌, arith}
 use Rattle.block_bits.specs.Flags.{is_marked}
 use Rattle.block_bits.specs.Places.{next_place}
 use Rattle.block_join.specs.Kept.{shown, score_of, marks}

@@ -1,5 +1,4 @@
-use Rattle.std.proofs.Common.{sym, ◌∙◌}
-use Rattle.block_join.proofs.Summing.{summing_one, summing_more, summing_ends, summing_bounded}
+use Rattle.block_join.proofs.Summing.{summing_one, summing_more, summing_bounded}
 use Rattle.block_join.proofs.cursor.Cursor.summed_before.Goals as goal
 
 pub scores-init : goal.scores-init
