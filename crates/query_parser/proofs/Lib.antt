@@ -1,4 +1,5 @@
 pub mod Members
+pub mod Clauseless
 pub mod Keys
 pub mod Faults
 pub mod Found

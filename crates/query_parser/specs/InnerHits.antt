@@ -1,5 +1,5 @@
 -- The definitions of inner hits that a part of a body has: each owns those inside its clause and inside its own sort.
-use Rattle.std.specs.Prelude.{ℕ, List, [], ◌∷◌, ◌++◌, codes, Option, Some, None}
+use Rattle.std.specs.Prelude.{ℕ, Bool, true, false, List, [], ◌∷◌, ◌++◌, codes, Option, Some, None}
 use Rattle.tree_json.specs.Value.{JsonValue, null, bool, whole, text, list, object, Elements, no_elements, element, Members, no_members, member, member_of}
 use Rattle.mapping.specs.Mapping.{Mapping}
 use Rattle.query_ast.specs.Definition.{Definition, definition, definitions_of}
@@ -7,7 +7,7 @@ use Rattle.query_ast.specs.Inner.{Inner}
 use Rattle.query_ast.specs.declared.inner.InnerOver.{InnerOver}
 use Rattle.query_ast.specs.declared.inner.InnerOver.TheVariants.{Below, Children, Parents, Ignored}
 use Rattle.search_form.specs.declared.form.Form.{Form}
-use Rattle.search_form.specs.declared.form.Form.TheVariants.{Query, Nested, HasChild, HasParent, Sort, Buckets}
+use Rattle.search_form.specs.declared.form.Form.TheVariants.{Body, Query, BoolQuery, ConstantScore, DisMax, Nested, ToChild, HasChild, HasParent, SortClause, FieldSort, SortNested, InnerHits, Buckets, Bucket, Queries, QueryList, Sort}
 use Rattle.search_form.specs.Table.{element_of, single_of}
 use Rattle.search_form.specs.Form.{form_at}
 use Rattle.search_walk.specs.Names.{text_under, scope_inside, buckets_in}
@@ -82,3 +82,26 @@ inner_if m form (Some v) = inner_at m (Some 0) form v
 abbrev pub inner_of_body : Mapping → Members → List (Definition Inner)
 inner_of_body m body =
     inner_if m Query (member_of body (codes "query")) ++ (inner_if m Sort (member_of body (codes "sort")) ++ inner_if m Buckets (buckets_in body))
+
+-- The forms in which clauses stand, at some depth. What has another form has no inner hits, so the walk passes over it: this
+-- serves its speed, and the definitions don't cite it.
+abbrev pub has_clauses : Form → Bool
+has_clauses Body = true
+has_clauses Query = true
+has_clauses BoolQuery = true
+has_clauses ConstantScore = true
+has_clauses DisMax = true
+has_clauses Nested = true
+has_clauses ToChild = true
+has_clauses HasChild = true
+has_clauses HasParent = true
+has_clauses SortClause = true
+has_clauses FieldSort = true
+has_clauses SortNested = true
+has_clauses InnerHits = true
+has_clauses Buckets = true
+has_clauses Bucket = true
+has_clauses Queries = true
+has_clauses QueryList = true
+has_clauses Sort = true
+has_clauses form = false

@@ -7,7 +7,7 @@ ghost use Rattle.query_ast.specs.Inner.View.{inner_of as seen};
 ghost use Rattle.search_walk.specs.Names.{buckets_in as buckets_value};
 ghost use Rattle.search_walk.specs.Refusal.{name_or};
 ghost use Rattle.search_form.specs.declared.form.Form.TheVariants.{Query, Sort, Buckets};
-ghost use Rattle.query_parser.specs.InnerHits.{below_if, children_if, parents_if, inner_of, held_by, owned_by, inner_at, inner_in, inner_among, inner_if, inner_of_body};
+ghost use Rattle.query_parser.specs.InnerHits.{below_if, children_if, parents_if, inner_of, held_by, owned_by, has_clauses, inner_at, inner_in, inner_among, inner_if, inner_of_body};
 
 use crate::queries::clause_under;
 use crate::readings::{child_in, copied, number_under, parent_in, unless_false};
@@ -147,9 +147,35 @@ fn append(found: &mut Vec<InnerDef>, mut more: Vec<InnerDef>) -> Result<(), NoMe
     Ok(())
 }
 
-/// Appends the definitions that a value has.
+fn has_clauses(form: Form) -> bool
+    ensures { result ≡ has_clauses form }
+{
+    matches!(
+        form,
+        Form::Body
+            | Form::Query
+            | Form::BoolQuery
+            | Form::ConstantScore
+            | Form::DisMax
+            | Form::Nested
+            | Form::ToChild
+            | Form::HasChild
+            | Form::HasParent
+            | Form::SortClause
+            | Form::FieldSort
+            | Form::SortNested
+            | Form::InnerHits
+            | Form::Buckets
+            | Form::Bucket
+            | Form::Queries
+            | Form::QueryList
+            | Form::Sort
+    )
+}
+
+/// Appends the definitions that a value has. There are none where no clauses are, so leaves are passed over.
 #[cycle(inner)]
-#[tactic(auto, using(search_form::specs::Sizes::sizes))]
+#[tactic(auto, using(search_form::specs::Sizes::sizes, crate::proofs::Clauseless::clauseless))]
 fn inner_at(
     alloc: Global,
     mapping: &Mapping,
@@ -160,6 +186,9 @@ fn inner_at(
 ) -> Result<(), NoMemory>
     ensures { OnOk result (map seen found.new.items ≡ map seen found.old.items ++ inner_at mapping.now scope form (view value.now)) }
 {
+    if !has_clauses(form) {
+        return Ok(());
+    }
     match value {
         Json::List(list) => Ok(inner_in(
             alloc,
@@ -172,10 +201,15 @@ fn inner_at(
         Json::Object(object) => {
             let form = single_of(form);
             let inside = scope_inside(mapping, scope, form, object);
-            let mut owned = Vec::new(alloc);
-            inner_among(alloc, mapping, inside, form, object.as_slice(), &mut owned)?;
-            let held = owned_by(alloc, mapping, scope, form, object, owned)?;
-            Ok(append(found, held)?)
+            match form {
+                Form::Nested | Form::HasChild | Form::HasParent => {
+                    let mut owned = Vec::new(alloc);
+                    inner_among(alloc, mapping, inside, form, object.as_slice(), &mut owned)?;
+                    let held = owned_by(alloc, mapping, scope, form, object, owned)?;
+                    Ok(append(found, held)?)
+                }
+                _ => Ok(inner_among(alloc, mapping, inside, form, object.as_slice(), found)?),
+            }
         }
         Json::Null | Json::Bool(_) | Json::Whole(_) | Json::Text(_) => Ok(()),
     }
