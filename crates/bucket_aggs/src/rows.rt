@@ -1,0 +1,130 @@
+//! Keys with their counts: put together by key, and in the order that is asked for.
+
+ghost use Rattle.std.specs.Prelude.{◌≡◌, ◌+◌, ◌<◌, ℕ, List, map, drop, length, sum_by, IfOk, OnOk};
+ghost use Rattle.std.specs.List.{AllByRecursion};
+ghost use Rattle.query_ast.specs.Compare.{value_cmp};
+ghost use Rattle.tree_objects.specs.declared.field_value.FieldValue.{FieldValue as Value};
+ghost use Rattle.bucket_aggs.specs.Counts.{KeysAscend, added, count_in, rows_ordered, weight};
+
+use crate::NoMemory;
+use std::alloc::Global;
+use std::cmp::Ordering;
+use tree_objects::{Bytes, FieldValue};
+
+/// A key, and of how many objects it is a value.
+#[derive(Drop)]
+pub(crate) struct CountRow {
+    pub(crate) key: FieldValue,
+    pub(crate) count: u64,
+}
+
+/// How two values compare: numbers by number, texts by their bytes, and numbers before texts.
+pub(crate) fn compared(one: &FieldValue, other: &FieldValue) -> Ordering
+    ensures { result ≡ value_cmp one.now other.now }
+{
+    match one {
+        FieldValue::Number(one) => match other {
+            FieldValue::Number(other) => one.cmp(other),
+            FieldValue::Written(_) => Ordering::Less,
+        },
+        FieldValue::Written(one) => match other {
+            FieldValue::Number(_) => Ordering::Greater,
+            FieldValue::Written(other) => one.as_slice().cmp(other.as_slice()),
+        },
+    }
+}
+
+/// An equal value.
+pub(crate) fn copied(alloc: Global, value: &FieldValue) -> Result<FieldValue, NoMemory>
+    ensures { IfOk result (λ copy. copy ≡ value.now) }
+{
+    match value {
+        FieldValue::Number(number) => Ok(FieldValue::Number(*number)),
+        FieldValue::Written(text) => Ok(FieldValue::Written(Bytes::of(Vec::from_slice(
+            alloc,
+            text.as_slice(),
+        )?))),
+    }
+}
+
+/// Adds a count to the last row, if it is of this key, else as a new row.
+pub(crate) fn add(rows: &mut Vec<CountRow>, key: FieldValue, count: u64) -> Result<(), NoMemory>
+    ensures { OnOk result (rows.new.items ≡ added key count rows.old.items) }
+{
+    match rows.pop() {
+        Some(last) => {
+            if compared(&last.key, &key).is_eq() {
+                let Some(sum) = last.count.checked_add(count) else {
+                    return Err(NoMemory);
+                };
+                rows.push(CountRow {
+                    key: last.key,
+                    count: sum,
+                })?;
+                Ok(())
+            } else {
+                rows.push(last)?;
+                rows.push(CountRow { key, count })?;
+                Ok(())
+            }
+        }
+        None => {
+            rows.push(CountRow { key, count })?;
+            Ok(())
+        }
+    }
+}
+
+/// One row for each key, by ascending key, with the sum of its counts.
+pub(crate) fn merged(alloc: Global, mut rows: Vec<CountRow>) -> Result<Vec<CountRow>, NoMemory>
+    ensures ascend { IfOk result (λ made. KeysAscend made.items) }
+    ensures counts { IfOk result (λ made. (v : Value) → weight v made.items ≡ weight v rows.items) }
+    ensures some { AllByRecursion (λ row. 0 < row.count) rows.items → IfOk result (λ made. AllByRecursion (λ row. 0 < row.count) made.items) }
+{
+    rows.sort_by(|one, other| compared(&one.key, &other.key))?;
+    let mut made = Vec::new(alloc);
+    'rows: for row in rows {
+        add(&mut made, row.key, row.count)?;
+    }
+    Ok(made)
+}
+
+/// Puts rows, which stand by ascending key, in the order that is asked for.
+pub(crate) fn put_in_order(
+    rows: &mut Vec<CountRow>,
+    by_key: bool,
+    descending: bool,
+) -> Result<(), NoMemory>
+    ensures { OnOk result (rows.new.items ≡ rows_ordered by_key descending rows.old.items) }
+{
+    if by_key {
+        if descending {
+            rows.reverse();
+        }
+        return Ok(());
+    }
+    rows.sort_by(|one, other| {
+        if descending {
+            other.count.cmp(&one.count)
+        } else {
+            one.count.cmp(&other.count)
+        }
+    })?;
+    Ok(())
+}
+
+/// The sum of the counts of the rows behind the first so many.
+pub(crate) fn count_behind(rows: &[CountRow], size: usize) -> Result<u64, NoMemory>
+    ensures { IfOk result (λ count. count ≡ sum_by count_in (drop size rows.now)) }
+{
+    let mut count: u64 = 0;
+    let mut at = size;
+    'rows: while at < rows.len() {
+        let Some(more) = count.checked_add(rows[at].count) else {
+            return Err(NoMemory);
+        };
+        count = more;
+        at += 1;
+    }
+    Ok(count)
+}
