@@ -6,10 +6,10 @@ use Rattle.std.proofs.lemmas.List.Concat.{flat_map-append}
 use Rattle.tree_json.specs.Value.{JsonValue}
 use Rattle.mapping.specs.Mapping.{Mapping, IsAbove, is_above}
 use Rattle.tree_objects.specs.Enclosing.{stands_at}
-use Rattle.tree_objects.specs.Object.{Object, root, inside, scope, around, below, objects, block_objects}
+use Rattle.tree_objects.specs.Object.{Object, root, inside, scope, around, below, objects, block_objects, tree_of}
 use Rattle.tree_objects.specs.Tree.{Tree}
 use Rattle.tree_joins.proofs.Each.{by_test, same_number, Each, each_map, each_append, each_filter}
-use Rattle.tree_joins.proofs.Blocks.{Laws, IsKid, inner, inner_after, inner_around, inner_by, none_above_root, not_above_kid}
+use Rattle.tree_joins.proofs.Blocks.{Laws, IsKid, inner, inner_after, inner_are, inner_around, inner_by, none_above_root, not_above_kid}
 
 -- none passes
 fail_all : (test : Object → Bool) (xs : Seq Object) → Each (λ (x : Object). test x ≡ false) xs → filter test xs ≡ []
@@ -83,3 +83,15 @@ around_is m laws o p above =
     subst (Each (λ (y : Object). around y (scope o) ≡ o)) found
     (each_map (λ (y : Object). (around y (scope o) ≡ o) × (stands_at p y ≡ true)) (λ (y : Object). around y (scope o) ≡ o) (λ y h. h.0) (filter (stands_at p) (inner m (length m.scopes) o))
     (each_filter (λ (y : Object). around y (scope o) ≡ o) (stands_at p) (inner m (length m.scopes) o) (inner_around m laws (length m.scopes) (scope o) o refl)))
+
+-- the objects of a block are of its tree
+of_tree : (m : Mapping) (laws : Laws m) (left : ℕ) (o : Object) → Each (λ (y : Object). tree_of y ≡ tree_of o) (objects m left o)
+of_tree m laws zero o = (refl, tt)
+of_tree m laws (suc left) o =
+    each_append (λ (y : Object). tree_of y ≡ tree_of o) (inner m left o) (o ∷ [])
+    (inner_are m laws (λ (y : Object). tree_of y ≡ tree_of o) left o (λ k i v kid. of_tree m laws left (inside o k i v)))
+    (refl, tt)
+
+pub tree_is : (m : Mapping) (laws : Laws m) (tree : Tree) → Each (λ (y : Object). tree_of y ≡ tree) (block_objects m tree)
+unfolding block_objects
+tree_is m laws tree = of_tree m laws (length m.scopes) (root tree)

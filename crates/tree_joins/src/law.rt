@@ -8,7 +8,7 @@ ghost use Rattle.mapping.specs.IsMapping.{IsMapping};
 ghost use Rattle.mapping.specs.Mapping.{Mapping, IsAbove};
 ghost use Rattle.tree_joins.specs.Seen.{scopes_of, seen, at_scope, gathered, handed, scored, some_of};
 ghost use Rattle.tree_objects.specs.Enclosing.{stands_at};
-ghost use Rattle.tree_objects.specs.Object.{Object, around, below, block_objects, scope};
+ghost use Rattle.tree_objects.specs.Object.{Object, around, below, block_objects, scope, tree_of};
 ghost use Rattle.tree_objects.specs.Tree.{Tree};
 
 use mapping::scopes_form_chains;
@@ -27,10 +27,11 @@ pub fn joins_are_of_trees()
 }
 
 /// The objects of a block at a scope are, in the order of their documents, those below the objects at any scope above it, one
-/// after the other; and around each of those below an object is that object.
+/// after the other. Around each of those below an object is that object, and each object of a block is of its tree.
 pub fn objects_are_parted()
     ensures parted { (m : Mapping) (n p : ℕ) (tree : Tree) → IsMapping m → IsAbove m n p → filter (stands_at p) (block_objects m tree) ≡ flat_map (λ o. below m o p) (filter (stands_at n) (block_objects m tree)) }
     ensures around { (m : Mapping) (o : Object) (p : ℕ) → IsMapping m → IsAbove m (scope o) p → AllByRecursion (λ inside. around inside (scope o) ≡ o) (below m o p) }
+    ensures tree { (m : Mapping) (tree : Tree) → IsMapping m → AllByRecursion (λ o. tree_of o ≡ tree) (block_objects m tree) }
 {
     scopes_form_chains();
     objects_nest();

@@ -1,0 +1,11 @@
+pub mod Lists
+pub mod Apart
+pub mod Objects
+pub mod Joined
+pub mod Documents
+pub mod Values
+pub mod Keys
+pub mod Weights
+pub mod Groups
+pub mod Sums
+pub mod Answers
