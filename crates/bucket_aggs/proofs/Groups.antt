@@ -4,7 +4,7 @@ use Rattle.std.specs.List.{AllByRecursion, flat_map, list_any}
 use Rattle.std.specs.List.Sorted.{IsPermutation}
 use Rattle.std.specs.Prelude.{IsTrue}
 use Rattle.std.proofs.lemmas.Bool.{lt-ltb}
-use Rattle.std.proofs.lemmas.List.{map-reverse}
+use Rattle.std.proofs.lemmas.List.{map-append, reverse-append}
 use Rattle.std.proofs.lemmas.List.Folds.{list_any-append}
 use Rattle.std.proofs.lemmas.List.Sorted.{list_any-IsPermutation}
 use Rattle.flattener.specs.Flat.{flat_of}
@@ -150,14 +150,22 @@ module _ {K B : Type 0} (f : K → B) (before : B → B → Bool) where
   order_map [] = refl
   order_map (x ∷ xs) = ap (placed before (f x)) (order_map xs) ∙ placed_map x (in_order (λ a b. before (f a) (f b)) xs)
 
+map_reverse : {A B : Type 0} (f : A → B) (xs : List A) → map f (reverse xs) ≡ reverse (map f xs)
+map_reverse f [] = refl
+map_reverse {A} {B} f (x ∷ xs) =
+    ap (map f) (reverse-append (x ∷ []) xs)
+    ∙ map-append f (reverse xs) (x ∷ [])
+    ∙ ap (λ (l : List B). l ++ f x ∷ []) (map_reverse f xs)
+    ∙ sym (reverse-append (f x ∷ []) (map f xs))
+
 groups_ordered : {K : Type 0} (f : K → Group) (by_key descending : Bool) (ks : List K) → ordered by_key descending (map f ks) ≡ map f (keys_ordered by_key descending (λ k. count_of (f k)) ks)
-groups_ordered f true true ks = sym (map-reverse f ks)
+groups_ordered f true true ks = sym (map_reverse f ks)
 groups_ordered f true false ks = refl
 groups_ordered f false true ks = order_map f (comes_first true) ks
 groups_ordered f false false ks = order_map f (comes_first false) ks
 
 rows_in_order : {K : Type 0} (f : K → CountRow) (by_key descending : Bool) (ks : List K) → rows_ordered by_key descending (map f ks) ≡ map f (keys_ordered by_key descending (λ k. (f k).count) ks)
-rows_in_order f true true ks = sym (map-reverse f ks)
+rows_in_order f true true ks = sym (map_reverse f ks)
 rows_in_order f true false ks = refl
 rows_in_order f false true ks = order_map f (row_first true) ks
 rows_in_order f false false ks = order_map f (row_first false) ks

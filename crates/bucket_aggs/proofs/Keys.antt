@@ -45,6 +45,14 @@ module _ {K : Type 0} (R : K → K → Ordering) (o : IsTotalOrder R) (exact : (
   pub same_itself : (a : K) → same a a ≡ true
   same_itself a = ap is_eq (tied_itself o a)
 
+  equal_back : (r : Ordering) → is_eq (ordering_reverse r) ≡ is_eq r
+  equal_back Less = refl
+  equal_back Equal = refl
+  equal_back Greater = refl
+
+  pub same_back : (a b : K) → same a b ≡ same b a
+  same_back a b = ap is_eq (o.antisymm a b) ∙ equal_back (R b a)
+
   pub less_apart : (a b : K) → less a b ≡ true → same a b ≡ false
   less_apart a b h = ap is_eq (lt_is (R a b) h)
 
