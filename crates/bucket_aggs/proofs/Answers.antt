@@ -3,6 +3,7 @@ use Rattle.std.proofs.Common.{◌≡◌, ◌≢◌, ℕ, ◌<◌, Bool, true, fa
 use Rattle.std.specs.Prelude.{IsTrue}
 use Rattle.std.specs.List.{AllByRecursion, flat_map, list_any}
 use Rattle.std.specs.List.Sorted.{IsPermutation}
+use Rattle.block_join.specs.Merge.{put_together}
 use Rattle.block_join.specs.declared.rule.Rule.TheVariants.{Kept as KeptRule}
 use Rattle.flattener.specs.Flat.{flat_of}
 use Rattle.flattener.specs.StandsFor.{Marked, ViewStandsFor}
@@ -11,7 +12,7 @@ use Rattle.mapping_body.specs.declared.kind.Kind.{Kind}
 use Rattle.mapping_body.specs.declared.kind.Kind.TheVariants.{Text, Keyword, Long, Boolean, Date, Object as Plain, Nested as NestedKind, Join}
 use Rattle.query_ast.specs.Agg.{Agg}
 use Rattle.query_ast.specs.Buckets.{bucket_of, bucket_replies, groups_of, has_value, ordered, single_of}
-use Rattle.query_ast.specs.Clause.{Clause, is_among, leaf, on_field}
+use Rattle.query_ast.specs.Clause.{Clause, is_among, leaf, match_all, on_field}
 use Rattle.query_ast.specs.Compare.{is_same_value, value_cmp}
 use Rattle.query_ast.specs.Definition.{Definition, Definitions, definition, definitions_of, no_definitions, with_definition}
 use Rattle.query_ast.specs.Hit.{hit, those_hit}
@@ -36,7 +37,7 @@ use Rattle.tree_objects.specs.declared.field_value.FieldValue.{FieldValue}
 use Rattle.view_objects.specs.Hits.{live_objects}
 use Rattle.view_objects.specs.Values.{values_shown}
 use Rattle.bucket_aggs.specs.Counts.{AreCounts, count_in, flats_of_view, marked_count, rows_ordered}
-use Rattle.bucket_aggs.specs.Given.{AreReplies, HaveOwnNumbers, IsAnswer, as_ones, bucket_by, buckets_by, is_given, more_replies, objects_given, one_if, replies_by, single_by, value_by}
+use Rattle.bucket_aggs.specs.Given.{AreReplies, HaveOwnNumbers, IsAnswer, as_ones, bucket_by, buckets_by, is_given, more_replies, objects_given, replies_by, single_by, value_by}
 use Rattle.bucket_aggs.specs.declared.rows.CountRow.{CountRow}
 use Rattle.bucket_aggs.proofs.Documents.{Scores, Trees, flats_are, objects_count}
 use Rattle.bucket_aggs.proofs.Groups.{first_buckets, other_counts}
@@ -57,15 +58,20 @@ pub answer_same : {A : Type 0} (m : Mapping) (view : List EntryState) (n p : ℕ
     → IsAnswer m view n one given value → IsAnswer m view p other by value
 answer_same m view n p one other given by value same was = record { is = λ trees stand own. was.is trees stand own ∙ same trees stand own }
 
-ones_given : (score : Option ℕ) → is_some (one_if score) ≡ is_some score
-ones_given None = refl
-ones_given (Some s) = refl
+-- all objects are hit by what asks for nothing
+ones_given : (m : Mapping) (live : List Tree) (given : Object → Option ℕ) (o : Object) → is_some (put_together KeptRule (hit m live (leaf match_all 1) o) (given o)) ≡ is_some (given o)
+unfolding leaf_holds
+ones_given m live given o = by (given o)
+  where
+    by : (score : Option ℕ) → is_some (put_together KeptRule (Some 1) score) ≡ is_some score
+    by None = refl
+    by (Some s) = refl
 
-pub answer_of_ones : {A : Type 0} (m : Mapping) (view : List EntryState) (n : ℕ) (answer : List Tree → List Object → A) (given : Given) (value : A) → IsAnswer m view n answer (as_ones given) value → IsAnswer m view n answer given value
-answer_of_ones m view n answer given value was =
-    answer_same m view n n answer answer (as_ones given) given value
+pub answer_of_ones : {A : Type 0} (m : Mapping) (view : List EntryState) (n : ℕ) (answer : List Tree → List Object → A) (given : Given) (value : A) → IsAnswer m view n answer (as_ones m given) value → IsAnswer m view n answer given value
+answer_of_ones m view n answer given value =
+    answer_same m view n n answer answer (as_ones m given) given value
     (λ trees stand own. let live : List Tree = live_trees trees in
-    ap (answer live) (filter_same (is_given (as_ones given live)) (is_given (given live)) (λ o. ones_given (given live o)) (live_objects m n live))) was
+    ap (answer live) (filter_same (is_given (as_ones m given live)) (is_given (given live)) (λ o. ones_given m live (given live) o) (live_objects m n live)))
 
 -- ---- one bucket
 

@@ -56,9 +56,10 @@ module _ {A : Type 0} (same : A → A → Bool) where
 
   pub apart_append : (xs ys : List A) → Apart xs → Apart ys → Each (λ (y : A). Each (λ (x : A). same y x ≡ false) xs) ys → Apart (xs ++ ys)
   apart_append [] ys h g between = g
-  apart_append (x ∷ xs) ys h g between =
-      (both xs ys h.0 (each_as (λ (y : A). Each (λ (z : A). same y z ≡ false) (x ∷ xs)) (λ (y : A). same y x ≡ false) (λ y p. p.0) ys between),
-      apart_append xs ys h.1 g (each_as (λ (y : A). Each (λ (z : A). same y z ≡ false) (x ∷ xs)) (λ (y : A). Each (λ (z : A). same y z ≡ false) xs) (λ y p. p.1) ys between))
+  apart_append (x ∷ xs) ys h g between = (
+    both xs ys h.0 (each_as (λ (y : A). Each (λ (z : A). same y z ≡ false) (x ∷ xs)) (λ (y : A). same y x ≡ false) (λ y p. p.0) ys between),
+    apart_append xs ys h.1 g (each_as (λ (y : A). Each (λ (z : A). same y z ≡ false) (x ∷ xs)) (λ (y : A). Each (λ (z : A). same y z ≡ false) xs) (λ y p. p.1) ys between),
+  )
     where
       both : (us vs : List A) → Each (λ (y : A). same y x ≡ false) us → Each (λ (y : A). same y x ≡ false) vs → Each (λ (y : A). same y x ≡ false) (us ++ vs)
       both [] vs p q = q

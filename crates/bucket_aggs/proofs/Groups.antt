@@ -13,7 +13,7 @@ use Rattle.mapping_body.specs.declared.kind.Kind.{Kind}
 use Rattle.query_ast.specs.Buckets.{Group, all_shown, bucket_of, comes_first, count_of, group_of, groups_of, has_value, ordered, several_of, shown_by}
 use Rattle.query_ast.specs.Compare.{each_once, in_order, is_less, is_same_value, placed, value_cmp}
 use Rattle.query_ast.specs.Replies.{BucketPart, ReplyPart, replies_of}
-use Rattle.query_ast.specs.Uses.{uses_at}
+use Rattle.query_ast.specs.Uses.{IsValueOf}
 use Rattle.tree_objects.specs.Object.{Object}
 use Rattle.tree_objects.specs.Values.{values}
 use Rattle.tree_objects.specs.declared.field_value.FieldValue.{FieldValue}
@@ -120,7 +120,7 @@ module _ (m : Mapping) (f : ℕ) (shown : (o : Object) → IsPermutation (values
       let same : keys_of rows ≡ keys =
       one_ascending value_cmp value_total value_exact (keys_of rows) keys (keys_of_ascend rows are.ascend) (keys_ascend value_cmp value_total value_exact (all_shown m (Some f) objects))
       (λ v.
-      any_weighs v rows are.some
+      any_weighs v rows (each_as (λ (row : CountRow). IsValueOf kind row.key × (0 < row.count)) (λ (row : CountRow). 0 < row.count) (λ row h. h.1) rows are.keys)
       ∙ ap (nat_lt 0) (weighs v)
       ∙ some_long (has_value m (Some f) v) objects
       ∙ sym (any_flat (is_same_value v) (shown_by m (Some f)) objects)

@@ -7,8 +7,10 @@ use Rattle.std.proofs.lemmas.Bool.{false≢true}
 use Rattle.std.proofs.lemmas.List.Elements.{recursion_from_All, All-from_recursion}
 use Rattle.std.proofs.lemmas.List.Sorted.{All-permutation, IsPermutation-sym, ranks_by, sorted_far, sum_by-IsPermutation}
 use Rattle.tree_objects.specs.declared.field_value.FieldValue.{FieldValue}
+use Rattle.mapping_body.specs.declared.kind.Kind.{Kind}
+use Rattle.query_ast.specs.Uses.{IsValueOf}
 use Rattle.query_ast.specs.Compare.{is_less, is_same_value, value_cmp}
-use Rattle.bucket_aggs.specs.Counts.{KeysAscend, added, weight, weight_in}
+use Rattle.bucket_aggs.specs.Counts.{AreKeys, KeysAscend, added, weight, weight_in}
 use Rattle.bucket_aggs.specs.declared.rows.CountRow.{CountRow}
 use Rattle.bucket_aggs.proofs.Keys.{Ascend, by_order, greater_is, less_apart, less_on, same_is, same_itself}
 use Rattle.bucket_aggs.proofs.Lists.{Each, by_test, each_as}
@@ -41,11 +43,11 @@ each_added P key count (row ∷ []) p h =
     by_test (is_same_value row.key key) (λ held. rw held (h.0, tt)) (λ failed. rw failed (h.0, (p, tt)))
 each_added P key count (row ∷ next ∷ rows) p h = (h.0, each_added P key count (next ∷ rows) p h.1)
 
-pub some_added : (key : FieldValue) (count : ℕ) (rows : Rows) → 0 < count → Each (λ (row : CountRow). 0 < row.count) rows → Each (λ (row : CountRow). 0 < row.count) (added key count rows)
-some_added key count [] p h = (p, tt)
-some_added key count (row ∷ []) p h =
-    by_test (is_same_value row.key key) (λ held. rw held (omega (arith, p), tt)) (λ failed. rw failed (h.0, (p, tt)))
-some_added key count (row ∷ next ∷ rows) p h = (h.0, some_added key count (next ∷ rows) p h.1)
+pub keys_added : (kind : Kind) (key : FieldValue) (count : ℕ) (rows : Rows) → IsValueOf kind key → 0 < count → AreKeys kind rows → AreKeys kind (added key count rows)
+keys_added kind key count [] is some h = ((is, some), tt)
+keys_added kind key count (row ∷ []) is some h =
+    by_test (is_same_value row.key key) (λ held. rw held ((h.0.0, omega (arith, some)), tt)) (λ failed. rw failed (h.0, ((is, some), tt)))
+keys_added kind key count (row ∷ next ∷ rows) is some h = (h.0, keys_added kind key count (next ∷ rows) is some h.1)
 
 -- no key of the rows is greater than this one
 abbrev pub UpTo : FieldValue → Rows → Type 0
@@ -66,9 +68,10 @@ added_ascends key count (row ∷ []) a up =
     let other : is_same_value key row.key ≡ false =
     by_test (is_same_value key row.key) (λ h. absurd (false≢true (sym failed ∙ ap (λ (k : FieldValue). is_same_value k key) (sym (same_key key row.key h)) ∙ same_itself value_cmp value_total value_exact key))) (λ h. h) in
     rw failed ((greater_is value_cmp value_total value_exact key row.key up.0 other, tt), (tt, tt)))
-added_ascends key count (row ∷ next ∷ rows) a up =
-    (each_added (λ (k : FieldValue). is_less row.key k ≡ true) key count (next ∷ rows) (next_below row.key next.key key a.0.0 up.1.0) a.0,
-    added_ascends key count (next ∷ rows) a.1 up.1)
+added_ascends key count (row ∷ next ∷ rows) a up = (
+  each_added (λ (k : FieldValue). is_less row.key k ≡ true) key count (next ∷ rows) (next_below row.key next.key key a.0.0 up.1.0) a.0,
+  added_ascends key count (next ∷ rows) a.1 up.1,
+)
 
 -- ---- rows that stand by key
 
@@ -90,12 +93,16 @@ sorted_rises (row ∷ rows) h = (
   sorted_rises rows (λ k d from to. let e : k + 1 ≡ suc k = omega arith in let f : suc k + 1 ≡ suc (k + 1) = omega arith in let here : key_before (get_or (row ∷ rows) (suc k + 1) d) (get_or (row ∷ rows) (suc k) d) ≡ false = h (suc k) d (omega arith) (omega arith) in rw f at here),
 )
 
+pub each_permuted : (P : CountRow → Type 0) (one other : Rows) → IsPermutation one other → Each P one → Each P other
+each_permuted P one other same h = recursion_from_All P other (All-permutation P one other same (All-from_recursion P one h))
+
 -- rows of which some are put together
 pub record Merging (all made rest : Rows) : Type 0 where
   pub ascend : KeysAscend made
   pub behind : Each (λ (row : CountRow). UpTo row.key made) rest
   pub rises : Rises rest
   pub counts : (v : FieldValue) → weight v made + weight v rest ≡ weight v all
+  pub keys : (kind : Kind) → AreKeys kind all → AreKeys kind made × AreKeys kind rest
 
 pub merging_start : (all sorted : Rows) → IsPermutation all sorted → IsSortedBy key_before sorted → Merging all [] sorted
 merging_start all sorted same is = record {
@@ -103,6 +110,7 @@ merging_start all sorted same is = record {
   behind = none sorted;
   rises = sorted_rises sorted is;
   counts = λ v. omega (arith, sum_by-IsPermutation (weight_in v) all sorted same);
+  keys = λ kind are. (tt, each_permuted (λ (row : CountRow). IsValueOf kind row.key × (0 < row.count)) all sorted same are);
 }
   where
     none : (rows : Rows) → Each (λ (row : CountRow). UpTo row.key []) rows
@@ -117,6 +125,7 @@ merging_more all made new row rest was is =
       behind = each rest was.behind.1 was.rises.0;
       rises = was.rises.1;
       counts = λ v. omega (arith, weight_added v row.key row.count made, was.counts v);
+      keys = λ kind are. let old = was.keys kind are in (keys_added kind row.key row.count made old.1.0.0 old.1.0.1 old.0, old.1.1);
     })
   where
     each : (rows : Rows) → Each (λ (r : CountRow). UpTo r.key made) rows → Each (λ (later : CountRow). is_less later.key row.key ≡ false) rows → Each (λ (r : CountRow). UpTo r.key (added row.key row.count made)) rows
@@ -125,4 +134,3 @@ merging_more all made new row rest was is =
 
 pub merging_end : (all made : Rows) (v : FieldValue) → Merging all made [] → weight v made ≡ weight v all
 merging_end all made v was = omega (arith, was.counts v)
-

@@ -76,18 +76,18 @@ pub record Weighed (kind : Kind) (f : ℕ) (flats : List FlatDocument) (old new 
 abbrev pub count_in : CountRow → ℕ
 count_in row = row.count
 
--- keys of the kind of a field
+-- keys of the kind of a field, each of some object
 abbrev pub AreKeys : Kind → List CountRow → Type 0
-AreKeys kind rows = AllByRecursion (λ (row : CountRow). IsValueOf kind row.key) rows
+AreKeys kind rows = AllByRecursion (λ (row : CountRow). IsValueOf kind row.key × (0 < row.count)) rows
 
--- keys strictly ascend, and each stands for some object
+-- keys strictly ascend
 abbrev pub KeysAscend : List CountRow → Type 0
 KeysAscend [] = ⊤
 KeysAscend (row ∷ rows) = AllByRecursion (λ (later : CountRow). is_less row.key later.key ≡ true) rows × KeysAscend rows
 
 pub record AreCounts (kind : Kind) (f : ℕ) (flats : List FlatDocument) (rows : List CountRow) : Type 0 where
   pub ascend : KeysAscend rows
-  pub some : AllByRecursion (λ (row : CountRow). 0 < row.count) rows
+  pub keys : AreKeys kind rows
   pub counts : (v : FieldValue) → weight v rows ≡ count_by (shows kind f v) flats
 
 -- a count more for the last row, if it has this key, else a new row

@@ -10,7 +10,10 @@ use Rattle.query_ast.specs.Definition.{Definitions}
 use Rattle.query_ast.specs.Replies.{BucketPart, ReplyPart, ReplyValue, replies_of}
 use Rattle.query_ast.specs.SortKey.{greatest_value, least_value, total}
 use Rattle.query_ast.specs.declared.agg.AggForm.{AggForm}
-use Rattle.query_eval.specs.Found.{live_trees}
+use Rattle.query_ast.specs.Clause.{leaf, match_all}
+use Rattle.query_eval.specs.Folds.{paired_by}
+use Rattle.query_eval.specs.Found.{live_trees, score_by}
+use Rattle.block_join.specs.declared.rule.Rule.TheVariants.{Kept}
 use Rattle.segment.specs.Live.{EntryState}
 use Rattle.tree_objects.specs.Object.{Object}
 use Rattle.tree_objects.specs.Tree.{Tree}
@@ -74,9 +77,5 @@ abbrev pub count_by_field : Mapping → Option ℕ → List Tree → List Object
 count_by_field m field live objects = pos (length (all_shown m field objects))
 
 -- the same objects, all with one score
-abbrev pub one_if : Option ℕ → Option ℕ
-one_if None = None
-one_if (Some score) = Some 1
-
-abbrev pub as_ones : (List Tree → Object → Option ℕ) → List Tree → Object → Option ℕ
-as_ones given live o = one_if (given live o)
+abbrev pub as_ones : Mapping → (List Tree → Object → Option ℕ) → List Tree → Object → Option ℕ
+as_ones m given = paired_by Kept (score_by m (leaf match_all 1)) given

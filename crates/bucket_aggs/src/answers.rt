@@ -21,16 +21,16 @@ ghost use Rattle.bucket_aggs.specs.Given.{AreReplies, IsAnswer, bucket_by, count
 
 use crate::NoMemory;
 use crate::metrics::{summary, value_count};
-use crate::objects::{alike, count_of};
+use crate::objects::{alike, count_of, filtered};
 use crate::rows::{CountRow, copied, count_behind, put_in_order};
 use crate::terms::counted;
-use block_join::{Matches, Rule};
+use block_join::Matches;
 use join_ordinals::JoinOrdinals;
 use mapping::Mapping;
 use query_ast::{
     AggDef, AggForm, AggList, AggReplies, AggReply, AggValue, Bucket, BucketList, Query,
 };
-use query_eval::{downs, found, merges, ups, with_children, with_parent_by};
+use query_eval::{downs, ups, with_children, with_parent_by};
 use score_math::ScoreMode;
 use segment_view::{Entry, View};
 use source_steps::Steps;
@@ -61,7 +61,7 @@ pub fn buckets<L: Ledger>(
     ensures steps { steps.new ≡ steps.old }
 {
     let entries = view.entries();
-    let objects = alike(alloc, entries, hits)?;
+    let objects = alike(alloc, entries, mapping, ordinals, scope, hits)?;
     let replies = replies(
         alloc,
         entries,
@@ -225,26 +225,6 @@ fn no_buckets(alloc: Global) -> AggValue
         buckets: BucketList::of(Vec::new(alloc)),
         other: 0,
     }
-}
-
-/// Of the objects those that hit.
-fn filtered(
-    alloc: Global,
-    entries: &[Entry],
-    mapping: &Mapping,
-    ordinals: &JoinOrdinals,
-    query: &Query,
-    scope: u32,
-    objects: &Matches,
-) -> Result<Matches, NoMemory>
-    requires resolved { IsResolved mapping.now scope (clause_of query.now) }
-    requires joined { joins (clause_of query.now) ≡ true → AreOrdinals entries.now ordinals.now }
-    requires long { AreLong entries.now objects.now }
-    ensures long { IfOk result (AreLong entries.now) }
-    ensures seen { (given : List Tree → Object → Option ℕ) → IsSeen mapping.now entries.now scope given objects.now → IfOk result (IsSeen mapping.now entries.now scope (paired_by Rule.Kept given (score_by mapping.now (clause_of query.now)))) }
-{
-    let hits = found(alloc, entries, mapping, ordinals, query, scope)?;
-    Ok(merges(alloc, entries, objects, &hits, Rule::Kept)?)
 }
 
 /// One bucket of all the objects.

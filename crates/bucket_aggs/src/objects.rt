@@ -1,42 +1,79 @@
 //! The objects that the documents of a view stand for, as sets of documents.
 
-ghost use Rattle.std.specs.Prelude.{◌≡◌, ◌≤◌, ◌+◌, ◌^◌, ◌<◌, ℕ, List, Option, length, count_by, map, sum_by, is_some, IfOk};
-ghost use Rattle.block_bits.specs.Flags.{is_marked};
-ghost use Rattle.block_join.specs.Scores.{filled};
+ghost use Rattle.std.specs.Prelude.{◌≡◌, ℕ, true, List, Option, sum_by, IfOk};
+ghost use Rattle.block_join.specs.declared.rule.Rule.{Rule};
 ghost use Rattle.bucket_aggs.specs.Counts.{marked_count};
 ghost use Rattle.bucket_aggs.specs.Given.{as_ones};
-ghost use Rattle.mapping.specs.Mapping.{Mapping as Meaning};
-ghost use Rattle.query_eval.specs.Found.{AreLong, IsSeen};
+ghost use Rattle.join_ordinals.specs.Ordinals.{AreOrdinals};
+ghost use Rattle.query_ast.specs.Clause.View.{clause_of};
+ghost use Rattle.query_ast.specs.Joins.{joins};
+ghost use Rattle.query_ast.specs.Resolved.{IsResolved};
+ghost use Rattle.query_eval.specs.Folds.{paired_by};
+ghost use Rattle.query_eval.specs.Found.{AreLong, IsSeen, score_by};
 ghost use Rattle.tree_objects.specs.Object.{Object};
 ghost use Rattle.tree_objects.specs.Tree.{Tree};
 
 use crate::NoMemory;
-use block_join::{Matches, Scored};
+use block_join::{Matches, Rule};
+use join_ordinals::JoinOrdinals;
+use mapping::Mapping;
+use query_ast::Query;
+use query_eval::{found, merges};
 use segment_view::Entry;
 use std::alloc::Global;
 
 /// The same documents, all with one score: a set of bits for each entry.
-pub(crate) fn alike(alloc: Global, entries: &[Entry], hits: &Matches) -> Result<Matches, NoMemory>
+pub(crate) fn alike(
+    alloc: Global,
+    entries: &[Entry],
+    mapping: &Mapping,
+    ordinals: &JoinOrdinals,
+    scope: u32,
+    hits: &Matches,
+) -> Result<Matches, NoMemory>
     requires { AreLong entries.now hits.now }
     ensures long { IfOk result (AreLong entries.now) }
-    ensures seen { (m : Meaning) (n : ℕ) (given : List Tree → Object → Option ℕ) → IsSeen m entries.now n given hits.now → IfOk result (IsSeen m entries.now n (as_ones given)) }
+    ensures seen { (given : List Tree → Object → Option ℕ) → IsSeen mapping.now entries.now scope given hits.now → IfOk result (IsSeen mapping.now entries.now scope (as_ones mapping.now given)) }
 {
-    let hits = hits.as_slice();
-    let mut made = Vec::with_capacity(alloc, entries.len())?;
-    'entries: for at in 0..entries.len() {
-        let set = hits[at].set().copy(alloc)?;
-        made.push(Scored::same(set, 1))?;
-    }
-    Ok(Matches::of(made))
+    let all = found(
+        alloc,
+        entries,
+        mapping,
+        ordinals,
+        &Query::MatchAll { boost: 1 },
+        scope,
+    )?;
+    Ok(merges(alloc, entries, &all, hits, Rule::Kept)?)
+}
+
+/// Of the objects those that hit.
+pub(crate) fn filtered(
+    alloc: Global,
+    entries: &[Entry],
+    mapping: &Mapping,
+    ordinals: &JoinOrdinals,
+    query: &Query,
+    scope: u32,
+    objects: &Matches,
+) -> Result<Matches, NoMemory>
+    requires resolved { IsResolved mapping.now scope (clause_of query.now) }
+    requires joined { joins (clause_of query.now) ≡ true → AreOrdinals entries.now ordinals.now }
+    requires long { AreLong entries.now objects.now }
+    ensures long { IfOk result (AreLong entries.now) }
+    ensures seen { (given : List Tree → Object → Option ℕ) → IsSeen mapping.now entries.now scope given objects.now → IfOk result (IsSeen mapping.now entries.now scope (paired_by Rule.Kept given (score_by mapping.now (clause_of query.now)))) }
+{
+    let hits = found(alloc, entries, mapping, ordinals, query, scope)?;
+    Ok(merges(alloc, entries, objects, &hits, Rule::Kept)?)
 }
 
 /// How many objects there are.
 pub(crate) fn count_of(objects: &Matches) -> Result<u64, NoMemory>
     ensures { IfOk result (λ count. count ≡ sum_by marked_count objects.now) }
 {
+    let objects = objects.as_slice();
     let mut count: u64 = 0;
-    'entries: for scores in objects.as_slice() {
-        let Some(more) = count.checked_add(u64::from(scores.set().count())) else {
+    'entries: for at in 0..objects.len() {
+        let Some(more) = count.checked_add(u64::from(objects[at].set().count())) else {
             return Err(NoMemory);
         };
         count = more;

@@ -1,10 +1,10 @@
 //! Keys with their counts: put together by key, and in the order that is asked for.
 
-ghost use Rattle.std.specs.Prelude.{◌≡◌, ◌+◌, ◌<◌, ℕ, List, map, drop, length, sum_by, IfOk, OnOk};
-ghost use Rattle.std.specs.List.{AllByRecursion};
+ghost use Rattle.std.specs.Prelude.{◌≡◌, drop, sum_by, IfOk, OnOk};
+ghost use Rattle.mapping_body.specs.declared.kind.Kind.{Kind};
 ghost use Rattle.query_ast.specs.Compare.{value_cmp};
 ghost use Rattle.tree_objects.specs.declared.field_value.FieldValue.{FieldValue as Value};
-ghost use Rattle.bucket_aggs.specs.Counts.{KeysAscend, added, count_in, rows_ordered, weight};
+ghost use Rattle.bucket_aggs.specs.Counts.{AreKeys, KeysAscend, added, count_in, rows_ordered, weight};
 
 use crate::NoMemory;
 use std::alloc::Global;
@@ -79,7 +79,7 @@ pub(crate) fn add(rows: &mut Vec<CountRow>, key: FieldValue, count: u64) -> Resu
 pub(crate) fn merged(alloc: Global, mut rows: Vec<CountRow>) -> Result<Vec<CountRow>, NoMemory>
     ensures ascend { IfOk result (λ made. KeysAscend made.items) }
     ensures counts { IfOk result (λ made. (v : Value) → weight v made.items ≡ weight v rows.items) }
-    ensures some { AllByRecursion (λ row. 0 < row.count) rows.items → IfOk result (λ made. AllByRecursion (λ row. 0 < row.count) made.items) }
+    ensures keys { (kind : Kind) → AreKeys kind rows.items → IfOk result (λ made. AreKeys kind made.items) }
 {
     rows.sort_by(|one, other| compared(&one.key, &other.key))?;
     let mut made = Vec::new(alloc);
@@ -95,7 +95,8 @@ pub(crate) fn put_in_order(
     by_key: bool,
     descending: bool,
 ) -> Result<(), NoMemory>
-    ensures { OnOk result (rows.new.items ≡ rows_ordered by_key descending rows.old.items) }
+    ensures order { OnOk result (rows.new.items ≡ rows_ordered by_key descending rows.old.items) }
+    ensures keys { (kind : Kind) → AreKeys kind rows.old.items → OnOk result (AreKeys kind rows.new.items) }
 {
     if by_key {
         if descending {

@@ -28,8 +28,7 @@ pub(crate) fn counted(
     objects: &Matches,
 ) -> Result<Vec<CountRow>, NoMemory>
     requires { AreLong entries.now objects.now }
-    ensures counts { IfOk result (λ rows. AreCounts kind field (flats_of_view entries.now objects.now) rows.items) }
-    ensures keys { IfOk result (λ rows. AreKeys kind rows.items) }
+    ensures { IfOk result (λ rows. AreCounts kind field (flats_of_view entries.now objects.now) rows.items) }
 {
     let objects = objects.as_slice();
     let mut rows = Vec::new(alloc);
