@@ -20,7 +20,7 @@ ghost use Rattle.tree_objects.specs.Tree.{Tree};
 ghost use Rattle.bucket_aggs.specs.Given.{AreReplies, IsAnswer, bucket_by, count_by_field, greatest_by, least_by, more_replies, single_by, sum_by_field, value_by};
 
 use crate::NoMemory;
-use crate::metrics::{summary, value_count};
+use crate::metrics::{summed, value_count};
 use crate::objects::{alike, count_of, filtered};
 use crate::rows::{CountRow, copied, count_behind, put_in_order};
 use crate::terms::counted;
@@ -358,7 +358,7 @@ fn least(entries: &[Entry], field: Option<u32>, objects: &Matches) -> Result<Opt
 {
     documents_show_values();
     match field {
-        Some(field) => Ok(summary(entries, field, objects)?.least),
+        Some(field) => Ok(summed(entries, field, objects)?.least),
         None => Ok(None),
     }
 }
@@ -374,7 +374,7 @@ fn greatest(
 {
     documents_show_values();
     match field {
-        Some(field) => Ok(summary(entries, field, objects)?.greatest),
+        Some(field) => Ok(summed(entries, field, objects)?.greatest),
         None => Ok(None),
     }
 }
@@ -386,7 +386,7 @@ fn sum(entries: &[Entry], field: Option<u32>, objects: &Matches) -> Result<i64, 
 {
     documents_show_values();
     match field {
-        Some(field) => Ok(summary(entries, field, objects)?.sum()),
+        Some(field) => Ok(summed(entries, field, objects)?.sum()),
         None => Ok(0),
     }
 }

@@ -88,7 +88,7 @@ fn greater(greatest: Option<i64>, number: i64) -> i64
 }
 
 /// What the numbers of a field come to over all objects.
-pub(crate) fn summary(entries: &[Entry], field: u32, objects: &Matches) -> Result<Summary, NoMemory>
+pub(crate) fn summed(entries: &[Entry], field: u32, objects: &Matches) -> Result<Summary, NoMemory>
     requires { AreLong entries.now objects.now }
     ensures { IfOk result (IsSummary (flat_map (numbers_in field) (flats_of_view entries.now objects.now))) }
 {
