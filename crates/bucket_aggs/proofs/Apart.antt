@@ -30,22 +30,25 @@ module _ {A : Type 0} (same : A → A → Bool) where
   runs : (itself : (x : A) → same x x ≡ true) (run_of : A → List A) (xs met : List A) → Each (λ (x : A). Each (λ (y : A). y ≡ x) (run_of x)) xs → Each (λ (x : A). list_any (same x) met ≡ false) xs → Apart xs
       → each_once_but same met (flat_map run_of xs) ≡ filter (λ x. some_in (run_of x)) xs
   runs itself run_of [] met runs_are fresh apart = refl
-  runs itself run_of (x ∷ xs) met runs_are fresh apart = by (run_of x) refl runs_are.0
+  runs itself run_of (x ∷ xs) met runs_are fresh apart =
+      by (run_of x) refl runs_are.0 (runs itself run_of xs met runs_are.1 fresh.1 apart.1) (runs itself run_of xs (x ∷ met) runs_are.1 (both xs apart.0 fresh.1) apart.1)
     where
-      by : (run : List A) → run_of x ≡ run → Each (λ (y : A). y ≡ x) (run_of x) → each_once_but same met (flat_map run_of (x ∷ xs)) ≡ filter (λ x. some_in (run_of x)) (x ∷ xs)
-      by [] is alike = rw is (runs itself run_of xs met runs_are.1 fresh.1 apart.1)
-      by (y ∷ run) is alike =
+      both : (zs : List A) → Each (λ (z : A). same z x ≡ false) zs → Each (λ (z : A). list_any (same z) met ≡ false) zs → Each (λ (z : A). list_any (same z) (x ∷ met) ≡ false) zs
+      both [] h g = tt
+      both (z ∷ zs) h g = (rw h.0 g.0, both zs h.1 g.1)
+
+      by : (run : List A) → run_of x ≡ run → Each (λ (y : A). y ≡ x) (run_of x)
+          → each_once_but same met (flat_map run_of xs) ≡ filter (λ x. some_in (run_of x)) xs
+          → each_once_but same (x ∷ met) (flat_map run_of xs) ≡ filter (λ x. some_in (run_of x)) xs
+          → each_once_but same met (flat_map run_of (x ∷ xs)) ≡ filter (λ x. some_in (run_of x)) (x ∷ xs)
+      by [] is alike rest later = rw is rest
+      by (y ∷ run) is alike rest later =
           let own : Each (λ (y : A). y ≡ x) (y ∷ run) = subst (Each (λ (y : A). y ≡ x)) is alike in
           let first : y ≡ x = own.0 in
           let new : list_any (same y) met ≡ false = ap (λ z. list_any (same z) met) first ∙ fresh.0 in
           let again : list_any (same x) (x ∷ met) ≡ true = rw (itself x) refl in
-          let later : Each (λ (z : A). list_any (same z) (x ∷ met) ≡ false) xs = both xs apart.0 fresh.1 in
           rw is (rw new (ap (λ z. z ∷ each_once_but same (z ∷ met) (run ++ flat_map run_of xs)) first
-          ∙ ap (λ zs. x ∷ zs) (met_again x run (x ∷ met) (flat_map run_of xs) own.1 again ∙ runs itself run_of xs (x ∷ met) runs_are.1 later apart.1)))
-        where
-          both : (zs : List A) → Each (λ (z : A). same z x ≡ false) zs → Each (λ (z : A). list_any (same z) met ≡ false) zs → Each (λ (z : A). list_any (same z) (x ∷ met) ≡ false) zs
-          both [] h g = tt
-          both (z ∷ zs) h g = (rw h.0 g.0, both zs h.1 g.1)
+          ∙ ap (λ zs. x ∷ zs) (met_again x run (x ∷ met) (flat_map run_of xs) own.1 again ∙ later)))
 
   pub runs_once : (itself : (x : A) → same x x ≡ true) (run_of : A → List A) (xs : List A) → Each (λ (x : A). Each (λ (y : A). y ≡ x) (run_of x)) xs → Apart xs → each_once same (flat_map run_of xs) ≡ filter (λ x. some_in (run_of x)) xs
   runs_once itself run_of xs runs_are apart = runs itself run_of xs [] runs_are (nothing_met xs) apart

@@ -96,13 +96,14 @@ module _ {B : Type 0} (m : Mapping) (n : ℕ) (given : Object → Option ℕ) (o
 
   block_live : (os : List Object) (scores : Scores) (bs : List B) → kept (map is_some (map (told true) os ++ scores)) (map of os ++ bs) ≡ map of (filter (is_given given) (filter (stands_at n) os)) ++ kept (map is_some scores) bs
   block_live [] scores bs = refl
-  block_live (o ∷ os) scores bs = by (scope o == n) (given o) refl refl
+  block_live (o ∷ os) scores bs = by (scope o == n) (given o) refl refl (block_live os scores bs)
     where
       by : (here : Bool) (score : Option ℕ) → (scope o == n) ≡ here → given o ≡ score
+          → kept (map is_some (map (told true) os ++ scores)) (map of os ++ bs) ≡ map of (filter (is_given given) (filter (stands_at n) os)) ++ kept (map is_some scores) bs
           → kept (map is_some (map (told true) (o ∷ os) ++ scores)) (map of (o ∷ os) ++ bs) ≡ map of (filter (is_given given) (filter (stands_at n) (o ∷ os))) ++ kept (map is_some scores) bs
-      by false score at own = rw at (block_live os scores bs)
-      by true None at own = rw (at, own) (block_live os scores bs)
-      by true (Some s) at own = rw (at, own) (ap (λ (zs : List B). of o ∷ zs) (block_live os scores bs))
+      by false score at own rest = rw at rest
+      by true None at own rest = rw (at, own) rest
+      by true (Some s) at own rest = rw (at, own) (ap (λ (zs : List B). of o ∷ zs) rest)
 
   block_dead : (os : List Object) (scores : Scores) (bs : List B) → kept (map is_some (map (told false) os ++ scores)) (map of os ++ bs) ≡ kept (map is_some scores) bs
   block_dead [] scores bs = refl
@@ -115,15 +116,16 @@ module _ {B : Type 0} (m : Mapping) (n : ℕ) (given : Object → Option ℕ) (o
 
   kept_objects : (trees : Trees) → kept (map is_some (seen m (at_scope n given) trees)) (by_document m owned trees) ≡ map of (objects_given m n (live_in trees) given)
   kept_objects [] = refl
-  kept_objects (t ∷ trees) = by t.live refl
+  kept_objects (t ∷ trees) = by t.live refl (kept_objects trees)
     where
-      by : (live : Bool) → t.live ≡ live → kept (map is_some (seen m (at_scope n given) (t ∷ trees))) (by_document m owned (t ∷ trees)) ≡ map of (objects_given m n (live_in (t ∷ trees)) given)
-      by true is =
+      by : (live : Bool) → t.live ≡ live → kept (map is_some (seen m (at_scope n given) trees)) (by_document m owned trees) ≡ map of (objects_given m n (live_in trees) given)
+          → kept (map is_some (seen m (at_scope n given) (t ∷ trees))) (by_document m owned (t ∷ trees)) ≡ map of (objects_given m n (live_in (t ∷ trees)) given)
+      by true is rest =
           rw is (block_live (block_objects m t.item) (seen m (at_scope n given) trees) (by_document m owned trees)
-          ∙ ap (λ (zs : List B). map of (filter (is_given given) (filter (stands_at n) (block_objects m t.item))) ++ zs) (kept_objects trees)
+          ∙ ap (λ (zs : List B). map of (filter (is_given given) (filter (stands_at n) (block_objects m t.item))) ++ zs) rest
           ∙ sym (map-append of (filter (is_given given) (filter (stands_at n) (block_objects m t.item))) (objects_given m n (live_in trees) given))
           ∙ ap (map of) (sym (filter-append (is_given given) (filter (stands_at n) (block_objects m t.item)) (live_objects m n (live_in trees)))))
-      by false is = rw is (block_dead (block_objects m t.item) (seen m (at_scope n given) trees) (by_document m owned trees) ∙ kept_objects trees)
+      by false is rest = rw is (block_dead (block_objects m t.item) (seen m (at_scope n given) trees) (by_document m owned trees) ∙ rest)
 
 module _ (m : Mapping) (n : ℕ) (given : Object → Option ℕ) where
   entry_flats : (c : Columns) (scores : Scores) (trees : Trees) → length scores ≡ c.documents → flats_of c ≡ by_document m (flat_at m) trees → scores ≡ seen m (at_scope n given) trees

@@ -45,14 +45,15 @@ module _ (m : Mapping) (live : List Tree) (at_roots : live_objects m 0 live ≡ 
   -- children that are given something
   some_children : (test : Tree → Bool) (trees : List Tree) → is_some (children_score Max 1 None (filter_map given (roots (filter test trees)))) ≡ list_any (λ s. is_given given (root s) && test s) trees
   some_children test [] = refl
-  some_children test (t ∷ trees) = by (test t) (given (root t)) refl refl
+  some_children test (t ∷ trees) = by (test t) (given (root t)) refl refl (some_children test trees)
     where
       by : (held : Bool) (score : Option ℕ) → test t ≡ held → given (root t) ≡ score
+          → is_some (children_score Max 1 None (filter_map given (roots (filter test trees)))) ≡ list_any (λ s. is_given given (root s) && test s) trees
           → is_some (children_score Max 1 None (filter_map given (roots (filter test (t ∷ trees))))) ≡ list_any (λ s. is_given given (root s) && test s) (t ∷ trees)
-      by false None is own = rw (is, own) (some_children test trees)
-      by false (Some s) is own = rw (is, own) (some_children test trees)
-      by true None is own = rw (is, own) (some_children test trees)
-      by true (Some s) is own =
+      by false None is own rest = rw (is, own) rest
+      by false (Some s) is own rest = rw (is, own) rest
+      by true None is own rest = rw (is, own) rest
+      by true (Some s) is own rest =
           let more : List ℕ = filter_map given (roots (filter test trees)) in
           let one : nat_le 1 (length (s ∷ more)) ≡ true = le-leb 1 (length (s ∷ more)) (omega arith) in
           rw (is, own) (rw one refl)

@@ -143,11 +143,12 @@ module _ (m : Mapping) (laws : Laws m) where
 
     run_some : (cs : List Object) → some_in is_same_object (map (around_at p) (filter (is_given given) cs)) ≡ is_some (mode_of Max (filter_map given cs))
     run_some [] = refl
-    run_some (c ∷ cs) = by (given c) refl
+    run_some (c ∷ cs) = by (given c) refl (run_some cs)
       where
-        by : (score : Option ℕ) → given c ≡ score → some_in is_same_object (map (around_at p) (filter (is_given given) (c ∷ cs))) ≡ is_some (mode_of Max (filter_map given (c ∷ cs)))
-        by None is = rw is (run_some cs)
-        by (Some s) is = rw is refl
+        by : (score : Option ℕ) → given c ≡ score → some_in is_same_object (map (around_at p) (filter (is_given given) cs)) ≡ is_some (mode_of Max (filter_map given cs))
+            → some_in is_same_object (map (around_at p) (filter (is_given given) (c ∷ cs))) ≡ is_some (mode_of Max (filter_map given (c ∷ cs)))
+        by None is rest = rw is rest
+        by (Some s) is rest = rw is refl
 
     runs_are : (live : List Tree) → map (around_at p) (objects_given m n live given) ≡ flat_map run_of (live_objects m p live)
     runs_are live =

@@ -26,12 +26,13 @@ if_some b = cond b (Some 1) None
 -- a boost stands in the place of the scores, if there are any
 any_scores : (f : Object → Option ℕ) (test : Tree → Bool) (trees : List Tree) → parent_score false 1 (scores_among f test trees) ≡ if_some (list_any (λ s. test s && is_some (f (root s))) trees)
 any_scores f test [] = refl
-any_scores f test (t ∷ trees) = by (test t) (f (root t)) refl refl
+any_scores f test (t ∷ trees) = by (test t) (f (root t)) refl refl (any_scores f test trees)
   where
-    by : (held : Bool) (score : Option ℕ) → test t ≡ held → f (root t) ≡ score → parent_score false 1 (scores_among f test (t ∷ trees)) ≡ if_some (list_any (λ s. test s && is_some (f (root s))) (t ∷ trees))
-    by false score is own = rw is (any_scores f test trees)
-    by true None is own = rw (is, own) (any_scores f test trees)
-    by true (Some s) is own = rw (is, own) refl
+    by : (held : Bool) (score : Option ℕ) → test t ≡ held → f (root t) ≡ score → parent_score false 1 (scores_among f test trees) ≡ if_some (list_any (λ s. test s && is_some (f (root s))) trees)
+        → parent_score false 1 (scores_among f test (t ∷ trees)) ≡ if_some (list_any (λ s. test s && is_some (f (root s))) (t ∷ trees))
+    by false score is own rest = rw is rest
+    by true None is own rest = rw (is, own) rest
+    by true (Some s) is own rest = rw (is, own) refl
 
 any_alike : (one other : Tree → Bool) → ((t : Tree) → one t ≡ other t) → (trees : List Tree) → list_any one trees ≡ list_any other trees
 any_alike one other same [] = refl

@@ -1,12 +1,12 @@
 -- What the flat document of an object shows of a field is what the object shows, in order.
-use Rattle.std.proofs.Common.{◌≡◌, ℕ, zero, suc, ℤ, ◌+◌, ◌<◌, ◌≤◌, Bool, true, false, ◌&&◌, ◌||◌, cond, List, [], ◌∷◌, ◌++◌, length, map, filter, All, Option, Some, None, refl, sym, ap, subst, ◌∙◌, inl, inr, arith, nat_eq}
+use Rattle.std.proofs.Common.{◌≡◌, ℕ, zero, suc, ℤ, ◌+◌, ◌<◌, ◌≤◌, Bool, true, false, ◌&&◌, ◌||◌, cond, List, [], ◌∷◌, ◌++◌, length, map, filter, All, Option, Some, None, refl, sym, ap, subst, ◌∙◌, inl, inr, arith, nat_eq, nat_lt}
 use Rattle.std.specs.Prelude.{⊤, IfSome, IsTrue}
 use Rattle.std.specs.List.{AllByRecursion, list_any, filter_map, flat_map, range_with_len}
 use Rattle.std.specs.List.Sorted.{IsPermutation}
 use Rattle.std.specs.Ordering.{int_cmp, is_gt}
 use Rattle.std.specs.Option.{option_map}
 use Rattle.std.specs.declared.cmp.Ordering.{Ordering}
-use Rattle.std.proofs.lemmas.Bool.{cases_Bool, cond_both, eqb-true, ne_eqb}
+use Rattle.std.proofs.lemmas.Bool.{cases_Bool, cond_both, eqb-true, lt-ltb, ne_eqb}
 use Rattle.std.proofs.lemmas.Bool.Decides.{nat_tests}
 use Rattle.std.proofs.lemmas.List.Elements.{All-nil, All-cons, All-append, recursion_from_All}
 use Rattle.std.proofs.lemmas.List.Sorted.{IsPermutation-refl, IsPermutation-cons, IsPermutation-map, IsPermutation-middle, IsPermutation-trans}
@@ -157,11 +157,14 @@ module _ {X : Type 0} (f : ℕ) (column : ℕ → List X) where
       either false = refl
   own_pair g gs (x ∷ xs) here own rest =
       let same : g ≡ f = eqb-true g f here in
-      rw own (rw here (sym own ∙ ap column same))
+      let some : nat_lt 0 (length (x ∷ xs)) ≡ true = lt-ltb 0 (length (x ∷ xs)) (omega arith) in
+      rw own (rw some (rw here (sym own ∙ ap column same)))
 
   other_pair : (g : ℕ) (gs : List ℕ) (found : List X) → nat_eq g f ≡ false → column g ≡ found → values_of f (pairs (g ∷ gs)) ≡ values_of f (pairs gs)
   other_pair g gs [] apart own = rw own refl
-  other_pair g gs (x ∷ xs) apart own = rw own (rw apart refl)
+  other_pair g gs (x ∷ xs) apart own =
+      let some : nat_lt 0 (length (x ∷ xs)) ≡ true = lt-ltb 0 (length (x ∷ xs)) (omega arith) in
+      rw own (rw some (rw apart refl))
 
   values_of_pairs : (gs : List ℕ) → values_of f (pairs gs) ≡ cond (list_any (λ (g : ℕ). nat_eq g f) gs) (column f) []
   values_of_pairs [] = refl
@@ -193,19 +196,20 @@ one_in_range f start (suc n) q from to = elim (cases_Bool (nat_eq start f)) [
 
 any_filtered : (f : ℕ) (q : ℕ → Bool) (gs : List ℕ) → list_any (λ (g : ℕ). nat_eq g f) (filter q gs) ≡ list_any (λ (g : ℕ). nat_eq g f && q g) gs
 any_filtered f q [] = refl
-any_filtered f q (g ∷ gs) = by (q g) (nat_eq g f) refl refl
+any_filtered f q (g ∷ gs) = by (q g) (nat_eq g f) refl refl (any_filtered f q gs)
   where
-    by : (kept here : Bool) → q g ≡ kept → nat_eq g f ≡ here → list_any (λ (g : ℕ). nat_eq g f) (filter q (g ∷ gs)) ≡ list_any (λ (g : ℕ). nat_eq g f && q g) (g ∷ gs)
-    by true here is at = rw (is, at) (either here)
-      where
-        either : (here : Bool) → (here || list_any (λ (g : ℕ). nat_eq g f) (filter q gs)) ≡ ((here && true) || list_any (λ (g : ℕ). nat_eq g f && q g) gs)
-        either true = refl
-        either false = any_filtered f q gs
-    by false here is at = rw (is, at) (either here)
-      where
-        either : (here : Bool) → list_any (λ (g : ℕ). nat_eq g f) (filter q gs) ≡ ((here && false) || list_any (λ (g : ℕ). nat_eq g f && q g) gs)
-        either true = any_filtered f q gs
-        either false = any_filtered f q gs
+    kept : (here : Bool) → list_any (λ (g : ℕ). nat_eq g f) (filter q gs) ≡ list_any (λ (g : ℕ). nat_eq g f && q g) gs → (here || list_any (λ (g : ℕ). nat_eq g f) (filter q gs)) ≡ ((here && true) || list_any (λ (g : ℕ). nat_eq g f && q g) gs)
+    kept true rest = refl
+    kept false rest = rest
+
+    left : (here : Bool) → list_any (λ (g : ℕ). nat_eq g f) (filter q gs) ≡ list_any (λ (g : ℕ). nat_eq g f && q g) gs → list_any (λ (g : ℕ). nat_eq g f) (filter q gs) ≡ ((here && false) || list_any (λ (g : ℕ). nat_eq g f && q g) gs)
+    left true rest = rest
+    left false rest = rest
+
+    by : (kept_it here : Bool) → q g ≡ kept_it → nat_eq g f ≡ here → list_any (λ (g : ℕ). nat_eq g f) (filter q gs) ≡ list_any (λ (g : ℕ). nat_eq g f && q g) gs
+        → list_any (λ (g : ℕ). nat_eq g f) (filter q (g ∷ gs)) ≡ list_any (λ (g : ℕ). nat_eq g f && q g) (g ∷ gs)
+    by true here is at rest = rw (is, at) (kept here rest)
+    by false here is at rest = rw (is, at) (left here rest)
 
 column_is : {X : Type 0} (m : Mapping) (test : Kind → Bool) (f : ℕ) (column : ℕ → List X) → f < length m.fields
     → values_of f (filter has_some (map (λ (g : ℕ). (g, column g)) (fields_of test m))) ≡ cond (test (kind_at m f)) (column f) []
