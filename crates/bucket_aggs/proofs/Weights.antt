@@ -49,6 +49,12 @@ keys_added kind key count (row ∷ []) is some h =
     by_test (is_same_value row.key key) (λ held. rw held ((h.0.0, omega (arith, some)), tt)) (λ failed. rw failed (h.0, ((is, some), tt)))
 keys_added kind key count (row ∷ next ∷ rows) is some h = (h.0, keys_added kind key count (next ∷ rows) is some h.1)
 
+-- the last row is looked at alone
+pub added_last : (key : FieldValue) (count : ℕ) (front : Rows) (last : CountRow) → added key count (front ++ last ∷ []) ≡ front ++ added key count (last ∷ [])
+added_last key count [] last = refl
+added_last key count (row ∷ []) last = refl
+added_last key count (row ∷ next ∷ front) last = ap (λ (l : Rows). row ∷ l) (added_last key count (next ∷ front) last)
+
 -- no key of the rows is greater than this one
 abbrev pub UpTo : FieldValue → Rows → Type 0
 UpTo key rows = Each (λ (row : CountRow). is_less key row.key ≡ false) rows
