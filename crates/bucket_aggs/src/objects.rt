@@ -18,7 +18,7 @@ use block_join::{Matches, Rule};
 use join_ordinals::JoinOrdinals;
 use mapping::Mapping;
 use query_ast::Query;
-use query_eval::{found, merges};
+use query_eval::{found, merged_hits};
 use segment_view::Entry;
 use std::alloc::Global;
 
@@ -43,7 +43,7 @@ pub(crate) fn alike(
         &Query::MatchAll { boost: 1 },
         scope,
     )?;
-    Ok(merges(alloc, entries, &all, hits, Rule::Kept)?)
+    Ok(merged_hits(alloc, entries, &all, hits, Rule::Kept)?)
 }
 
 /// Of the objects those that hit.
@@ -63,7 +63,7 @@ pub(crate) fn filtered(
     ensures seen { (given : List Tree → Object → Option ℕ) → IsSeen mapping.now entries.now scope given objects.now → IfOk result (IsSeen mapping.now entries.now scope (paired_by Rule.Kept given (score_by mapping.now (clause_of query.now)))) }
 {
     let hits = found(alloc, entries, mapping, ordinals, query, scope)?;
-    Ok(merges(alloc, entries, objects, &hits, Rule::Kept)?)
+    Ok(merged_hits(alloc, entries, objects, &hits, Rule::Kept)?)
 }
 
 /// How many objects there are.

@@ -11,7 +11,7 @@ use Rattle.segment_parts.specs.declared.columns.Columns.{Columns}
 use Rattle.stored_sources.specs.Roots.{root_of}
 use Rattle.stored_sources.specs.declared.root.Join.{Join}
 use Rattle.stored_sources.specs.declared.root.Join.TheVariants.{Unjoined, Named, Child}
-use Rattle.tree_objects.specs.Object.{Object, root, tree_of}
+use Rattle.tree_objects.specs.Object.{Object, root as root_of_tree, tree_of}
 use Rattle.tree_objects.specs.Tree.{Tree}
 use Rattle.block_bits.specs.Blocks.{documents_of}
 use Rattle.query_eval.specs.Folds.{scopes_in}
@@ -131,7 +131,7 @@ parent_by m relation score boost given live o = parent_score score boost (filter
 
 -- a root is a child by this relation of a live tree whose root is given something
 abbrev pub has_given_parent : Mapping → ℕ → List Tree → (Object → Option ℕ) → Object → Bool
-has_given_parent m r live given o = list_any (λ parent. is_child_by m r parent (tree_of o) && is_some (given (root parent))) live
+has_given_parent m r live given o = list_any (λ parent. is_child_by m r parent (tree_of o) && is_some (given (root_of_tree parent))) live
 
 abbrev pub by_relation : Mapping → ℕ → (List Tree → Object → Option ℕ) → List Tree → Object → Option ℕ
 by_relation m r given live o = if has_given_parent m r live (given live) o then Some 1 else None
