@@ -1,6 +1,6 @@
 pub mod Lists
 pub mod Apart
-pub mod Objects
+pub mod Handed
 pub mod Joined
 pub mod Documents
 pub mod Values
@@ -8,4 +8,4 @@ pub mod Keys
 pub mod Weights
 pub mod Groups
 pub mod Sums
-pub mod Answers
+pub mod Formed

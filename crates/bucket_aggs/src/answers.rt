@@ -1,6 +1,6 @@
 //! The answers to definitions of buckets.
 
-ghost use Rattle.std.specs.Prelude.{◌≡◌, ◌<◌, ◌≤◌, ◌++◌, ◌×◌, ℕ, true, List, [], ◌∷◌, Option, Some, None, length, map, IfOk, OnOk, IsTrue};
+ghost use Rattle.std.specs.Prelude.{◌≡◌, ◌<◌, ◌≤◌, ◌++◌, ℕ, true, List, [], ◌∷◌, Option, Some, None, length, map, IfOk, OnOk, IsTrue};
 ghost use Rattle.join_ordinals.specs.Ordinals.{AreOrdinals};
 ghost use Rattle.query_ast.specs.Agg.View.{agg_of};
 ghost use Rattle.query_ast.specs.Definition.{definition, definitions_of, no_definitions};

@@ -44,7 +44,7 @@ use Rattle.bucket_aggs.proofs.Groups.{first_buckets, other_counts}
 use Rattle.bucket_aggs.proofs.Joined.{children_are, parents_are}
 use Rattle.bucket_aggs.proofs.Keys.{same_back}
 use Rattle.bucket_aggs.proofs.Lists.{any_same, filter_same}
-use Rattle.bucket_aggs.proofs.Objects.{Laws, down_are, filtered_are, up_are}
+use Rattle.bucket_aggs.proofs.Handed.{Laws, down_are, filtered_are, up_are}
 use Rattle.bucket_aggs.proofs.Values.{value_exact, value_total}
 
 abbrev Given : Type 0
