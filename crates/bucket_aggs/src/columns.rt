@@ -77,7 +77,7 @@ pub(crate) fn is_in(set: &BitSet, doc: u32) -> bool
 /// Adds one to the count of each ordinal of a document, once for each.
 fn count_values(values: Values<u64>, first: u64, counts: &mut Vec<u64>) -> Result<(), NoMemory>
     requires { IsSorted nat_cmp values }
-    ensures { OnOk result (Counted first (values ∷ []) counts.old.items counts.new.items) }
+    ensures { OnOk result (Counted first (values.entry ∷ []) counts.old.items counts.new.items) }
 {
     let mut values = values;
     let mut before = None;

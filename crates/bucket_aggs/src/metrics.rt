@@ -129,7 +129,7 @@ fn add_documents(set: &BitSet, column: &NumberColumn, sums: &mut Summary) -> Res
 
 /// Adds the numbers of a document.
 fn add_values(values: Values<i64>, sums: &mut Summary) -> Result<(), NoMemory>
-    ensures { (zs : List ℤ) → IsSummary zs sums.old → OnOk result (IsSummary (zs ++ values) sums.new) }
+    ensures { (zs : List ℤ) → IsSummary zs sums.old → OnOk result (IsSummary (zs ++ values.entry) sums.new) }
 {
     let mut values = values;
     'values: while let Some(number) = values.next() {

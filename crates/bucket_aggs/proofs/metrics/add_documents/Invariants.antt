@@ -9,7 +9,7 @@ abbrev pub invariant-documents : goal.invariant-documents
 invariant-documents l =
     (l.walk.documents ≡ l.set)
     × ((zs : List ℤ) → IsSummary zs l.fn.sums
-        → (done : List ℤ) × IsSummary (zs ++ done) l.sums × (done ++ flat_map (λ doc. values_of doc l.column) (left_of l.set l.walk.from) ≡ flat_map (λ doc. values_of doc l.column) (left_of l.set 0)))
+    → (done : List ℤ) × IsSummary (zs ++ done) l.sums × (done ++ flat_map (λ doc. values_of doc l.column) (left_of l.set l.walk.from) ≡ flat_map (λ doc. values_of doc l.column) (left_of l.set 0)))
 
 abbrev pub decreases-documents : goal.decreases-documents
 decreases-documents l = length l.set - l.walk.from
