@@ -31,7 +31,7 @@ pub(crate) fn gather_numbers(
 
 /// Adds the numbers of a document but for those that are equal to the one before.
 fn put_once(values: Values<i64>, numbers: &mut Vec<i64>) -> Result<(), NoMemory>
-    ensures { OnOk result (numbers.new.items ≡ numbers.old.items ++ once values) }
+    ensures { OnOk result (numbers.new.items ≡ numbers.old.items ++ once values.entry) }
 {
     let mut values = values;
     let mut before = None;
