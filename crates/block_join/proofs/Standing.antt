@@ -1,5 +1,5 @@
 -- A cursor over scores, by the walk that it keeps.
-use Rattle.std.proofs.Common.{◌≡◌, ℕ, zero, suc, subst, ◌+◌, ◌-◌, ◌<◌, ◌≤◌, Bool, true, false, cond, List, [], ◌∷◌, ◌++◌, length, take, drop, Option, Some, None, IfSome, IfNone, is_some, refl, sym, ap, ◌∙◌, inl, inr, arith, take-append-drop, drop-drop, length-drop, zero-add}
+use Rattle.std.proofs.Common.{◌≡◌, ℕ, zero, suc, subst, ◌+◌, ◌-◌, ◌<◌, ◌≤◌, Bool, true, false, cond, List, [], ◌∷◌, ◌++◌, length, take, drop, max, Option, Some, None, IfSome, IfNone, is_some, refl, sym, ap, ◌∙◌, inl, inr, arith, take-append-drop, drop-drop, length-drop, zero-add}
 use Rattle.std.specs.List.{position_from, flat_map}
 use Rattle.std.specs.Option.{option_to_list}
 use Rattle.block_bits.specs.Flags.{is_marked}
@@ -134,3 +134,21 @@ view_long flags scores from view e = subst (λ (it : Standing). length it.scores
 
 pub view_from : (flags : List Bool) (scores : Scores) (from : ℕ) (view : Standing) → record { scores = shown (score_of scores) 0 flags; from = from } ≡ view → from ≡ view.from
 view_from flags scores from view e = ap (λ (it : Standing). it.from) e
+
+-- ---- where no score is counted, what lies before the end may be left out
+
+pub leaps_to : (old skipped new : Walking) (ahead : Option ℕ) (scores : Scores) (score end at : ℕ) → scores ≡ Same score → AreScores old.documents scores → end ≤ length old.documents → old.from ≤ end
+    → skipped ≡ record { documents = old.documents; from = max old.from end } → ahead ≡ next_place is_marked skipped.from skipped.documents
+    → IfSome ahead (λ at. new ≡ record { documents = skipped.documents; from = at + 1 }) → IfNone ahead (new ≡ record { documents = skipped.documents; from = length skipped.documents })
+    → IsStanding new ahead scores end at
+leaps_to old skipped new ahead scores score end at same are within low skip next found ended =
+    let documents : skipped.documents ≡ old.documents = ap (λ (w : Walking). w.documents) skip in
+    let from : skipped.from ≡ end = omega (arith, ap (λ (w : Walking). w.from) skip, low) in
+    let new_documents : new.documents ≡ old.documents = walk_documents skipped new ahead found ended ∙ documents in
+    record {
+      scores_are = rw new_documents are;
+      within = rw new_documents within;
+      next = rw new_documents (next ∙ ap (λ n. next_place is_marked n skipped.documents) from ∙ ap (λ (flags : List Bool). next_place is_marked end flags) documents);
+      behind = walk_behind skipped new ahead found;
+      placed = rw same tt;
+    }

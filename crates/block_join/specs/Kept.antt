@@ -1,11 +1,13 @@
 -- How scores are kept: a set of documents, and either one score for all of them or one each in their order.
-use Rattle.std.specs.Prelude.{◌≡◌, ℕ, suc, min, ◌+◌, ◌^◌, ◌-◌, ◌<◌, ◌≤◌, Bool, true, false, cond, List, [], ◌∷◌, length, take, drop, replicate, get_or, Option, Some, None, IfSome, ⊤}
+use Rattle.std.specs.Prelude.{◌≡◌, ℕ, suc, min, max, ◌+◌, ◌^◌, ◌-◌, ◌<◌, ◌≤◌, Bool, true, false, cond, List, [], ◌∷◌, length, take, drop, replicate, get_or, Option, Some, None, IfSome, ⊤}
 use Rattle.std.specs.Option.{is_some, option_and_then}
 use Rattle.block_bits.specs.Flags.{is_marked}
 use Rattle.block_bits.specs.Places.{next_place}
 use Rattle.block_bits.specs.Walks.{Walking}
 use Rattle.score_math.specs.declared.score.TheConstants.{SCORE_CAP}
 use Rattle.block_join.specs.Scores.{between}
+use Rattle.block_join.specs.declared.rule.Rule.{Rule}
+use Rattle.block_join.specs.declared.rule.Rule.TheVariants.{Both, Kept, Without, Plus, Either, Greatest, Counted, AtLeast}
 use Rattle.block_join.specs.declared.scores.Scores.{Scores}
 use Rattle.block_join.specs.declared.scores.Scores.TheVariants.{Same, Each}
 
@@ -75,3 +77,20 @@ abbrev pub earlier : Option ℕ → Option ℕ → Option ℕ
 earlier None other = other
 earlier (Some a) None = Some a
 earlier (Some a) (Some b) = Some (min a b)
+
+-- the later of two documents, if there are both
+abbrev pub later : Option ℕ → Option ℕ → Option ℕ
+later None other = None
+later (Some a) None = None
+later (Some a) (Some b) = Some (max a b)
+
+-- the next document that may have a score by a rule, by the next one that has a first score and the next one that has a second
+abbrev pub next_by : Rule → Option ℕ → Option ℕ → Option ℕ
+next_by Both first second = later first second
+next_by Kept first second = later first second
+next_by Without first second = first
+next_by Plus first second = first
+next_by Either first second = earlier first second
+next_by Greatest first second = earlier first second
+next_by Counted first second = earlier first second
+next_by (AtLeast n) first second = first

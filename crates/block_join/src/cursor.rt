@@ -94,13 +94,33 @@ impl<'a> Cursor<'a> {
         }
     }
 
-    /// Goes on at `end`.
+    /// Goes on at `end`. Where all documents share one score, those that are passed over cost nothing.
     pub fn skip(&mut self, end: u32)
         requires ordered { self.old.from ≤ end }
         requires within { end ≤ length self.old.scores }
         ensures { self.new ≡ record { scores = self.old.scores; from = end } }
     {
+        self.leap(end);
         'scores: while self.next_before(end).is_some() {}
+    }
+
+    /// Goes on at `end` where all documents share one score and some are passed over, or stays.
+    fn leap(&mut self, end: u32)
+        requires ordered { self.old.from ≤ end }
+        requires within { end ≤ length self.old.scores }
+        ensures scores { self.new.scores ≡ self.old.scores }
+        ensures later { self.old.from ≤ self.new.from }
+        ensures up_to { self.new.from ≤ end }
+    {
+        if let Scores::Same(_) = self.scores {
+            if let Some(doc) = self.ahead {
+                if doc < end {
+                    self.walk.skip_to(end);
+                    self.ahead = self.walk.next();
+                    self.from = end;
+                }
+            }
+        }
     }
 
     /// The mode of the scores of the documents before `end`. It goes on at `end`.

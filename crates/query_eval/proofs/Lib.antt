@@ -1,0 +1,13 @@
+pub mod Entries
+pub mod Seen
+pub mod Bools
+pub mod Clauses
+pub mod Scopes
+pub mod Keys
+pub mod Joined
+pub mod Rooted
+pub mod Sets
+pub mod Counting
+pub mod Walking
+pub mod Telling
+pub mod Relations

@@ -1,0 +1,10 @@
+use Rattle.std.proofs.Common.{[], refl, sym, ap, ◌∙◌, length}
+use Rattle.score_math.specs.Scores.{mode_of}
+use Rattle.query_eval.proofs.Scopes.{up_is}
+use Rattle.query_eval.proofs.nests.up_scores.Goals as goal
+
+pub returns-clause-seen : goal.returns-clause-seen
+returns-clause-seen c = λ m bits trees from given stands above are.
+    up_is m c.args.segment.now bits trees stands c.args.to from given (mode_of c.args.mode) c.in_ok-parents.parents c.args.hits.now c.in_ok-join_up.field-0 c.in_ok-parents.ensures.set are
+    (λ scopes n is. c.in_ok-join_up.ensures.scores scopes n is)
+    (c.joins_are_of_trees.ensures.up m c.args.to from given (mode_of c.args.mode) trees stands.mapping above refl)

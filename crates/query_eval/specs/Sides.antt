@@ -1,0 +1,136 @@
+-- Joins of trees by the ordinals of ids: which roots take part, by which id, and what they are given.
+use Rattle.std.specs.Prelude.{◌≡◌, ℕ, ◌+◌, ◌==◌, ◌<◌, ◌≤◌, Bool, true, false, cond, if◌then◌else◌, List, [], ◌∷◌, ◌++◌, length, map, filter_map, get_or, Option, Some, None, IfSome, ⊤}
+use Rattle.std.specs.List.{range_with_len}
+use Rattle.join_ordinals.specs.Ordinals.{Ordinals, ordinal_at}
+use Rattle.mapping.specs.Mapping.{Mapping, relation_at}
+use Rattle.query_ast.specs.Hit.{children_score, parent_score}
+use Rattle.query_ast.specs.Joined.{is_number, roots, child_trees, parent_trees}
+use Rattle.score_math.specs.declared.score.ScoreMode.{ScoreMode}
+use Rattle.segment.specs.Live.{EntryState}
+use Rattle.segment_parts.specs.declared.columns.Columns.{Columns}
+use Rattle.stored_sources.specs.Roots.{root_of}
+use Rattle.stored_sources.specs.declared.root.Join.{Join}
+use Rattle.stored_sources.specs.declared.root.Join.TheVariants.{Unjoined, Named, Child}
+use Rattle.tree_objects.specs.Object.{Object}
+use Rattle.tree_objects.specs.Tree.{Tree}
+use Rattle.block_bits.specs.Blocks.{documents_of}
+use Rattle.query_eval.specs.Folds.{scopes_in}
+use Rattle.query_eval.specs.Tallies.{IsTally}
+use Rattle.query_eval.specs.declared.side.Side.{Side}
+use Rattle.query_eval.specs.declared.side.Side.TheVariants.{Parents, Children, ChildrenOf}
+use Rattle.query_eval.specs.declared.answer.Answer.{Answer}
+use Rattle.query_eval.specs.declared.answer.Answer.TheVariants as answer
+use Rattle.query_eval.specs.declared.tally.Tally.{Tally}
+
+-- ---- keys
+
+abbrev pub relation_in : Join → Option ℕ
+relation_in Unjoined = None
+relation_in (Named relation) = Some relation
+relation_in (Child relation parent) = Some relation
+
+-- whether roots of a relation take part
+abbrev pub is_on : Mapping → Side → Option ℕ → Bool
+is_on m side None = false
+is_on m (Parents relation) (Some own) = own == relation
+is_on m (Children relation) (Some own) = own == relation
+is_on m (ChildrenOf parent) (Some own) = is_number (relation_at m own).parent parent
+
+-- by its own ordinal or by its parent's
+abbrev pub ordinal_by : Side → Option ℕ → Option ℕ → Option ℕ
+ordinal_by (Parents relation) own parent = own
+ordinal_by (Children relation) own parent = parent
+ordinal_by (ChildrenOf relation) own parent = parent
+
+abbrev pub key_of : Mapping → Side → Join → Option ℕ → Option ℕ → Option ℕ
+key_of m side join own parent = if is_on m side (relation_in join) then ordinal_by side own parent else None
+
+-- the key of a root of the entry at a place
+abbrev pub key_at : Mapping → Ordinals → Side → Columns → ℕ → ℕ → Option ℕ
+key_at m ordinals side columns place root =
+    key_of m side (root_of columns.roots root).join (ordinal_at ordinals.own place root) (ordinal_at ordinals.parents place root)
+
+-- the ordinals by which roots of the entry at a place would take part are below a count
+abbrev pub HaveTallies : Ordinals → Side → ℕ → ℕ → Type 0
+HaveTallies ordinals side place count =
+    (root : ℕ) → IfSome (ordinal_by side (ordinal_at ordinals.own place root) (ordinal_at ordinals.parents place root)) (λ ordinal. ordinal < count)
+
+-- the keys of all its roots
+abbrev pub keys_at : Mapping → Ordinals → Side → Columns → ℕ → List (Option ℕ)
+keys_at m ordinals side columns place = map (key_at m ordinals side columns place) (range_with_len 0 (length columns.roots))
+
+-- ---- roots among the documents
+
+-- what the roots have, where each document has something
+abbrev pub of_roots : List Bool → List (Option ℕ) → List (Option ℕ)
+of_roots [] scores = []
+of_roots (flag ∷ flags) [] = []
+of_roots (true ∷ flags) (score ∷ scores) = score ∷ of_roots flags scores
+of_roots (false ∷ flags) (score ∷ scores) = of_roots flags scores
+
+-- what the documents have, where the roots have something
+abbrev pub at_roots : List Bool → List (Option ℕ) → List (Option ℕ)
+at_roots [] given = []
+at_roots (false ∷ flags) given = None ∷ at_roots flags given
+at_roots (true ∷ flags) [] = None ∷ at_roots flags []
+at_roots (true ∷ flags) (score ∷ given) = score ∷ at_roots flags given
+
+-- ---- scores by key
+
+abbrev pub pair_if : Option ℕ → Option ℕ → List (ℕ × ℕ)
+pair_if None score = []
+pair_if (Some key) None = []
+pair_if (Some key) (Some score) = (key, score) ∷ []
+
+-- the scores of those that take part, each with its key
+abbrev pub told : List (Option ℕ) → List (Option ℕ) → List (ℕ × ℕ)
+told [] scores = []
+told (key ∷ keys) [] = []
+told (key ∷ keys) (score ∷ scores) = pair_if key score ++ told keys scores
+
+abbrev pub scores_of : ℕ → List (ℕ × ℕ) → List ℕ
+scores_of key [] = []
+scores_of key (pair ∷ pairs) = if pair.0 == key then pair.1 ∷ scores_of key pairs else scores_of key pairs
+
+-- the flags of the roots of an entry
+abbrev pub roots_in : EntryState → List Bool
+roots_in entry = documents_of (scopes_in entry.columns) 0
+
+-- those of all entries, from a place on
+abbrev pub told_by : Mapping → Ordinals → Side → ℕ → List EntryState → List (List (Option ℕ)) → List (ℕ × ℕ)
+told_by m ordinals side place [] scores = []
+told_by m ordinals side place (entry ∷ entries) [] = []
+told_by m ordinals side place (entry ∷ entries) (hits ∷ scores) =
+    told (keys_at m ordinals side entry.columns place) (of_roots (roots_in entry) hits) ++ told_by m ordinals side (place + 1) entries scores
+
+-- ---- tallies
+
+abbrev pub TallyOf : List ℕ → Tally → Type 0
+TallyOf scores t = IsTally scores t.count t.total t.least t.greatest t.first
+
+-- a tally for each key
+pub record AreTallies (pairs : List (ℕ × ℕ)) (tallies : List Tally) : Type 0 where
+  pub each : (key : ℕ) (d : Tally) → key < length tallies → TallyOf (scores_of key pairs) (get_or tallies key d)
+
+-- ---- answers
+
+-- what a root is given by the scores of those that it is joined to
+abbrev pub answer_of : Answer → List ℕ → Option ℕ
+answer_of (answer.Children mode least most) found = children_score mode least most found
+answer_of (answer.Parent score boost) found = parent_score score boost found
+
+abbrev pub answer_for : Answer → List (ℕ × ℕ) → Option ℕ → Option ℕ
+answer_for asked pairs None = None
+answer_for asked pairs (Some key) = answer_of asked (scores_of key pairs)
+
+abbrev pub children_by : Mapping → ℕ → ScoreMode → ℕ → Option ℕ → (List Tree → Object → Option ℕ) → List Tree → Object → Option ℕ
+children_by m relation mode least most given live o = children_score mode least most (filter_map (given live) (roots (child_trees m live relation o)))
+
+abbrev pub parent_by : Mapping → ℕ → Bool → ℕ → (List Tree → Object → Option ℕ) → List Tree → Object → Option ℕ
+parent_by m relation score boost given live o = parent_score score boost (filter_map (given live) (roots (parent_trees m live relation o)))
+
+-- what the roots of all entries are given, from a place on, by the scores that were told
+abbrev pub given_by : Mapping → Ordinals → Side → Answer → List (ℕ × ℕ) → ℕ → List EntryState → List (List (Option ℕ))
+given_by m ordinals side asked pairs place [] = []
+given_by m ordinals side asked pairs place (entry ∷ entries) =
+    at_roots (roots_in entry) (map (answer_for asked pairs) (keys_at m ordinals side entry.columns place)) ∷ given_by m ordinals side asked pairs (place + 1) entries

@@ -1,0 +1,19 @@
+//! What a query finds in a view: a score for each document of a scope that it hits.
+//!
+//! Stands on `leaf_search` for leaves, on `block_join` for scores and joins of blocks, on `tree_joins` for what these are on
+//! trees, and on `join_ordinals` for joins of trees. The contract that others use is that of `matches`: over any view that
+//! stands for live trees its scores are those of the query's clause. Begin with `specs/Found`, then `evaluation`.
+#![tactic(auto)]
+
+mod answer;
+mod evaluation;
+mod leaves;
+mod merges;
+mod nests;
+mod no_memory;
+mod side;
+mod tally;
+mod trees;
+
+pub use evaluation::matches;
+pub use no_memory::NoMemory;

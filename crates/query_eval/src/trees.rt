@@ -1,0 +1,304 @@
+//! Joins of trees: scores of roots go to the roots of their parents, or of their children.
+
+ghost use Rattle.std.specs.Prelude.{◌≡◌, ◌<◌, ◌≤◌, ◌+◌, ◌^◌, ℕ, List, [], ◌++◌, get_or, length, map, Option, None, IfOk, IfSome, OnOk};
+ghost use Rattle.join_ordinals.specs.Ordinals.{AreOrdinals};
+ghost use Rattle.query_ast.specs.Resolved.{IsChildRelation, IsParentRelation};
+ghost use Rattle.query_eval.specs.Found.{AreLong, IsSeen};
+ghost use Rattle.query_eval.specs.Sides.{AreTallies, HaveTallies, answer_for, at_roots, children_by, given_by, keys_at, of_roots, pair_if, parent_by, told, told_by};
+ghost use Rattle.score_math.specs.declared.score.TheConstants.{SCORE_CAP};
+ghost use Rattle.tree_objects.specs.Object.{Object};
+ghost use Rattle.tree_objects.specs.Tree.{Tree};
+
+use crate::NoMemory;
+use crate::answer::{Answer, answer_of};
+use crate::nests::scope_set;
+use crate::side::{Side, key_of, ordinal_by, takes_part};
+use crate::tally::Tally;
+use block_bits::BitSet;
+use block_join::{Builder, Cursor, Matches, Scored};
+use join_ordinals::JoinOrdinals;
+use mapping::Mapping;
+use score_math::ScoreMode;
+use segment::Segment;
+use segment_view::Entry;
+use std::alloc::Global;
+use tree_objects::objects_nest;
+
+/// The roots with so many child trees of a relation whose roots are hits, each with the mode of their scores.
+pub(crate) fn with_children(
+    alloc: Global,
+    entries: &[Entry],
+    mapping: &Mapping,
+    joins: &JoinOrdinals,
+    hits: &Matches,
+    child: u32,
+    mode: ScoreMode,
+    least: u64,
+    most: Option<u64>,
+) -> Result<Matches, NoMemory>
+    requires long { AreLong entries.now hits.now }
+    requires joined { AreOrdinals entries.now joins.now }
+    requires child { IsChildRelation mapping.now child }
+    ensures { (given : List Tree → Object → Option ℕ) → IsSeen mapping.now entries.now 0 given hits.now → IfOk result (IsSeen mapping.now entries.now 0 (children_by mapping.now child mode least most given)) }
+{
+    objects_nest();
+    let _scopes = mapping.scope_count();
+    let Some(parent) = mapping.parent_relation(child) else {
+        unreachable!()
+    };
+    let answer = Answer::Children { mode, least, most };
+    let made = joined(
+        alloc,
+        entries,
+        mapping,
+        joins,
+        hits,
+        Side::Children(child),
+        Side::Parents(parent),
+        answer,
+    )?;
+    Ok(made)
+}
+
+/// The roots whose parent tree is of a relation and its root a hit, each with the hit's score or a boost.
+pub(crate) fn with_parent(
+    alloc: Global,
+    entries: &[Entry],
+    mapping: &Mapping,
+    joins: &JoinOrdinals,
+    hits: &Matches,
+    parent: u32,
+    score: bool,
+    boost: u32,
+) -> Result<Matches, NoMemory>
+    requires long { AreLong entries.now hits.now }
+    requires joined { AreOrdinals entries.now joins.now }
+    ensures { (given : List Tree → Object → Option ℕ) → IsSeen mapping.now entries.now 0 given hits.now → IfOk result (IsSeen mapping.now entries.now 0 (parent_by mapping.now parent score boost given)) }
+{
+    objects_nest();
+    let _scopes = mapping.scope_count();
+    let answer = Answer::Parent { score, boost };
+    let made = joined(
+        alloc,
+        entries,
+        mapping,
+        joins,
+        hits,
+        Side::Parents(parent),
+        Side::ChildrenOf(parent),
+        answer,
+    )?;
+    Ok(made)
+}
+
+/// What the roots of one side are given by the hits among those of the other.
+fn joined(
+    alloc: Global,
+    entries: &[Entry],
+    mapping: &Mapping,
+    joins: &JoinOrdinals,
+    hits: &Matches,
+    from: Side,
+    to: Side,
+    answer: Answer,
+) -> Result<Matches, NoMemory>
+    requires long { AreLong entries.now hits.now }
+    requires ordinals { AreOrdinals entries.now joins.now }
+    ensures long { IfOk result (AreLong entries.now) }
+    ensures given { IfOk result (λ made. made ≡ given_by mapping.now joins.now to answer (told_by mapping.now joins.now from 0 entries.now hits.now) 0 entries.now) }
+{
+    let tallies = gathered(alloc, entries, mapping, joins, hits, from)?;
+    let mut made = Vec::with_capacity(alloc, entries.len())?;
+    'entries: for place in 0..entries.len() {
+        let segment = entries[place].segment();
+        let roots = scope_set(alloc, segment, 0)?;
+        let scores = given(
+            alloc, mapping, joins, segment, place, &roots, to, tallies.as_slice(), answer,
+        )?;
+        made.push(scores)?;
+    }
+    Ok(Matches::of(made))
+}
+
+/// The scores of the hits of a side, tallied by their keys.
+fn gathered(
+    alloc: Global,
+    entries: &[Entry],
+    mapping: &Mapping,
+    joins: &JoinOrdinals,
+    hits: &Matches,
+    side: Side,
+) -> Result<Vec<Tally>, NoMemory>
+    requires long { AreLong entries.now hits.now }
+    requires ordinals { AreOrdinals entries.now joins.now }
+    ensures long { IfOk result (λ tallies. length tallies.items ≡ joins.now.count) }
+    ensures tallies { IfOk result (λ tallies. AreTallies (told_by mapping.now joins.now side 0 entries.now hits.now) tallies.items) }
+{
+    let hits = hits.as_slice();
+    let mut tallies = no_tallies(alloc, joins.count())?;
+    'entries: for place in 0..entries.len() {
+        let segment = entries[place].segment();
+        let roots = scope_set(alloc, segment, 0)?;
+        tell(
+            &mut tallies, mapping, joins, segment, place, &roots, side, &hits[place],
+        )?;
+    }
+    Ok(tallies)
+}
+
+/// So many tallies of no scores.
+fn no_tallies(alloc: Global, count: usize) -> Result<Vec<Tally>, NoMemory>
+    ensures long { IfOk result (λ tallies. length tallies.items ≡ count) }
+    ensures tallies { IfOk result (λ tallies. AreTallies [] tallies.items) }
+{
+    let mut tallies = Vec::with_capacity(alloc, count)?;
+    tallies.resize(count, Tally::none())?;
+    Ok(tallies)
+}
+
+/// Adds the scores of an entry's roots to the tallies of their keys. Only of a root with a score the key is looked for.
+fn tell(
+    tallies: &mut Vec<Tally>,
+    mapping: &Mapping,
+    joins: &JoinOrdinals,
+    segment: &Segment,
+    place: usize,
+    roots: &BitSet,
+    side: Side,
+    hits: &Scored,
+) -> Result<(), NoMemory>
+    requires documents { length hits.now ≡ length roots.now }
+    requires keys { HaveTallies joins.now side place (length tallies.old.items) }
+    ensures long { length tallies.new.items ≡ length tallies.old.items }
+    ensures tallies { (pairs : List (ℕ × ℕ)) → AreTallies pairs tallies.old.items
+        → OnOk result (AreTallies (pairs ++ told (keys_at mapping.now joins.now side segment.now place) (of_roots roots.now hits.now)) tallies.new.items) }
+{
+    let mut left = hits.cursor();
+    let mut root = 0;
+    'documents: while let Some(doc) = roots.next_set(left.from()) {
+        let score = take_at(&mut left, doc);
+        let key = key_if(mapping, joins, segment, place, root, side, score);
+        tell_one(tallies, key, score)?;
+        root += 1;
+    }
+    Ok(())
+}
+
+/// The score of a document, if it has one. The cursor goes on behind it.
+#[tactic(auto, using(crate::proofs::Walking::took))]
+fn take_at(left: &mut Cursor, doc: u32) -> Option<u64>
+    requires ordered { left.old.from ≤ doc }
+    requires within { doc < length left.old.scores }
+    requires numbered { length left.old.scores < 2 ^ 32 }
+    ensures value { result ≡ get_or left.old.scores doc None }
+    ensures capped { IfSome result (λ score. score ≤ SCORE_CAP) }
+    ensures place { left.new ≡ record { scores = left.old.scores; from = doc + 1 } }
+{
+    left.skip(doc);
+    left.next_before(doc + 1)
+}
+
+/// The key of a root with a score, if it takes part.
+#[tactic(auto, using(crate::proofs::Telling::pair_nothing, crate::proofs::Telling::pair_here, crate::proofs::Telling::pair_past, crate::proofs::Telling::key_within))]
+fn key_if(
+    mapping: &Mapping,
+    joins: &JoinOrdinals,
+    segment: &Segment,
+    place: usize,
+    root: u32,
+    side: Side,
+    score: Option<u64>,
+) -> Option<u32>
+    ensures pair { pair_if result score ≡ pair_if (get_or (keys_at mapping.now joins.now side segment.now place) root None) score }
+    ensures within { (count : ℕ) → HaveTallies joins.now side place count → IfSome result (λ key. key < count) }
+{
+    if score.is_none() {
+        return None;
+    }
+    if root >= segment.roots() {
+        return None;
+    }
+    key_of(mapping, joins, segment, place, root, side)
+}
+
+/// Adds a score to the tally of its key, where there are both.
+fn tell_one(
+    tallies: &mut Vec<Tally>,
+    key: Option<u32>,
+    score: Option<u64>,
+) -> Result<(), NoMemory>
+    requires key { IfSome key (λ key. key < length tallies.old.items) }
+    requires capped { IfSome score (λ score. score ≤ SCORE_CAP) }
+    ensures long { length tallies.new.items ≡ length tallies.old.items }
+    ensures tallies { (pairs : List (ℕ × ℕ)) → AreTallies pairs tallies.old.items → OnOk result (AreTallies (pairs ++ pair_if key score) tallies.new.items) }
+{
+    let Some(key) = key else {
+        return Ok(());
+    };
+    let Some(score) = score else {
+        return Ok(());
+    };
+    let tally = &mut tallies[key as usize];
+    tally.add(score)?;
+    Ok(())
+}
+
+/// What the roots of an entry are given.
+fn given(
+    alloc: Global,
+    mapping: &Mapping,
+    joins: &JoinOrdinals,
+    segment: &Segment,
+    place: usize,
+    roots: &BitSet,
+    side: Side,
+    tallies: &[Tally],
+    answer: Answer,
+) -> Result<Scored, NoMemory>
+    requires { HaveTallies joins.now side place (length tallies.now) }
+    ensures scores { (pairs : List (ℕ × ℕ)) → AreTallies pairs tallies.now → IfOk result (λ scores. scores ≡ at_roots roots.now (map (answer_for answer pairs) (keys_at mapping.now joins.now side segment.now place))) }
+    ensures long { IfOk result (λ scores. length scores ≡ length roots.now) }
+{
+    let mut hits = Builder::empty(alloc, roots.len())?;
+    let mut from = 0;
+    let mut root = 0;
+    'documents: while let Some(doc) = roots.next_set(from) {
+        let score = given_to(mapping, joins, segment, place, root, side, tallies, answer);
+        hits.put(doc, score)?;
+        root += 1;
+        from = doc + 1;
+    }
+    Ok(hits.finish())
+}
+
+/// What a root is given. Its join value is read only where its ordinal has scores.
+#[tactic(auto, using(crate::proofs::Telling::given_past, crate::proofs::Telling::given_none, crate::proofs::Telling::given_nothing, crate::proofs::Telling::given_off, crate::proofs::Telling::given_some))]
+fn given_to(
+    mapping: &Mapping,
+    joins: &JoinOrdinals,
+    segment: &Segment,
+    place: usize,
+    root: u32,
+    side: Side,
+    tallies: &[Tally],
+    answer: Answer,
+) -> Option<u64>
+    requires { HaveTallies joins.now side place (length tallies.now) }
+    ensures given { (pairs : List (ℕ × ℕ)) → AreTallies pairs tallies.now → result ≡ get_or (map (answer_for answer pairs) (keys_at mapping.now joins.now side segment.now place)) root None }
+    ensures capped { IfSome result (λ score. score ≤ SCORE_CAP) }
+{
+    if root >= segment.roots() {
+        return None;
+    }
+    let Some(ordinal) = ordinal_by(joins, place, root, side) else {
+        return None;
+    };
+    let Some(score) = answer_of(&tallies[ordinal as usize], answer) else {
+        return None;
+    };
+    if takes_part(mapping, segment, root, side) {
+        Some(score)
+    } else {
+        None
+    }
+}
