@@ -1,5 +1,5 @@
 -- The page is what was selected, row by row.
-use Rattle.std.specs.Prelude.{◌≡◌, ℕ, zero, suc, ◌+◌, ◌<◌, ℤ, Bool, true, false, List, [], ◌∷◌, map, take, drop, filter, length, min, get_or, Option, Some, None, refl}
+use Rattle.std.specs.Prelude.{◌≡◌, ℕ, zero, suc, ◌+◌, ◌<◌, ℤ, List, [], ◌∷◌, map, take, drop, filter, length, min, get_or, Option, Some, None, refl}
 use Rattle.std.specs.Cmp.{IsStrictWeakOrder}
 use Rattle.std.specs.List.{range_with_len}
 use Rattle.std.proofs.Common.{arith, ap, sym, subst, ◌∙◌}
@@ -8,8 +8,6 @@ use Rattle.std.proofs.lemmas.List.{length-map, get_or-map, drop-take, drop-map, 
 use Rattle.std.proofs.lemmas.List.FromFn.{fill_by_all}
 use Rattle.query_ast.specs.Compare.{in_order}
 use Rattle.query_ast.specs.Page.{page_of, comes_before, comes_after}
-use Rattle.query_ast.specs.declared.sort.Direction.{Direction}
-use Rattle.query_ast.specs.declared.sort.Key.{Key}
 use Rattle.query_ast.specs.declared.sort.Key.TheVariants.{Null}
 use Rattle.query_ast.specs.declared.sort.KeyRow.{KeyRow}
 use Rattle.hit_order.specs.Table.{keys_of_row, number_of_row, number_or_null, text_or_null, keys_of, key_at, place_at, row_at, directions_of, table_of, KeyTable}

@@ -1,6 +1,6 @@
 -- Serves proofs: the rows of a table by their indexes.
-use Rattle.std.specs.Prelude.{◌≡◌, ℕ, ◌≤◌, ℤ, pos, Bool, true, false, List, [], ◌∷◌, map, length, take, get_or, filter, Option, Some, None, ⊤}
-use Rattle.std.specs.List.{range_with_len, AllByRecursion}
+use Rattle.std.specs.Prelude.{◌≡◌, ℕ, ◌≤◌, ℤ, Bool, true, false, List, length, take, Option, Some, None, ⊤}
+use Rattle.std.specs.List.{AllByRecursion}
 use Rattle.query_ast.specs.Compare.{in_order}
 use Rattle.query_ast.specs.Page.{comes_before, comes_after}
 use Rattle.query_ast.specs.declared.sort.Key.{Key}

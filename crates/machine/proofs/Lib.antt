@@ -1,2 +1,4 @@
--- The layout keeps the live trees, whatever is asked.
+-- What stays true of states: the layout keeps the live trees, and these stay numbered.
+pub mod Steps
 pub mod Laid
+pub mod Numbered

@@ -1,9 +1,10 @@
 -- The states of the machine, in four parts: what searches and writes see, the points in time, how the trees are laid out
 -- in segments, and what a store keeps.
-use Rattle.std.specs.Prelude.{◌≡◌, ℕ, List, [], Option, None}
+use Rattle.std.specs.Prelude.{◌≡◌, ℕ, ◌<◌, List, [], Option, None}
+use Rattle.std.specs.List.{AllByRecursion}
 use Rattle.layout.specs.Layout.{Layout, empty_layout, live_items, sealed}
 use Rattle.mapping.specs.Mapping.{Mapping}
-use Rattle.tree_objects.specs.Tree.{Tree}
+use Rattle.tree_objects.specs.Tree.{Tree, IsLiveList}
 
 -- the mapping, where there is one, the live trees, and the next sequence number
 pub record Content : Type 0 where
@@ -42,12 +43,18 @@ pub record State : Type 0 where
   pub layout : Layout Tree
   pub kept : Kept
 
+abbrev pub no_points : PointsInTime
+no_points = record { points = []; opened = 0 }
+
+abbrev pub nothing_stored : Kept
+nothing_stored = record { segments = []; generation = 0 }
+
 abbrev pub empty_state : State
 empty_state = record {
   content = record { mapping = None; live = []; next = 0 };
-  points = record { points = []; opened = 0 };
+  points = no_points;
   layout = empty_layout;
-  kept = record { segments = []; generation = 0 };
+  kept = nothing_stored;
 }
 
 -- the state with its buffer sealed
@@ -57,3 +64,12 @@ sealed_state state = record state { layout = sealed state.layout }
 -- the trees that the layout has live are the live trees
 abbrev pub IsLaid : State → Type 0
 IsLaid state = live_items state.layout ≡ state.content.live
+
+-- each tree is older than the number
+abbrev pub AreBelow : ℕ → List Tree → Type 0
+AreBelow number trees = AllByRecursion (λ (tree : Tree). tree.number < number) trees
+
+-- the numbers of the live trees ascend and are below the next one, and no two live trees have the same id
+pub record IsNumbered (content : Content) : Type 0 where
+  pub live : IsLiveList content.live
+  pub below : AreBelow content.next content.live

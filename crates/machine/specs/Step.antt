@@ -9,7 +9,7 @@ use Rattle.request_form.specs.Command.{Action, map_body, write, search, refresh,
 use Rattle.request_form.specs.declared.refusal.FormRefusal.{FormRefusal}
 use Rattle.request_form.specs.declared.refusal.FormRefusal.TheVariants as form
 use Rattle.machine.specs.Answer.{Answer, refuses, answers, Outcome, outcome_of, sealing, mapped}
-use Rattle.machine.specs.Limits.{Limits}
+use Rattle.machine.specs.declared.limits.Limits.{Limits}
 use Rattle.machine.specs.MappingLine.{mapping_step}
 use Rattle.machine.specs.Searching.{search_step}
 use Rattle.machine.specs.State.{State}

@@ -1,5 +1,5 @@
 -- What a write does (Elasticsearch reference, index, create, update and delete APIs; optimistic concurrency control).
-use Rattle.std.specs.Prelude.{ℕ, ◌+◌, ◌^◌, ◌==◌, nat_lt, Bool, false, not, ◌||◌, if◌then◌else◌, List, [], ◌∷◌, ◌++◌, length, sum_by, find, Option, Some, None, is_some, option_and_then, unwrap_or}
+use Rattle.std.specs.Prelude.{ℕ, ◌+◌, ◌^◌, ◌==◌, nat_lt, Bool, false, not, ◌||◌, if◌then◌else◌, List, [], ◌∷◌, ◌++◌, length, sum_by, find, Option, Some, None, is_some, option_and_then, option_map, unwrap_or}
 use Rattle.std.specs.Str.{bytes_eq}
 use Rattle.flattener.specs.Block.{block_refusal}
 use Rattle.flattener.specs.Fits.{most_source}
@@ -23,13 +23,17 @@ use Rattle.tree_json.specs.Value.{JsonValue}
 use Rattle.tree_objects.specs.Object.{block_objects}
 use Rattle.tree_objects.specs.Tree.{Tree, has_id, without}
 use Rattle.machine.specs.Answer.{Answer, answers, when, first_of, refused_if, unless}
-use Rattle.machine.specs.Limits.{Limits}
+use Rattle.machine.specs.declared.limits.Limits.{Limits}
 use Rattle.machine.specs.MappingLine.{limit_refusal}
 use Rattle.machine.specs.State.{State}
 
 -- the live tree with an id
 abbrev pub live_tree : List ℕ → List Tree → Option Tree
 live_tree id live = find (has_id id) live
+
+-- its sequence number
+abbrev pub live_number : Option Tree → Option ℕ
+live_number live = option_map (λ (tree : Tree). tree.number) live
 
 -- ---- refusals before anything is looked at in a source, in their order
 
@@ -48,22 +52,22 @@ long_id id = when (nat_lt longest_id (length id)) why.IdTooLong
 abbrev pub puts_anew : Changes → Bool
 puts_anew changes = is_some changes.upsert || changes.doc_as_upsert
 
--- an update wants a live tree, or something to put in its place
-abbrev pub missing : Operation → Option Tree → Option Refusal
+-- an update wants a live tree, or something to put in its place; by the number of the live tree
+abbrev pub missing : Operation → Option ℕ → Option Refusal
 missing (update changes) None = when (not (puts_anew changes)) why.DocumentMissing
 missing operation live = None
 
 -- the live tree hasn't the number that is asked for
-abbrev pub conflict : Option ℕ → Option Tree → Option Refusal
+abbrev pub conflict : Option ℕ → Option ℕ → Option Refusal
 conflict None live = None
 conflict (Some number) None = Some (why.VersionConflict None)
-conflict (Some number) (Some tree) = when (not (tree.number == number)) (why.VersionConflict (Some tree.number))
+conflict (Some number) (Some own) = when (not (own == number)) (why.VersionConflict (Some own))
 
-abbrev pub exists_already : Operation → Option Tree → Option Refusal
-exists_already (create source) (Some tree) = Some (why.DocumentExists tree.number)
+abbrev pub exists_already : Operation → Option ℕ → Option Refusal
+exists_already (create source) (Some own) = Some (why.DocumentExists own)
 exists_already operation live = None
 
-abbrev pub early_refusals : Mapping → Write → Option Tree → List (Option Refusal)
+abbrev pub early_refusals : Mapping → Write → Option ℕ → List (Option Refusal)
 early_refusals m it live =
     wrong_index m it.target.index
     ∷ long_id it.target.id
@@ -144,22 +148,25 @@ abbrev pub put_result : Option Tree → WriteResult
 put_result None = Created
 put_result (Some tree) = Updated
 
--- an accepted change: the mapping and the live trees that it leaves, and what is new in the layout
-abbrev pub changed : Mapping → List ℕ → List Tree → List Tree → WriteResult → State → Answer
-changed m id live new result state =
-    answers (Written id state.content.next result)
-    (record state {
-      content = record { mapping = Some m; live = live; next = state.content.next + 1 };
-      layout = with_change (has_id id) new state.layout;
-    })
+-- the state after a change of the tree with an id: its mapping and its live trees, and what is new in the layout
+abbrev pub changed_state : Mapping → List ℕ → List Tree → List Tree → State → State
+changed_state m id live new state = record state {
+  content = record { mapping = Some m; live = live; next = state.content.next + 1 };
+  layout = with_change (has_id id) new state.layout;
+}
 
--- the refusals of a tree that is put, under the mapping that would be, in their order
+-- an accepted change takes the next number
+abbrev pub changed : Mapping → List ℕ → List Tree → List Tree → WriteResult → State → Answer
+changed m id live new result state = answers (Written id state.content.next result) (changed_state m id live new state)
+
+-- the refusals of a source, under the mapping that would be, in their order
+abbrev pub source_refusals : Mapping → Option JsonValue → Tree → List (Option Refusal)
+source_refusals m body tree = long_source tree.source ∷ growth_refusal m body ∷ source_refusal (grown_by m body) tree ∷ []
+
+-- and then that of the index that is full
 abbrev pub put_refusals : Limits → Mapping → Option JsonValue → Tree → State → List (Option Refusal)
 put_refusals limits m body tree state =
-    long_source tree.source
-    ∷ growth_refusal m body
-    ∷ source_refusal (grown_by m body) tree
-    ∷ full limits (grown_by m body) (with_put tree state.content.live) state.content.next ∷ []
+    source_refusals m body tree ++ full limits (grown_by m body) (with_put tree state.content.live) state.content.next ∷ []
 
 abbrev pub put_tree : Limits → Mapping → Option JsonValue → Tree → Option Tree → State → Answer
 put_tree limits m body tree live state =
@@ -196,7 +203,7 @@ change_or_nothing limits m it live state =
     (change limits m it.target.id (new_source it.operation live) live state)
 
 abbrev pub write_by : Limits → Mapping → Write → Option Tree → State → Answer
-write_by limits m it live state = refused_if (first_of (early_refusals m it live)) (change_or_nothing limits m it live state)
+write_by limits m it live state = refused_if (first_of (early_refusals m it (live_number live))) (change_or_nothing limits m it live state)
 
 -- the live tree of the id is looked up once
 unfoldable pub write_step : Limits → Mapping → Write → State → Answer

@@ -1,5 +1,5 @@
 -- What the evaluation of each kind of clause gives is what the clause means.
-use Rattle.std.proofs.Common.{◌≡◌, ◌≢◌, ℕ, zero, suc, ◌+◌, ◌<◌, ◌≤◌, Bool, true, false, ◌&&◌, ◌||◌, cond, List, [], ◌∷◌, length, map, drop, get_or, filter_map, Option, Some, None, refl, sym, ap, subst, ◌∙◌, arith}
+use Rattle.std.proofs.Common.{◌≡◌, ◌≢◌, ℕ, zero, suc, ◌+◌, ◌-◌, ◌<◌, ◌≤◌, Bool, true, false, ◌&&◌, cond, List, [], ◌∷◌, length, map, take, drop, get_or, filter_map, Option, Some, None, refl, sym, ap, subst, ◌∙◌, arith}
 use Rattle.std.specs.Prelude.{IsSome}
 use Rattle.std.specs.List.{list_all}
 use Rattle.block_join.specs.Merge.{put_together}
@@ -7,14 +7,13 @@ use Rattle.block_join.specs.declared.rule.Rule.{Rule}
 use Rattle.block_join.specs.declared.rule.Rule.TheVariants.{Both, Kept, Without, Plus, Either, Greatest, Counted, AtLeast}
 use Rattle.leaf_search.specs.Found.{leaf_of}
 use Rattle.mapping.specs.Mapping.{Mapping}
-use Rattle.query_ast.specs.Clause.{Clause, Clauses, clause, no_clauses, clauses_of, clause_size, clauses_size, Leaf, match_all, match_none, leaf, bool, constant_score, dis_max, nested, to_child, has_child, has_parent}
+use Rattle.query_ast.specs.Clause.{Clause, Clauses, clause, no_clauses, clauses_of, clause_size, Leaf, match_all, match_none, leaf, bool, constant_score, dis_max, nested, to_child, has_child, has_parent}
 use Rattle.query_ast.specs.Clause.View.{clause_of}
 use Rattle.query_ast.specs.declared.query.Query.{Query}
 use Rattle.query_ast.specs.Hit.{hit, hit_each, scores, wanted, bool_score, boosted, children_score, parent_score}
-use Rattle.query_ast.specs.Joins.{joins, some_join}
 use Rattle.query_ast.specs.Joined.{child_trees, parent_trees, roots}
 use Rattle.query_ast.specs.Leaf.{leaf_holds}
-use Rattle.query_ast.specs.Resolved.{AreResolved, IsLeaf, IsResolved}
+use Rattle.query_ast.specs.Resolved.{IsLeaf, IsResolved}
 use Rattle.score_math.specs.Scores.{mode_of}
 use Rattle.score_math.specs.declared.score.ScoreMode.{ScoreMode}
 use Rattle.score_math.specs.declared.score.TheConstants.{SCORE_CAP}
@@ -26,7 +25,7 @@ use Rattle.query_eval.specs.Found.{IsFound, IsSeen, score_by}
 use Rattle.query_eval.specs.Nested.{around_by, below_by}
 use Rattle.query_eval.specs.Sides.{children_by, parent_by}
 use Rattle.query_eval.proofs.Bools.{required, bool_asked, plus_asked, one_asked, many_asked, few_scores, fold_greatest, folded_none}
-use Rattle.query_eval.proofs.Entries.{Scores}
+use Rattle.query_eval.proofs.Entries.{Scores, take_whole}
 use Rattle.query_eval.proofs.Joined.{no_children}
 use Rattle.query_eval.proofs.Seen.{seen_alike, seen_nothing}
 
@@ -45,33 +44,19 @@ clause_some (has_parent r c score boost) = omega arith
 -- ---- whether there are clauses
 
 pub some_clauses : (a b c d : Bool) → (a && (b && (c && d))) ≡ false → a ≡ true → b ≡ true → c ≡ true → d ≡ true → ⊥
-some_clauses true true true true no must filter should must_not = let none : ⊥ = cc in none
-some_clauses true true true false no must filter should must_not = let none : ⊥ = cc in none
-some_clauses true true false d no must filter should must_not = let none : ⊥ = cc in none
-some_clauses true false c d no must filter should must_not = let none : ⊥ = cc in none
-some_clauses false b c d no must filter should must_not = let none : ⊥ = cc in none
+some_clauses true true true true lack must filter should must_not = let none : ⊥ = cc in none
+some_clauses true true true false lack must filter should must_not = let none : ⊥ = cc in none
+some_clauses true true false d lack must filter should must_not = let none : ⊥ = cc in none
+some_clauses true false c d lack must filter should must_not = let none : ⊥ = cc in none
+some_clauses false b c d lack must filter should must_not = let none : ⊥ = cc in none
 
 -- ---- the first query of some and the others
 
-pub clauses_parts : (qs : List Query) (q : Query) → 0 < length qs → q ≡ get_or qs 0 q → clauses_of (map clause_of qs) ≡ clause (clause_of q) (clauses_of (map clause_of (drop 1 qs)))
+pub clauses_parts : (qs : List Query) (q : Query) → 0 < length qs → q ≡ get_or qs 0 q → clauses_of (map clause_of qs) ≡ clause (clause_of q) (clauses_of (map clause_of (take (length qs - 1) (drop 1 qs))))
 clauses_parts [] q some is = absurd (omega (arith, some))
-clauses_parts (x ∷ qs) q some is = ap (λ (y : Query). clause (clause_of y) (clauses_of (map clause_of qs))) (sym is)
-
-pub rest_size : (qs : List Query) → 0 < length qs → clauses_size (clauses_of (map clause_of (drop 1 qs))) < clauses_size (clauses_of (map clause_of qs))
-rest_size [] some = absurd (omega (arith, some))
-rest_size (x ∷ qs) some = omega (arith, clause_some (clause_of x))
-
-pub rest_resolved : (m : Mapping) (n : ℕ) (qs : List Query) → AreResolved m n (clauses_of (map clause_of qs)) → AreResolved m n (clauses_of (map clause_of (drop 1 qs)))
-rest_resolved m n [] resolved = resolved
-rest_resolved m n (x ∷ qs) resolved = resolved.1
-
-or_right : (a b : Bool) → b ≡ true → (a || b) ≡ true
-or_right true b is = refl
-or_right false b is = is
-
-pub rest_joins : (qs : List Query) → some_join (clauses_of (map clause_of (drop 1 qs))) ≡ true → some_join (clauses_of (map clause_of qs)) ≡ true
-rest_joins [] is = is
-rest_joins (x ∷ qs) is = or_right (joins (clause_of x)) (some_join (clauses_of (map clause_of qs))) is
+clauses_parts (x ∷ qs) q some is =
+    ap (λ (y : Query). clause (clause_of y) (clauses_of (map clause_of qs))) (sym is)
+    ∙ ap (λ (l : List Query). clause (clause_of q) (clauses_of (map clause_of l))) (sym (take_whole qs (length (x ∷ qs) - 1) (omega arith)))
 
 -- ---- the leaves that begin a fold
 

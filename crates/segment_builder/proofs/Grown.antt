@@ -1,20 +1,16 @@
 -- What is taken apart, document by document: what each document adds, and what it carries at a key.
 use Rattle.std.proofs.Common.{◌≡◌, ℕ, zero, suc, ◌+◌, ◌<◌, ◌==◌, true, false, List, [], ◌∷◌, ◌++◌, length, map, slice_get, Some, refl, sym, ap, ◌∙◌, append_assoc, append-nil, arith, eq-eqb, length-append}
-use Rattle.std.specs.List.{flat_map}
 use Rattle.std.specs.Ordering.{eq_by_cmp}
 use Rattle.std.specs.declared.cmp.Ordering.{Ordering}
 use Rattle.std.proofs.lemmas.List.{map-append}
 use Rattle.doc_values.specs.Values.{values_of}
 use Rattle.segment.specs.Flat.{FlatDocument}
-use Rattle.segment_builder.specs.Entries.{EntriesState, with_document, with_documents, with_block, with_blocks}
+use Rattle.segment_builder.specs.Entries.{EntriesState, flats_in, with_document, with_documents, with_blocks}
 use Rattle.segment_builder.specs.Groups.{of_key}
 use Rattle.segment_builder.specs.Parts.{tagged}
 use Rattle.flattener.specs.Block.{BlockState}
 use Rattle.segment_builder.proofs.Keys.{split}
 use Rattle.segment_builder.proofs.Merged.{IsExact, find}
-
-abbrev pub flats_in : List BlockState → List FlatDocument
-flats_in blocks = flat_map (λ (block : BlockState). block.flats) blocks
 
 scopes_add : (flats : List FlatDocument) (it : EntriesState) → (with_documents it flats).scopes ≡ it.scopes ++ map (λ (flat : FlatDocument). flat.scope) flats
 scopes_add [] it = sym (append-nil it.scopes)
@@ -23,22 +19,11 @@ scopes_add (flat ∷ flats) it = scopes_add flats (with_document it flat) ∙ ap
 pub scopes_of_blocks : (blocks : List BlockState) (it : EntriesState) → (with_blocks it blocks).scopes ≡ it.scopes ++ map (λ (flat : FlatDocument). flat.scope) (flats_in blocks)
 scopes_of_blocks [] it = sym (append-nil it.scopes)
 scopes_of_blocks (block ∷ blocks) it =
-    let rest : (with_blocks (with_block it block) blocks).scopes ≡ (with_documents it block.flats).scopes ++ map (λ (flat : FlatDocument). flat.scope) (flats_in blocks) = scopes_of_blocks blocks (with_block it block) in
+    let rest : (with_blocks (with_documents it block.flats) blocks).scopes ≡ (with_documents it block.flats).scopes ++ map (λ (flat : FlatDocument). flat.scope) (flats_in blocks) = scopes_of_blocks blocks (with_documents it block.flats) in
     let first = scopes_add block.flats it in
     rest ∙ ap (λ xs. xs ++ map (λ (flat : FlatDocument). flat.scope) (flats_in blocks)) first
     ∙ append_assoc it.scopes (map (λ (flat : FlatDocument). flat.scope) block.flats) (map (λ (flat : FlatDocument). flat.scope) (flats_in blocks))
     ∙ ap (λ xs. it.scopes ++ xs) (sym (map-append (λ (flat : FlatDocument). flat.scope) block.flats (flats_in blocks)))
-
-roots_stay : (flats : List FlatDocument) (it : EntriesState) → (with_documents it flats).roots ≡ it.roots
-roots_stay [] it = refl
-roots_stay (flat ∷ flats) it = roots_stay flats (with_document it flat)
-
-pub roots_of_blocks : (blocks : List BlockState) (it : EntriesState) → (with_blocks it blocks).roots ≡ it.roots ++ map (λ (block : BlockState). block.root) blocks
-roots_of_blocks [] it = sym (append-nil it.roots)
-roots_of_blocks (block ∷ blocks) it =
-    roots_of_blocks blocks (with_block it block)
-    ∙ ap (λ xs. (xs ++ block.root ∷ []) ++ map (λ (other : BlockState). other.root) blocks) (roots_stay block.flats it)
-    ∙ append_assoc it.roots (block.root ∷ []) (map (λ (other : BlockState). other.root) blocks)
 
 count_add : (flats : List FlatDocument) (it : EntriesState) → length (with_documents it flats).scopes ≡ length it.scopes + length flats
 count_add [] it = omega arith
@@ -57,8 +42,7 @@ module _ {E : Type 0} (tag : ℕ → FlatDocument → List E) where
       rw (e, by_doc_append (doc + 1) flats others) (sym (append_assoc (tag doc flat) (by_doc (doc + 1) flats) (by_doc (doc + 1 + length flats) others)))
 
   module _ (part : EntriesState → List E)
-      (step : (it : EntriesState) (flat : FlatDocument) → part (with_document it flat) ≡ part it ++ tag (length it.scopes) flat)
-      (whole : (it : EntriesState) (block : BlockState) → part (with_block it block) ≡ part (with_documents it block.flats)) where
+      (step : (it : EntriesState) (flat : FlatDocument) → part (with_document it flat) ≡ part it ++ tag (length it.scopes) flat) where
     documents_add : (flats : List FlatDocument) (it : EntriesState) → part (with_documents it flats) ≡ part it ++ by_doc (length it.scopes) flats
     documents_add [] it = sym (append-nil (part it))
     documents_add (flat ∷ flats) it =
@@ -71,10 +55,10 @@ module _ {E : Type 0} (tag : ℕ → FlatDocument → List E) where
     pub blocks_add : (blocks : List BlockState) (it : EntriesState) → part (with_blocks it blocks) ≡ part it ++ by_doc (length it.scopes) (flats_in blocks)
     blocks_add [] it = sym (append-nil (part it))
     blocks_add (block ∷ blocks) it =
-        let count : length (with_block it block).scopes ≡ length it.scopes + length block.flats = count_add block.flats it in
-        blocks_add blocks (with_block it block)
-        ∙ ap (λ n. part (with_block it block) ++ by_doc n (flats_in blocks)) count
-        ∙ ap (λ xs. xs ++ by_doc (length it.scopes + length block.flats) (flats_in blocks)) (whole it block ∙ documents_add block.flats it)
+        let count : length (with_documents it block.flats).scopes ≡ length it.scopes + length block.flats = count_add block.flats it in
+        blocks_add blocks (with_documents it block.flats)
+        ∙ ap (λ n. part (with_documents it block.flats) ++ by_doc n (flats_in blocks)) count
+        ∙ ap (λ xs. xs ++ by_doc (length it.scopes + length block.flats) (flats_in blocks)) (documents_add block.flats it)
         ∙ append_assoc (part it) (by_doc (length it.scopes) block.flats) (by_doc (length it.scopes + length block.flats) (flats_in blocks))
         ∙ ap (λ xs. part it ++ xs) (sym (by_doc_append (length it.scopes) block.flats (flats_in blocks)))
 

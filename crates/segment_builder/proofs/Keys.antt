@@ -9,7 +9,7 @@ use Rattle.std.specs.declared.cmp.Ordering.{Ordering}
 use Rattle.std.specs.declared.cmp.Ordering.TheVariants.{Less, Equal, Greater}
 use Rattle.std.proofs.lemmas.Cmp.{eq_by_cmp_equiv}
 use Rattle.std.proofs.lemmas.List.Sorted.{list_any-IsPermutation}
-use Rattle.segment_builder.specs.Groups.{of_key, in_groups}
+use Rattle.segment_builder.specs.Groups.{of_key, in_groups, groups_seen}
 
 -- cases of a test, with its equation
 pub split : {C : Type 0} (t : Bool) → (t ≡ true → C) → (t ≡ false → C) → C
@@ -26,6 +26,9 @@ filter_same p q same [] = refl
 filter_same p q same (x ∷ xs) = rw (same x, filter_same p q same xs) refl
 
 module _ {K P : Type 0} (cmp : K → K → Ordering) (o : IsTotalOrder cmp) where
+  abbrev vec_group : {A : Type 0} → K × Vec P A → K × List P
+  vec_group {A} group = (group.0, group.1.items)
+
   abbrev is_of : K → K × P → Bool
   is_of key entry = eq_by_cmp cmp key entry.0
 
@@ -109,19 +112,16 @@ module _ {K P : Type 0} (cmp : K → K → Ordering) (o : IsTotalOrder cmp) wher
 
   -- ---- as vectors keep groups
 
-  abbrev pub vec_group : {A : Type 0} → K × Vec P A → K × List P
-  vec_group {A} group = (group.0, group.1.items)
-
   pub begun_in : {A : Type 0} (any key : K) (member : P) (old new : List (K × Vec P A)) (members : Vec P A) → new ≡ old ++ (key, members) ∷ [] → members.items ≡ member ∷ []
-      → in_groups cmp any (map vec_group new) ≡ in_groups cmp any (map vec_group old) ++ of_key cmp any ((key, member) ∷ [])
+      → in_groups cmp any (groups_seen new) ≡ in_groups cmp any (groups_seen old) ++ of_key cmp any ((key, member) ∷ [])
   begun_in {A} any key member old new members is one =
-      rw (is, map-append (vec_group {A = A}) old ((key, members) ∷ []), one) (begun any key member (map vec_group old))
+      rw (is, map-append (vec_group {A = A}) old ((key, members) ∷ []), one) (begun any key member (groups_seen old))
 
   pub went_on_in : {A : Type 0} (any last key : K) (member : P) (old rest new : List (K × Vec P A)) (members more : Vec P A)
       → old ≡ rest ++ (last, members) ∷ [] → more.items ≡ members.items ++ member ∷ [] → new ≡ rest ++ (last, more) ∷ [] → eq_by_cmp cmp last key ≡ true
-      → in_groups cmp any (map vec_group new) ≡ in_groups cmp any (map vec_group old) ++ of_key cmp any ((key, member) ∷ [])
+      → in_groups cmp any (groups_seen new) ≡ in_groups cmp any (groups_seen old) ++ of_key cmp any ((key, member) ∷ [])
   went_on_in {A} any last key member old rest new members more was long is same =
-      rw (is, was, map-append (vec_group {A = A}) rest ((last, more) ∷ []), map-append (vec_group {A = A}) rest ((last, members) ∷ []), long) (went_on any last key members.items member (map vec_group rest) same)
+      rw (is, was, map-append (vec_group {A = A}) rest ((last, more) ∷ []), map-append (vec_group {A = A}) rest ((last, members) ∷ []), long) (went_on any last key members.items member (groups_seen rest) same)
 
   pub gathers_on : (any : K) (old new whole : List P) (entry : K × P) (left rest : List (K × P)) → left ≡ entry ∷ rest → new ≡ old ++ of_key cmp any (entry ∷ []) → old ++ of_key cmp any left ≡ whole → new ++ of_key cmp any rest ≡ whole
   gathers_on any old new whole entry left rest is more goes =

@@ -10,6 +10,7 @@ use Rattle.std.proofs.lemmas.Cmp.{eq_by_cmp_equiv}
 use Rattle.std.proofs.lemmas.Map.Keys.{sorted_head, sorted_tail}
 use Rattle.doc_values.specs.Values.{values_of}
 use Rattle.segment.specs.Flat.{has_some}
+pub use Rattle.segment_builder.specs.Groups.{keys}
 
 -- an order in which only the same things tie
 pub record IsExact {K : Type 0} (cmp : K → K → Ordering) : Type 0 where
@@ -20,9 +21,6 @@ cases : {C : Type 0} (o : Ordering) → (o ≡ Less → C) → (o ≡ Equal → 
 cases Less less equal more = less refl
 cases Equal less equal more = equal refl
 cases Greater less equal more = more refl
-
-abbrev pub keys : {K Y : Type 0} → List (K × Y) → List K
-keys {K} {Y} entries = map (λ (entry : K × Y). entry.0) entries
 
 module _ {K : Type 0} (cmp : K → K → Ordering) (o : IsExact cmp) where
   less_apart : (x y : K) → cmp x y ≡ Less → eq_by_cmp cmp x y ≡ false

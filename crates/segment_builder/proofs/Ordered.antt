@@ -1,13 +1,14 @@
 -- What a block's documents carry comes in order.
-use Rattle.std.proofs.Common.{◌≡◌, ℕ, ℤ, ◌+◌, Bool, true, false, List, [], ◌∷◌, ◌++◌, length, map, get_or, nat_lt, refl, sym, ap, subst, ◌∙◌, arith, lt-ltb, length-append}
+use Rattle.std.proofs.Common.{◌≡◌, ℕ, ℤ, zero, suc, ◌+◌, ◌<◌, ◌==◌, Contains, eq-eqb, Bool, true, false, List, [], ◌∷◌, ◌++◌, length, map, get_or, nat_lt, refl, sym, ap, subst, ◌∙◌, arith, lt-ltb, length-append}
 use Rattle.std.specs.Cmp.{IsTotalOrder}
-use Rattle.std.specs.List.{All, AllByRecursion, filter, flat_map, range_with_len}
-use Rattle.std.specs.List.Sorted.{IsStrictlySortedBy}
-use Rattle.std.specs.Ordering.{is_gt, is_eq, ordering_reverse, ordering_then, nat_cmp}
+use Rattle.std.specs.Cmp.Lexicographic.{slice_cmp}
+use Rattle.std.specs.List.{All, AllByRecursion, filter, flat_map, list_any, range_with_len}
+use Rattle.std.specs.List.Sorted.{IsSorted}
+use Rattle.std.specs.Ordering.{is_lt, is_gt, is_eq, ordering_reverse, ordering_then, int_cmp, nat_cmp}
 use Rattle.std.specs.Str.{bytes_eq}
 use Rattle.std.specs.declared.cmp.Ordering.{Ordering}
 use Rattle.std.specs.declared.cmp.Ordering.TheVariants.{Less, Equal, Greater}
-use Rattle.std.proofs.lemmas.Cmp.{upto, nat_cmp_total, nat_list_cmp_total, on_total, then_total, eq_by_cmp_equiv}
+use Rattle.std.proofs.lemmas.Cmp.{upto, int_cmp_total, nat_cmp_total, nat_list_cmp_total, on_total, then_total, eq_by_cmp_equiv}
 use Rattle.std.proofs.lemmas.List.FromFn.{get_or-range_with_len, length-range_with_len}
 use Rattle.std.proofs.lemmas.Bool.Decides.{nat_tests}
 use Rattle.std.proofs.lemmas.List.Elements.{All-cons}
@@ -15,42 +16,24 @@ use Rattle.std.proofs.lemmas.Map.Keys.{sorted_from_strictly_increasing}
 use Rattle.std.proofs.lemmas.Map.Text.{is_eq-slice_cmp}
 use Rattle.flattener.specs.Block.{BlockState, flats_of_tree}
 use Rattle.flattener.specs.Fits.{BlockFits}
-use Rattle.flattener.specs.Flat.{placed, ascending, bytes_cmp, token_cmp, tokens, together, grouped, words_of_field, number_field, keyword_field, text_field, field_words, fields_of, has_numbers, is_keyword, is_text, flat_of}
+use Rattle.flattener.specs.Flat.{placed, ascending, bytes_cmp, token_cmp, tokens, together, grouped, words_of_field, number_field, keyword_field, text_field, field_words, fields_of, numbers_in, texts_in, has_numbers, is_keyword, is_text, flat_of}
 use Rattle.mapping.specs.Mapping.{Mapping, kind_at}
 use Rattle.mapping_body.specs.declared.kind.Kind.{Kind}
 use Rattle.segment.specs.Flat.{has_some}
 use Rattle.term_table.specs.Terms.{term_cmp}
 use Rattle.tree_objects.specs.Object.{Object, block_objects}
+use Rattle.tree_objects.specs.Values.{values}
 use Rattle.segment_builder.specs.Form.{IsOrdered}
+use Rattle.segment_builder.proofs.Among.{any_later, any_number}
 use Rattle.segment_builder.proofs.Keys.{split}
 use Rattle.segment_builder.proofs.Merged.{keys}
+use Rattle.segment_builder.proofs.Onced.{gt_back}
 use Rattle.segment_builder.proofs.Orders.{bytes_exact}
+use Rattle.segment_builder.proofs.Placed.{AreUp, Rise, words_rise}
 use Rattle.segment_builder.proofs.Shown.{each_by, each_then}
+use Rattle.segment_builder.proofs.Sorted.{Sorted, sorted_cons, sorted_first, sorted_rest, sorted_none, sorted_append, each_append, less_then, same_field}
 
 -- ---- lists in order
-
-abbrev Sorted : {K : Type 0} → (K → K → Ordering) → List K → Type 0
-Sorted {K} cmp xs = IsStrictlySortedBy cmp xs
-
-sorted_cons : {K : Type 0} (cmp : K → K → Ordering) (x : K) (xs : List K) → AllByRecursion (λ y. cmp x y ≡ Less) xs → Sorted cmp xs → Sorted cmp (x ∷ xs)
-unfolding IsStrictlySortedBy
-sorted_cons cmp x xs first rest = (first, rest)
-
-sorted_first : {K : Type 0} (cmp : K → K → Ordering) (x : K) (xs : List K) → Sorted cmp (x ∷ xs) → AllByRecursion (λ y. cmp x y ≡ Less) xs
-unfolding IsStrictlySortedBy
-sorted_first cmp x xs up = up.0
-
-sorted_rest : {K : Type 0} (cmp : K → K → Ordering) (x : K) (xs : List K) → Sorted cmp (x ∷ xs) → Sorted cmp xs
-unfolding IsStrictlySortedBy
-sorted_rest cmp x xs up = up.1
-
-sorted_none : {K : Type 0} (cmp : K → K → Ordering) → Sorted cmp []
-unfolding IsStrictlySortedBy
-sorted_none cmp = tt
-
-each_append : {X : Type 0} (P : X → Type 0) (xs ys : List X) → AllByRecursion P xs → AllByRecursion P ys → AllByRecursion P (xs ++ ys)
-each_append P [] ys one two = two
-each_append P (x ∷ xs) ys one two = (one.0, each_append P xs ys one.1 two)
 
 each_filter : {X : Type 0} (P : X → Type 0) (test : X → Bool) (xs : List X) → AllByRecursion P xs → AllByRecursion P (filter test xs)
 each_filter P test [] all = tt
@@ -106,6 +89,13 @@ module _ {X : Type 0} (get : ℕ → List X) where
       (λ is. rw is (is, carried_some fs))
       (λ isnt. rw isnt (carried_some fs))
 
+  carried_all : (P : List X → Type 0) → ((f : ℕ) → P (get f)) → (fs : List ℕ) → AllByRecursion (λ (entry : ℕ × List X). P entry.1) (carried fs)
+  carried_all P all [] = tt
+  carried_all P all (f ∷ fs) =
+      split (has_some (f, get f))
+      (λ is. rw is (all f, carried_all P all fs))
+      (λ isnt. rw isnt (carried_all P all fs))
+
 -- ---- a sort's list is in order
 
 turned : (a b : Ordering) → a ≡ ordering_reverse b → is_gt b ≡ true → is_gt a ≡ false
@@ -142,6 +132,17 @@ module _ {K : Type 0} (R : K → K → Ordering) (o : IsTotalOrder R) where
   up_ascending : (xs : List K) → Up (ascending R xs)
   up_ascending [] = tt
   up_ascending (x ∷ xs) = up_placed x (ascending R xs) (up_ascending xs)
+
+  up_at : (xs : List K) (k : ℕ) (d : K) → Up xs → suc k < length xs → is_lt (R (get_or xs (suc k) d) (get_or xs k d)) ≡ false
+  up_at [] k d up inside = absurd (omega (arith, inside))
+  up_at (x ∷ []) k d up inside = absurd (omega (arith, inside))
+  up_at (x ∷ y ∷ ys) zero d up inside = gt_back (R x y) (R y x) (o.antisymm y x) ∙ up.0.0
+  up_at (x ∷ y ∷ ys) (suc k) d up inside = up_at (y ∷ ys) k d up.1 (omega (arith, inside))
+
+  sorted_ascending : (xs : List K) → IsSorted R (ascending R xs)
+  sorted_ascending xs = λ k d low high.
+      let next : k + 1 ≡ suc k = omega arith in
+      rw next (up_at (ascending R xs) k d (up_ascending xs) (omega (arith, high)))
 
 -- ---- words of one field
 
@@ -181,11 +182,6 @@ not_after_itself word =
     (λ after. turned (bytes_cmp word word) (bytes_cmp word word) (nat_list_cmp_total.antisymm word word) after)
     (λ before. before)
 
-less_then : (a b : Ordering) → is_gt a ≡ false → is_eq a ≡ false → a ≡ Less
-less_then Less b h k = refl
-less_then Equal b h k = absurd (cc (k))
-less_then Greater b h k = absurd (cc (h))
-
 case_of : {C : Type 0} (a : Ordering) → is_gt a ≡ false → (a ≡ Less → C) → (a ≡ Equal → C) → C
 case_of Less h less equal = less refl
 case_of Equal h less equal = equal refl
@@ -196,9 +192,6 @@ less_on x y z less on =
     case_of (bytes_cmp y z) on
     (λ next. nat_list_cmp_total.trans x y z less next)
     (λ same. subst (λ w. bytes_cmp x w ≡ Less) (bytes_exact y z same) less)
-
-same_field : (f : ℕ) → nat_cmp f f ≡ Equal
-same_field f = grind (arith, nat_tests)
 
 -- a word before another, and so before all that don't come before that
 term_before : (f : ℕ) (word next : List ℕ) (terms : List (ℕ × List ℕ)) → bytes_cmp word next ≡ Less → AtLeast f next terms → AllByRecursion (λ term. term_cmp (f, word) term ≡ Less) terms
@@ -259,19 +252,6 @@ words_are_of f ts = grouped_are f (ascending token_cmp ts) (by_words (ascending 
 
 -- ---- words of several fields
 
-across : (f g : ℕ) (term : ℕ × List ℕ) (terms : List (ℕ × List ℕ)) → term.0 ≡ f → AllByRecursion (λ (other : ℕ × List ℕ). nat_cmp f other.0 ≡ Less) terms → AllByRecursion (λ other. term_cmp term other ≡ Less) terms
-across f g term [] is all = tt
-across f g term (other ∷ terms) is all =
-    let less : nat_cmp term.0 other.0 ≡ Less = ap (λ n. nat_cmp n other.0) is ∙ all.0 in
-    (rw less refl, across f g term terms is all.1)
-
-sorted_append : (f : ℕ) (xs ys : List (ℕ × List ℕ)) → Sorted term_cmp xs → AllByRecursion (λ (term : ℕ × List ℕ). term.0 ≡ f) xs → Sorted term_cmp ys → AllByRecursion (λ (other : ℕ × List ℕ). nat_cmp f other.0 ≡ Less) ys → Sorted term_cmp (xs ++ ys)
-sorted_append f [] ys up of_field rest later = rest
-sorted_append f (x ∷ xs) ys up of_field rest later =
-    sorted_cons term_cmp x (xs ++ ys)
-    (each_append (λ y. term_cmp x y ≡ Less) xs ys (sorted_first term_cmp x xs up) (across f f x ys of_field.0 later))
-    (sorted_append f xs ys (sorted_rest term_cmp x xs up) of_field.1 rest later)
-
 module _ (tokens_at : ℕ → List (List ℕ × ℕ)) where
   abbrev all_words : List ℕ → Words
   all_words fs = flat_map (λ f. words_of_field f (tokens_at f)) fs
@@ -301,6 +281,51 @@ module _ (tokens_at : ℕ → List (List ℕ × ℕ)) where
   words_some : (fs : List ℕ) → AllByRecursion (λ (entry : (ℕ × List ℕ) × List ℕ). has_some entry ≡ true) (all_words fs)
   words_some [] = tt
   words_some (f ∷ fs) = each_append (λ (entry : (ℕ × List ℕ) × List ℕ). has_some entry ≡ true) (words_of_field f (tokens_at f)) (all_words fs) (words_are_of f (tokens_at f)).some (words_some fs)
+
+up_as : (ts : List (List ℕ × ℕ)) → Up token_cmp token_total ts → AreUp ts
+up_as [] up = tt
+up_as (t ∷ ts) up = (up.0, up_as ts up.1)
+
+module _ (texts : ℕ → List (List ℕ)) where
+  positions_rise : (fs : List ℕ) → AllByRecursion Rise (all_words (λ f. tokens (texts f)) fs)
+  positions_rise [] = tt
+  positions_rise (f ∷ fs) =
+      each_append Rise (words_of_field f (tokens (texts f))) (all_words (λ g. tokens (texts g)) fs)
+      (words_rise f (texts f) (up_as (ascending token_cmp (tokens (texts f))) (up_ascending token_cmp token_total (tokens (texts f))))) (positions_rise fs)
+
+  no_words : (f : ℕ) → has_some (f, texts f) ≡ false → words_of_field f (tokens (texts f)) ≡ []
+  unfolding tokens
+  no_words f none = without (texts f) none
+    where
+      without : (ts : List (List ℕ)) → has_some (f, ts) ≡ false → words_of_field f (tokens ts) ≡ []
+      without [] empty = refl
+      without (t ∷ ts) empty = absurd (grind (arith, nat_tests, empty))
+
+  abbrev valued_fields : List ℕ → List ℕ
+  valued_fields fs = keys (carried (λ f. texts f) fs)
+
+  of_first : (f : ℕ) (more : List ℕ) (ws : Words) → AllByRecursion (λ (term : ℕ × List ℕ). term.0 ≡ f) (keys ws) → AllByRecursion (λ (word : (ℕ × List ℕ) × List ℕ). list_any (λ g. g == word.0.0) (f ∷ more) ≡ true) ws
+  of_first f more [] own = tt
+  of_first f more (w ∷ ws) own = (rw (eq-eqb f w.0.0 (sym own.0)) refl, of_first f more ws own.1)
+
+  one_further : (test : ℕ → Bool) (f : ℕ) (fs : List ℕ) → list_any test fs ≡ true → list_any test (f ∷ fs) ≡ true
+  one_further test f fs is = any_later test (f ∷ []) fs is
+
+  words_valued : (fs : List ℕ) → AllByRecursion (λ (word : (ℕ × List ℕ) × List ℕ). list_any (λ g. g == word.0.0) (valued_fields fs) ≡ true) (all_words (λ f. tokens (texts f)) fs)
+  words_valued [] = tt
+  words_valued (f ∷ fs) =
+      split (has_some (f, texts f))
+      (λ is.
+      let here : valued_fields (f ∷ fs) ≡ f ∷ valued_fields fs = rw is refl in
+      subst (λ own. AllByRecursion (λ (word : (ℕ × List ℕ) × List ℕ). list_any (λ g. g == word.0.0) own ≡ true) (all_words (λ g. tokens (texts g)) (f ∷ fs))) (sym here)
+      (each_append (λ (word : (ℕ × List ℕ) × List ℕ). list_any (λ g. g == word.0.0) (f ∷ valued_fields fs) ≡ true) (words_of_field f (tokens (texts f))) (all_words (λ g. tokens (texts g)) fs)
+      (of_first f (valued_fields fs) (words_of_field f (tokens (texts f))) (words_are_of f (tokens (texts f))).of_field)
+      (each_then (λ (word : (ℕ × List ℕ) × List ℕ). list_any (λ g. g == word.0.0) (valued_fields fs) ≡ true) (λ (word : (ℕ × List ℕ) × List ℕ). list_any (λ g. g == word.0.0) (f ∷ valued_fields fs) ≡ true) (λ word there. one_further (λ g. g == word.0.0) f (valued_fields fs) there) (all_words (λ g. tokens (texts g)) fs) (words_valued fs))))
+      (λ isnt.
+      let here : valued_fields (f ∷ fs) ≡ valued_fields fs = rw isnt refl in
+      let none : words_of_field f (tokens (texts f)) ≡ [] = no_words f isnt in
+      subst (λ own. AllByRecursion (λ (word : (ℕ × List ℕ) × List ℕ). list_any (λ g. g == word.0.0) own ≡ true) (all_words (λ g. tokens (texts g)) (f ∷ fs))) (sym here)
+      (subst (λ (own : Words). AllByRecursion (λ (word : (ℕ × List ℕ) × List ℕ). list_any (λ g. g == word.0.0) (valued_fields fs) ≡ true) (own ++ all_words (λ g. tokens (texts g)) fs)) (sym none) (words_valued fs)))
 
 words_by_field : (texts : ℕ → List (List ℕ)) (fs : List ℕ) → flat_map field_words (map (λ f. (f, texts f)) fs) ≡ all_words (λ f. tokens (texts f)) fs
 words_by_field texts [] = refl
@@ -333,6 +358,14 @@ flat_ordered m o =
             (subst (AllByRecursion (λ (word : (ℕ × List ℕ) × List ℕ). has_some word ≡ true)) (sym words_are) (words_some (λ f. tokens (text_field m o f).1) (fields_of is_text m)));
       };
       texts = carried_ascend (λ f. (text_field m o f).1) (fields_of is_text m) texts;
+      numbers_rise = by_each (λ (entry : ℕ × List ℤ). IsSorted int_cmp entry.1) (flat_of m o).numbers
+          (carried_all (λ f. (number_field m o f).1) (IsSorted int_cmp) (λ f. sorted_ascending int_cmp int_cmp_total (numbers_in (values m f o))) (fields_of has_numbers m));
+      keywords_rise = by_each (λ (entry : ℕ × List (List ℕ)). IsSorted (slice_cmp nat_cmp) entry.1) (flat_of m o).keywords
+          (carried_all (λ f. (keyword_field m o f).1) (IsSorted (slice_cmp nat_cmp)) (λ f. sorted_ascending bytes_cmp nat_list_cmp_total (texts_in (values m f o))) (fields_of is_keyword m));
+      positions_rise = by_each Rise (flat_of m o).words (subst (AllByRecursion Rise) (sym words_are) (positions_rise (λ f. (text_field m o f).1) (fields_of is_text m)));
+      valued = by_each (λ (word : (ℕ × List ℕ) × List ℕ). Contains (flat_of m o).texts word.0.0) (flat_of m o).words
+          (each_then (λ (word : (ℕ × List ℕ) × List ℕ). list_any (λ g. g == word.0.0) (flat_of m o).texts ≡ true) (λ (word : (ℕ × List ℕ) × List ℕ). Contains (flat_of m o).texts word.0.0) (λ word there. any_number word.0.0 (flat_of m o).texts there) (flat_of m o).words
+          (subst (AllByRecursion (λ (word : (ℕ × List ℕ) × List ℕ). list_any (λ g. g == word.0.0) (flat_of m o).texts ≡ true)) (sym words_are) (words_valued (λ f. (text_field m o f).1) (fields_of is_text m))));
     }
 
 flats_ordered : (m : Mapping) (os : List Object) → AllByRecursion IsOrdered (map (flat_of m) os)

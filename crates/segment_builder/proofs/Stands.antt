@@ -48,15 +48,15 @@ some_root flat (next ∷ flats) ends = let later : 1 ≤ roots_in (next ∷ flat
 
 -- ---- cut, they are covered
 
-abbrev flats_in : List BlockState → List FlatDocument
+abbrev pub flats_in : List BlockState → List FlatDocument
 flats_in blocks = flat_map (λ (block : BlockState). block.flats) blocks
 
-abbrev block_roots : List BlockState → List FlatRoot
+abbrev pub block_roots : List BlockState → List FlatRoot
 block_roots blocks = map (λ (block : BlockState). block.root) blocks
 
-record AreCut (front flats : List FlatDocument) (roots : List FlatRoot) : Type 0 where
-  documents : flats_in (cut_from front flats roots) ≡ front ++ flats
-  same : block_roots (cut_from front flats roots) ≡ roots
+pub record AreCut (front flats : List FlatDocument) (roots : List FlatRoot) : Type 0 where
+  pub documents : flats_in (cut_from front flats roots) ≡ front ++ flats
+  pub same : block_roots (cut_from front flats roots) ≡ roots
 
 cut_all : (flat : FlatDocument) (flats front : List FlatDocument) (roots : List FlatRoot) → EndsWell (flat ∷ flats) → roots_in (flat ∷ flats) ≡ length roots → AreCut front (flat ∷ flats) roots
 cut_all flat flats front [] ends count = absurd (omega (arith, some_root flat flats ends, count))
@@ -125,7 +125,7 @@ live_is (flag ∷ flags) marks =
     ∙ map_same (λ doc. mark_at (flag ∷ flags) marks (doc + 1)) (mark_at flags (if flag then drop 1 marks else marks)) (next_mark flag flags marks) (range_with_len 0 (length flags))
     ∙ live_is flags (if flag then drop 1 marks else marks))
 
-abbrev marks_in : List (Marked BlockState) → List Bool
+abbrev pub marks_in : List (Marked BlockState) → List Bool
 marks_in blocks = flat_map (λ (block : Marked BlockState). replicate (length block.item.flats) block.live) blocks
 
 replicate_more : (n : ℕ) (mark : Bool) (rest : List Bool) → replicate (n + 1) mark ++ rest ≡ replicate n mark ++ (mark ∷ rest)
@@ -193,13 +193,13 @@ tree_flats m tree = refl
 
 module _ (columns : Columns) (live : LiveState) (own : AreColumns columns) (over : IsLiveOver columns live)
     (scoped : (scope doc : ℕ) → scope < length columns.scopes → doc < columns.documents → slice_index_or (slice_index_or columns.scopes scope []) doc false ≡ ((flat_of columns doc).scope == scope)) where
-  abbrev flags : List Bool
+  abbrev pub flags : List Bool
   flags = root_flags columns.scopes
 
-  flags_long : length flags ≡ columns.documents
+  pub flags_long : length flags ≡ columns.documents
   flags_long = own.parts.head.long 0 [] own.parts.head.some
 
-  flags_are : flags ≡ map is_root (flats_of columns)
+  pub flags_are : flags ≡ map is_root (flats_of columns)
   flags_are =
       fill_by_all (λ doc. is_root (flat_of columns doc)) flags columns.documents false flags_long (λ doc inside. scoped 0 doc own.parts.head.some inside)
       ∙ sym (map_twice is_root (flat_of columns) (range_with_len 0 columns.documents))
@@ -214,15 +214,15 @@ module _ (columns : Columns) (live : LiveState) (own : AreColumns columns) (over
   last_flag : get_or (map is_root (flats_of columns)) (columns.documents - 1) false ≡ true
   last_flag = ap (λ fs. get_or fs (columns.documents - 1) false) (sym flags_are) ∙ own.rooted.last
 
-  docs_are : live.docs ≡ live_by (map is_root (flats_of columns)) live.roots
+  pub docs_are : live.docs ≡ live_by (map is_root (flats_of columns)) live.roots
   unfolding live_docs
   docs_are = over.docs ∙ live_is flags live.roots ∙ ap (λ fs. live_by fs live.roots) flags_are
 
-  record IsCovered : Type 0 where
-    cut : AreCut [] (flats_of columns) (roots_of columns)
-    marks : marks_in (marked_by (cut_from [] (flats_of columns) (roots_of columns)) live.roots) ≡ live_by (map is_root (flats_of columns)) live.roots
+  pub record IsCovered : Type 0 where
+    pub cut : AreCut [] (flats_of columns) (roots_of columns)
+    pub marks : marks_in (marked_by (cut_from [] (flats_of columns) (roots_of columns)) live.roots) ≡ live_by (map is_root (flats_of columns)) live.roots
 
-  covered_from : (flats : List FlatDocument) → flats ≡ flats_of columns → IsCovered
+  pub covered_from : (flats : List FlatDocument) → flats ≡ flats_of columns → IsCovered
   covered_from [] is = absurd (omega (arith, ap length is, ap length flags_are, length-map (flats_of columns) is_root, flags_long, own.parts.head.some_documents))
   covered_from (flat ∷ flats) is =
       let long : length (flat ∷ flats) ≡ columns.documents = omega (arith, ap length is, ap length flags_are, length-map (flats_of columns) is_root, flags_long) in

@@ -36,6 +36,13 @@ marked (doc ∷ docs) flags d inside =
     let other : get_or (set flags doc true) d false ≡ get_or flags d false = get_or-set_other flags doc d true false (λ same. (let e : (doc == d) ≡ true = eq-eqb doc d (sym same) in let never : true ≡ false = sym e ∙ isnt in cc (never))) in
     rw (other, isnt) refl)
 
+length_marked : (docs : List ℕ) (flags : List Bool) → length (with_marks flags docs) ≡ length flags
+length_marked [] flags = refl
+length_marked (doc ∷ docs) flags = length_marked docs (set flags doc true) ∙ length-set flags doc true
+
+pub length_marks : (documents : ℕ) (docs : List ℕ) → length (marks_of documents docs) ≡ documents
+length_marks documents docs = length_marked docs (replicate documents false) ∙ length-replicate documents false
+
 pub marks_at : (documents d : ℕ) (docs : List ℕ) → d < documents → get_or (marks_of documents docs) d false ≡ list_any (is_doc d) docs
 marks_at documents d docs inside =
     let long : length (replicate documents false) ≡ documents = length-replicate documents false in

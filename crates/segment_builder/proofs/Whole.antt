@@ -1,34 +1,33 @@
 -- The columns made of all blocks say of each document what it carries.
-use Rattle.std.proofs.Common.{◌≡◌, ℕ, ℤ, zero, suc, ◌+◌, ◌<◌, ◌==◌, Bool, true, false, List, [], ◌∷◌, ◌++◌, length, map, get_or, slice_get, slice_index_or, Some, refl, sym, ap, subst, ◌∙◌, arith, eq-eqb, eqb-true}
-use Rattle.std.specs.List.{All, AllByRecursion, filter}
+use Rattle.std.proofs.Common.{◌≡◌, ℕ, ℤ, ◌+◌, ◌<◌, ◌==◌, Bool, true, false, List, [], ◌++◌, length, map, get_or, slice_get, slice_index_or, Some, refl, sym, ap, subst, ◌∙◌, arith, eq-eqb, eqb-true}
+use Rattle.std.specs.List.{All, filter}
 use Rattle.std.specs.List.Sorted.{IsStrictlySortedBy}
 use Rattle.std.specs.Ordering.{nat_cmp}
 use Rattle.std.proofs.lemmas.List.{get_or-map, length-map}
 use Rattle.std.proofs.lemmas.List.FromFn.{fill_by_all, get_or-map-range_with_len}
-use Rattle.std.proofs.lemmas.Map.Keys.{sorted_from_strictly_increasing}
 use Rattle.std.proofs.lemmas.Option.{slice_get-get_or, get_or_from_slice_get}
 use Rattle.block_bits.specs.Blocks.{documents_of, has_scope}
 use Rattle.doc_values.specs.Values.{values_of}
-use Rattle.segment.specs.Agree.{AreColumns}
-use Rattle.segment.specs.Flat.{FlatDocument, has_some, flat_of, flats_of, roots_of, values_at, words_at}
+use Rattle.segment.specs.Flat.{FlatDocument, has_some, flat_of, flats_of, values_at, words_at}
 use Rattle.segment.specs.Lists.{terms_of}
 use Rattle.segment_parts.specs.declared.columns.Columns.{Columns}
 use Rattle.term_table.specs.Terms.{term_cmp}
-use Rattle.segment_builder.specs.Columns.{column_bytes, marks_of}
-use Rattle.segment_builder.specs.Entries.{EntriesState, no_entries, with_blocks}
+use Rattle.segment_builder.specs.Entries.{EntriesState, flats_in, no_entries, with_blocks}
 use Rattle.segment_builder.specs.Form.{IsOrdered}
-use Rattle.segment_builder.specs.Groups.{of_key, in_groups}
+use Rattle.segment_builder.specs.Groups.{of_key, AreGroups}
 use Rattle.segment_builder.specs.Made.{IsMade, all_terms}
 use Rattle.segment_builder.specs.Parts.{tagged}
 use Rattle.flattener.specs.Block.{BlockState}
 use Rattle.segment_builder.specs.Terms.{row_group, keyword_terms, number_terms}
 use Rattle.segment_builder.proofs.Assembled.{map_twice}
-use Rattle.segment_builder.proofs.Grown.{flats_in, scopes_of_blocks, roots_of_blocks, by_doc, blocks_add, of_append, at_doc}
-use Rattle.segment_builder.proofs.Merged.{keys, find, at_document}
+use Rattle.segment_builder.proofs.Grown.{by_doc, blocks_add, of_append, at_doc}
+use Rattle.segment_builder.proofs.Merged.{find, at_document}
 use Rattle.segment_builder.proofs.Orders.{nat_order, term_order}
-use Rattle.segment_builder.proofs.Shown.{each_by, each_of, each_left, each_right, shown, in_document}
-use Rattle.segment_builder.proofs.Texts.{text_entry, text_group, text_member, text_get, of_texts, in_texts, text_step, texts_at, fields_back, texts_some, text_keys}
-use Rattle.segment_builder.proofs.Worded.{values_first, keywords_empty, numbers_empty, keywords_at, column_keys}
+use Rattle.segment_builder.proofs.Parted.{keywords_are, numbers_are, scopes_are, words_are}
+use Rattle.segment_builder.proofs.Regrouped.{regrouped}
+use Rattle.segment_builder.proofs.Shown.{each_by, shown}
+use Rattle.segment_builder.proofs.Texts.{text_entry, text_group, text_member, text_get, text_step, texts_at, fields_back, texts_some}
+use Rattle.segment_builder.proofs.Worded.{values_first, keywords_empty, numbers_empty, keywords_at, column_bytes, bytes_again}
 
 -- a document by its parts
 same_flat : (a b : FlatDocument) → a.scope ≡ b.scope → a.numbers ≡ b.numbers → a.keywords ≡ b.keywords → a.words ≡ b.words → a.texts ≡ b.texts → a ≡ b
@@ -40,41 +39,15 @@ same_flat a b scope numbers keywords words texts =
     let five : record a { scope = b.scope; numbers = b.numbers; keywords = b.keywords; words = b.words } ≡ b = ap (λ x. record b { texts = x }) texts in
     one ∙ two ∙ three ∙ four ∙ five
 
--- what each document adds is among what all add
-in_by_doc : {E : Type 0} (P : E → Type 0) (tag : ℕ → FlatDocument → List E) (n d : ℕ) (flats : List FlatDocument) (flat : FlatDocument) → slice_get flats d ≡ Some flat → AllByRecursion P (by_doc tag n flats) → AllByRecursion P (tag (n + d) flat)
-in_by_doc P tag n d [] flat is all = absurd (cc (is))
-in_by_doc P tag n zero (first ∷ flats) flat is all =
-    let here : first ≡ flat = cc (is) in
-    let e : n + zero ≡ n = omega arith in
-    rw (e, ← here) (each_left P (tag n first) (by_doc tag (n + 1) flats) all)
-in_by_doc P tag n (suc d) (first ∷ flats) flat is all =
-    let e : n + suc d ≡ n + 1 + d = omega arith in
-    rw e (in_by_doc P tag (n + 1) d flats flat is (each_right P (tag n first) (by_doc tag (n + 1) flats) all))
-
-module _ (it : EntriesState) (columns : Columns) (blocks : List BlockState) (is : it ≡ with_blocks no_entries blocks) (made : IsMade it columns) (own : AreColumns columns) where
+module _ (it : EntriesState) (columns : Columns) (blocks : List BlockState) (is : it ≡ with_blocks no_entries blocks) (made : IsMade it columns) where
   abbrev flats : List FlatDocument
   flats = flats_in blocks
 
-  numbers_are : it.numbers ≡ by_doc (λ doc flat. tagged doc flat.numbers) 0 flats
-  numbers_are = ap (λ (e : EntriesState). e.numbers) is ∙ blocks_add (λ doc flat. tagged doc flat.numbers) (λ e. e.numbers) (λ e f. refl) (λ e b. refl) blocks no_entries
-
-  keywords_are : it.keywords ≡ by_doc (λ doc flat. tagged doc flat.keywords) 0 flats
-  keywords_are = ap (λ (e : EntriesState). e.keywords) is ∙ blocks_add (λ doc flat. tagged doc flat.keywords) (λ e. e.keywords) (λ e f. refl) (λ e b. refl) blocks no_entries
-
-  words_are : it.words ≡ by_doc (λ doc flat. tagged doc flat.words) 0 flats
-  words_are = ap (λ (e : EntriesState). e.words) is ∙ blocks_add (λ doc flat. tagged doc flat.words) (λ e. e.words) (λ e f. refl) (λ e b. refl) blocks no_entries
-
   texts_are : map text_entry it.texts ≡ by_doc (λ doc flat. tagged doc (text_get flat)) 0 flats
-  texts_are = ap (λ (e : EntriesState). map text_entry e.texts) is ∙ blocks_add (λ doc flat. tagged doc (text_get flat)) (λ e. map text_entry e.texts) (λ e f. text_step (length e.scopes) e.texts f.texts) (λ e b. refl) blocks no_entries
-
-  scopes_are : it.scopes ≡ map (λ (flat : FlatDocument). flat.scope) flats
-  scopes_are = ap (λ (e : EntriesState). e.scopes) is ∙ scopes_of_blocks blocks no_entries
-
-  pub roots_are : roots_of columns ≡ map (λ (block : BlockState). block.root) blocks
-  roots_are = made.roots ∙ ap (λ (e : EntriesState). e.roots) is ∙ roots_of_blocks blocks no_entries
+  texts_are = ap (λ (e : EntriesState). map text_entry e.texts) is ∙ blocks_add (λ doc flat. tagged doc (text_get flat)) (λ e. map text_entry e.texts) (λ e f. text_step (length e.scopes) e.texts f.texts) blocks no_entries
 
   count : length flats ≡ columns.documents
-  count = sym (made.documents ∙ ap length scopes_are ∙ length-map flats (λ (flat : FlatDocument). flat.scope))
+  count = sym (made.documents ∙ ap length (scopes_are it blocks is) ∙ length-map flats (λ (flat : FlatDocument). flat.scope))
 
   module _ (d : ℕ) (flat : FlatDocument) (here : slice_get flats d ≡ Some flat) (form : IsOrdered flat) (inside : d < columns.documents) where
     from_zero : 0 + d ≡ d
@@ -83,22 +56,17 @@ module _ (it : EntriesState) (columns : Columns) (blocks : List BlockState) (is 
     numbers_at : values_at d columns.numbers ≡ flat.numbers
     numbers_at =
         shown nat_cmp nat_order columns.numbers it.numbers d flat.numbers
-        (λ key. ap (λ es. values_of d (of_key nat_cmp key es)) numbers_are ∙ (let found = at_doc nat_cmp nat_order (λ f. f.numbers) key 0 d flats flat here in rw from_zero at found))
-        (sorted_from_strictly_increasing (keys columns.numbers) own.parts.numbers_are.ascending) form.numbers.ascending (each_by (λ (entry : ℕ × List ℤ). has_some entry ≡ true) flat.numbers form.numbers.some)
-        (each_of (λ (group : ℕ × List (ℕ × List ℤ)). in_groups nat_cmp group.0 columns.numbers ≡ of_key nat_cmp group.0 it.numbers) (λ group. made.numbers group.0) columns.numbers)
-        (each_of (λ (entry : ℕ × List ℤ). in_groups nat_cmp entry.0 columns.numbers ≡ of_key nat_cmp entry.0 it.numbers) (λ entry. made.numbers entry.0) flat.numbers)
+        (λ key. ap (λ es. values_of d (of_key nat_cmp key es)) (numbers_are it blocks is) ∙ (let found = at_doc nat_cmp nat_order (λ f. f.numbers) key 0 d flats flat here in rw from_zero at found))
+        made.numbers form.numbers.ascending (each_by (λ (entry : ℕ × List ℤ). has_some entry ≡ true) flat.numbers form.numbers.some)
 
-    abbrev keyword_groups : List (ℕ × List (ℕ × List (List ℕ)))
-    keyword_groups = map (column_bytes (terms_of columns)) columns.ordinals
-
-    keywords_shown : at_document nat_cmp nat_order d keyword_groups ≡ flat.keywords
+    keywords_shown : at_document nat_cmp nat_order d made.keywords ≡ flat.keywords
     keywords_shown =
-        shown nat_cmp nat_order keyword_groups it.keywords d flat.keywords
-        (λ key. ap (λ es. values_of d (of_key nat_cmp key es)) keywords_are ∙ (let found = at_doc nat_cmp nat_order (λ f. f.keywords) key 0 d flats flat here in rw from_zero at found))
-        (subst (IsStrictlySortedBy nat_cmp) (sym (column_keys (terms_of columns) columns.ordinals)) (sorted_from_strictly_increasing (keys columns.ordinals) own.parts.ordinals_are.ascending))
-        form.keywords.ascending (each_by (λ (entry : ℕ × List (List ℕ)). has_some entry ≡ true) flat.keywords form.keywords.some)
-        (each_of (λ (group : ℕ × List (ℕ × List (List ℕ))). in_groups nat_cmp group.0 keyword_groups ≡ of_key nat_cmp group.0 it.keywords) (λ group. made.keywords group.0) keyword_groups)
-        (each_of (λ (entry : ℕ × List (List ℕ)). in_groups nat_cmp entry.0 keyword_groups ≡ of_key nat_cmp entry.0 it.keywords) (λ entry. made.keywords entry.0) flat.keywords)
+        shown nat_cmp nat_order made.keywords it.keywords d flat.keywords
+        (λ key. ap (λ es. values_of d (of_key nat_cmp key es)) (keywords_are it blocks is) ∙ (let found = at_doc nat_cmp nat_order (λ f. f.keywords) key 0 d flats flat here in rw from_zero at found))
+        made.keyword_groups form.keywords.ascending (each_by (λ (entry : ℕ × List (List ℕ)). has_some entry ≡ true) flat.keywords form.keywords.some)
+
+    keywords_here : map (column_bytes (terms_of columns)) columns.ordinals ≡ made.keywords
+    keywords_here = bytes_again (terms_of columns) columns.ordinals made.keywords made.ordinals
 
     abbrev term_groups : List ((ℕ × List ℕ) × List (ℕ × List ℕ))
     term_groups = map row_group columns.terms
@@ -110,29 +78,13 @@ module _ (it : EntriesState) (columns : Columns) (blocks : List BlockState) (is 
         ap (values_of d) parts
         ∙ values_first d (of_key term_cmp key it.words ++ of_key term_cmp key (keyword_terms it.keywords)) (of_key term_cmp key (number_terms it.numbers)) (numbers_empty key it.numbers)
         ∙ values_first d (of_key term_cmp key it.words) (of_key term_cmp key (keyword_terms it.keywords)) (keywords_empty key it.keywords)
-        ∙ ap (λ es. values_of d (of_key term_cmp key es)) words_are
+        ∙ ap (λ es. values_of d (of_key term_cmp key es)) (words_are it blocks is)
         ∙ (let found = at_doc term_cmp term_order (λ f. f.words) key 0 d flats flat here in rw from_zero at found)
-
-    abbrev IsGathered : ℕ × List ℕ → Type 0
-    IsGathered key = in_groups term_cmp key term_groups ≡ of_key term_cmp key (all_terms it)
-
-    words_gathered : AllByRecursion (λ (entry : (ℕ × List ℕ) × List ℕ). IsGathered entry.0) flat.words
-    words_gathered =
-        let all : AllByRecursion (λ (entry : (ℕ × List ℕ) × (ℕ × List ℕ)). IsGathered entry.0) (all_terms it) = each_by (λ (entry : (ℕ × List ℕ) × (ℕ × List ℕ)). IsGathered entry.0) (all_terms it) made.entries in
-        let words : AllByRecursion (λ (entry : (ℕ × List ℕ) × (ℕ × List ℕ)). IsGathered entry.0) it.words =
-        each_left (λ (entry : (ℕ × List ℕ) × (ℕ × List ℕ)). IsGathered entry.0) it.words (keyword_terms it.keywords)
-        (each_left (λ (entry : (ℕ × List ℕ) × (ℕ × List ℕ)). IsGathered entry.0) (it.words ++ keyword_terms it.keywords) (number_terms it.numbers) all) in
-        let docs : AllByRecursion (λ (entry : (ℕ × List ℕ) × (ℕ × List ℕ)). IsGathered entry.0) (by_doc (λ doc f. tagged doc f.words) 0 flats) =
-        subst (AllByRecursion (λ (entry : (ℕ × List ℕ) × (ℕ × List ℕ)). IsGathered entry.0)) words_are words in
-        in_document IsGathered (0 + d) flat.words (in_by_doc (λ (entry : (ℕ × List ℕ) × (ℕ × List ℕ)). IsGathered entry.0) (λ doc f. tagged doc f.words) 0 d flats flat here docs)
 
     words_shown : at_document term_cmp term_order d term_groups ≡ flat.words
     words_shown =
-        shown term_cmp term_order term_groups (all_terms it) d flat.words words_say
-        (subst (IsStrictlySortedBy term_cmp) (sym (map_twice (λ (group : (ℕ × List ℕ) × List (ℕ × List ℕ)). group.0) row_group columns.terms)) own.parts.terms_are.ascending)
+        shown term_cmp term_order term_groups (all_terms it) d flat.words words_say made.rows
         form.words.ascending (each_by (λ (word : (ℕ × List ℕ) × List ℕ). has_some word ≡ true) flat.words form.words.some)
-        (each_by (λ (group : (ℕ × List ℕ) × List (ℕ × List ℕ)). IsGathered group.0) term_groups made.rows)
-        words_gathered
 
     words_here : words_at d columns.terms ≡ flat.words
     words_here = ap (filter has_some) (sym (map_twice (λ (group : (ℕ × List ℕ) × List (ℕ × List ℕ)). (group.0, values_of d group.1)) row_group columns.terms)) ∙ words_shown
@@ -140,20 +92,14 @@ module _ (it : EntriesState) (columns : Columns) (blocks : List BlockState) (is 
     abbrev groups_of_texts : List (ℕ × List (ℕ × List ℕ))
     groups_of_texts = map text_group made.texts
 
-    texts_gather : (key : ℕ) → in_groups nat_cmp key groups_of_texts ≡ of_key nat_cmp key (map text_entry it.texts)
-    texts_gather key = in_texts key made.texts ∙ ap (map text_member) (made.text_groups key) ∙ sym (of_texts key it.texts)
-
-    fields_present : keys columns.present ≡ keys made.texts
-    fields_present = ap (map (λ (column : ℕ × List Bool). column.0)) made.present ∙ map_twice (λ (column : ℕ × List Bool). column.0) (λ (group : ℕ × List ℕ). (group.0, marks_of columns.documents group.1)) made.texts
+    texts_grouped : AreGroups nat_cmp (map text_entry it.texts) groups_of_texts
+    texts_grouped = regrouped nat_cmp nat_cmp (λ (field : ℕ). field) text_member (λ a b. refl) it.texts made.texts made.text_groups
 
     texts_shown : at_document nat_cmp nat_order d groups_of_texts ≡ text_get flat
     texts_shown =
         shown nat_cmp nat_order groups_of_texts (map text_entry it.texts) d (text_get flat)
         (λ key. ap (λ es. values_of d (of_key nat_cmp key es)) texts_are ∙ (let found = at_doc nat_cmp nat_order text_get key 0 d flats flat here in rw from_zero at found))
-        (subst (IsStrictlySortedBy nat_cmp) (fields_present ∙ sym (text_keys made.texts)) (sorted_from_strictly_increasing (keys columns.present) own.parts.present_are.ascending))
-        (subst (IsStrictlySortedBy nat_cmp) (sym (fields_back flat.texts)) form.texts) (texts_some flat.texts)
-        (each_of (λ (group : ℕ × List (ℕ × List ℕ)). in_groups nat_cmp group.0 groups_of_texts ≡ of_key nat_cmp group.0 (map text_entry it.texts)) (λ group. texts_gather group.0) groups_of_texts)
-        (each_of (λ (entry : ℕ × List ℕ). in_groups nat_cmp entry.0 groups_of_texts ≡ of_key nat_cmp entry.0 (map text_entry it.texts)) (λ entry. texts_gather entry.0) (text_get flat))
+        texts_grouped (subst (IsStrictlySortedBy nat_cmp) (sym (fields_back flat.texts)) form.texts) (texts_some flat.texts)
 
     texts_here : (flat_of columns d).texts ≡ flat.texts
     texts_here =
@@ -166,7 +112,7 @@ module _ (it : EntriesState) (columns : Columns) (blocks : List BlockState) (is 
     scope_known =
         let long : d < length flats = omega (arith, inside, count) in
         let at : get_or flats d flat ≡ flat = get_or_from_slice_get flats d flat flat here in
-        ap (λ ss. get_or ss d 0) scopes_are ∙ get_or-map (λ (f : FlatDocument). f.scope) flats d flat 0 long ∙ ap (λ (f : FlatDocument). f.scope) at
+        ap (λ ss. get_or ss d 0) (scopes_are it blocks is) ∙ get_or-map (λ (f : FlatDocument). f.scope) flats d flat 0 long ∙ ap (λ (f : FlatDocument). f.scope) at
 
     scope_within : flat.scope < length columns.scopes
     scope_within =
@@ -185,7 +131,7 @@ module _ (it : EntriesState) (columns : Columns) (blocks : List BlockState) (is 
     flat_is : ((scope doc : ℕ) → scope < length columns.scopes → doc < columns.documents → slice_index_or (slice_index_or columns.scopes scope []) doc false ≡ ((flat_of columns doc).scope == scope)) → flat_of columns d ≡ flat
     flat_is scoped =
         let scope : (flat_of columns d).scope ≡ flat.scope = eqb-true (flat_of columns d).scope flat.scope (sym (scoped flat.scope d scope_within inside) ∙ is_of_scope) in
-        same_flat (flat_of columns d) flat scope numbers_at (keywords_at (terms_of columns) d columns.ordinals ∙ keywords_shown) words_here texts_here
+        same_flat (flat_of columns d) flat scope numbers_at (keywords_at (terms_of columns) d columns.ordinals ∙ ap (at_document nat_cmp nat_order d) keywords_here ∙ keywords_shown) words_here texts_here
 
   no_flat : FlatDocument
   no_flat = record { scope = 0; numbers = []; keywords = []; words = []; texts = [] }

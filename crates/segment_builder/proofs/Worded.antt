@@ -1,5 +1,5 @@
 -- Words among all terms: keywords and numbers have no positions. Ordinals by the bytes of their terms.
-use Rattle.std.proofs.Common.{◌≡◌, ℕ, ℤ, ◌==◌, List, [], ◌∷◌, ◌++◌, map, nat_lt, refl, ap, ◌∙◌}
+use Rattle.std.proofs.Common.{◌≡◌, ℕ, ℤ, ◌==◌, List, [], ◌∷◌, ◌++◌, map, nat_lt, slice_get, Option, Some, refl, ap, ◌∙◌}
 use Rattle.std.proofs.lemmas.List.{length-map}
 use Rattle.std.specs.List.{AllByRecursion, filter}
 use Rattle.std.specs.Ordering.{nat_cmp, eq_by_cmp}
@@ -7,13 +7,15 @@ use Rattle.doc_values.specs.Values.{values_of}
 use Rattle.segment.specs.Flat.{has_some, bytes_at}
 use Rattle.term_table.specs.Keys.{number_key}
 use Rattle.term_table.specs.Terms.{term_cmp}
-use Rattle.segment_builder.specs.Columns.{row_bytes, column_bytes}
+use Rattle.segment_builder.specs.Columns.{column_terms, row_terms, named_row, named_group}
 use Rattle.segment_builder.specs.Groups.{of_key}
 use Rattle.segment_builder.specs.Terms.{terms_at, once, keyword_terms, number_terms}
+use Rattle.segment_builder.proofs.Among.{map_along}
+use Rattle.segment_builder.proofs.Found.{bytes_from}
 use Rattle.segment_builder.proofs.Keys.{split}
 use Rattle.segment_builder.proofs.Grown.{of_append}
 use Rattle.segment_builder.proofs.Merged.{at_document}
-use Rattle.segment_builder.proofs.Orders.{nat_order}
+use Rattle.segment_builder.proofs.Orders.{nat_order, pair_same}
 
 abbrev pub Empty : List (ℕ × List ℕ) → Type 0
 Empty rows = AllByRecursion (λ (row : ℕ × List ℕ). row.1 ≡ []) rows
@@ -57,6 +59,27 @@ numbers_empty key (entry ∷ entries) =
 
 -- ---- ordinals
 
+-- a row and a column of ordinals by the bytes of their terms
+abbrev pub row_bytes : List (ℕ × List ℕ) → ℕ × List ℕ → ℕ × List (List ℕ)
+row_bytes terms row = (row.0, map (bytes_at terms) row.1)
+
+abbrev pub column_bytes : List (ℕ × List ℕ) → ℕ × List (ℕ × List ℕ) → ℕ × List (ℕ × List (List ℕ))
+column_bytes terms column = (column.0, map (row_bytes terms) column.1)
+
+row_again : (terms : List (ℕ × List ℕ)) (field : ℕ) (row : ℕ × List ℕ) (own : ℕ × List (List ℕ)) → row_terms terms row ≡ named_row field own → row_bytes terms row ≡ own
+row_again terms field row own same =
+    pair_same (row_bytes terms row) own (ap (λ (r : ℕ × List (Option (ℕ × List ℕ))). r.0) same)
+    (map_along (slice_get terms) (λ (bytes : List ℕ). Some (field, bytes)) (bytes_at terms) (λ ordinal bytes there. bytes_from terms ordinal field bytes there) row.1 own.1 (ap (λ (r : ℕ × List (Option (ℕ × List ℕ))). r.1) same))
+
+column_again : (terms : List (ℕ × List ℕ)) (column : ℕ × List (ℕ × List ℕ)) (group : ℕ × List (ℕ × List (List ℕ))) → column_terms terms column ≡ named_group group → column_bytes terms column ≡ group
+column_again terms column group same =
+    pair_same (column_bytes terms column) group (ap (λ (c : ℕ × List (ℕ × List (Option (ℕ × List ℕ)))). c.0) same)
+    (map_along (row_terms terms) (named_row group.0) (row_bytes terms) (λ row own there. row_again terms group.0 row own there) column.1 group.1 (ap (λ (c : ℕ × List (ℕ × List (Option (ℕ × List ℕ)))). c.1) same))
+
+-- ordinals whose terms are keywords are these by their bytes
+pub bytes_again : (terms : List (ℕ × List ℕ)) (columns : List (ℕ × List (ℕ × List ℕ))) (groups : List (ℕ × List (ℕ × List (List ℕ)))) → map (column_terms terms) columns ≡ map named_group groups → map (column_bytes terms) columns ≡ groups
+bytes_again terms columns groups same = map_along (column_terms terms) named_group (column_bytes terms) (λ column group there. column_again terms column group there) columns groups same
+
 bytes_of_values : (terms : List (ℕ × List ℕ)) (d : ℕ) (rows : List (ℕ × List ℕ)) → values_of d (map (row_bytes terms) rows) ≡ map (bytes_at terms) (values_of d rows)
 bytes_of_values terms d [] = refl
 bytes_of_values terms d (row ∷ rows) =
@@ -75,7 +98,3 @@ keywords_at terms d (column ∷ columns) =
     (split (has_some (column.0, values_of d column.1))
     (λ is. rw (is, long ∙ is) (ap (λ rest. (column.0, map (bytes_at terms) (values_of d column.1)) ∷ rest) (keywords_at terms d columns)))
     (λ isnt. rw (isnt, long ∙ isnt) (keywords_at terms d columns)))
-
-pub column_keys : (terms : List (ℕ × List ℕ)) (columns : List (ℕ × List (ℕ × List ℕ))) → map (λ (column : ℕ × List (ℕ × List (List ℕ))). column.0) (map (column_bytes terms) columns) ≡ map (λ (column : ℕ × List (ℕ × List ℕ)). column.0) columns
-column_keys terms [] = refl
-column_keys terms (column ∷ columns) = ap (λ rest. column.0 ∷ rest) (column_keys terms columns)

@@ -1,5 +1,5 @@
 -- The blocks of an entry: the documents of its segment, cut behind each root, each with its root and whether it is live.
-use Rattle.std.specs.Prelude.{ℕ, ◌-◌, ◌==◌, Bool, false, List, [], ◌∷◌, ◌++◌, if◌then◌else◌}
+use Rattle.std.specs.Prelude.{ℕ, ◌-◌, ◌==◌, Bool, false, List, [], ◌∷◌, ◌++◌, if◌then◌else◌, length, sum_by}
 use Rattle.flattener.specs.Block.{BlockState, block_of}
 use Rattle.flattener.specs.StandsFor.{Marked}
 use Rattle.segment.specs.Flat.{FlatDocument, FlatRoot, flats_of, roots_of}
@@ -18,6 +18,13 @@ cut_from front (flat ∷ flats) (root ∷ roots) =
 
 unfoldable pub blocks_of : Columns → List BlockState
 blocks_of columns = cut_from [] (flats_of columns) (roots_of columns)
+
+-- how many objects a block has, its root included, and blocks have together
+abbrev pub block_objects : BlockState → ℕ
+block_objects block = length block.flats
+
+abbrev pub objects_of : List BlockState → ℕ
+objects_of blocks = sum_by block_objects blocks
 
 abbrev pub marked_by : List BlockState → List Bool → List (Marked BlockState)
 marked_by [] marks = []

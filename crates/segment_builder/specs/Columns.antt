@@ -1,17 +1,53 @@
 -- Columns made of groups.
-use Rattle.std.specs.Prelude.{ℕ, Bool, true, false, List, [], ◌∷◌, map, replicate, slice_set}
-use Rattle.segment.specs.Flat.{bytes_at}
+use denote.Ref.{Bor}
+use Rattle.std.specs.Prelude.{ℕ, ℤ, Bool, true, false, List, [], ◌∷◌, map, replicate, slice_get, slice_set, Contains, Option, Some, Vec}
+use Rattle.std.specs.Cmp.Lexicographic.{slice_cmp}
+use Rattle.std.specs.Ordering.{nat_cmp}
+use Rattle.doc_values.specs.Stands.{IsColumn}
 use Rattle.term_table.specs.declared.rows.TermRow.{TermRow}
+use Rattle.segment_builder.specs.Entries.{bytes_lent}
 
 abbrev pub terms_in : List TermRow → List (ℕ × List ℕ)
 terms_in rows = map (λ (row : TermRow). row.term) rows
 
--- a row and a column of ordinals by the bytes of their terms
-abbrev pub row_bytes : List (ℕ × List ℕ) → ℕ × List ℕ → ℕ × List (List ℕ)
-row_bytes terms row = (row.0, map (bytes_at terms) row.1)
+-- ---- rows that are lent
 
-abbrev pub column_bytes : List (ℕ × List ℕ) → ℕ × List (ℕ × List ℕ) → ℕ × List (ℕ × List (List ℕ))
-column_bytes terms column = (column.0, map (row_bytes terms) column.1)
+abbrev pub number_rows : List (ℕ × Bor (List ℤ)) → List (ℕ × List ℤ)
+number_rows rows = map (λ (row : ℕ × Bor (List ℤ)). (row.0, row.1.now)) rows
+
+abbrev pub keyword_rows : {A : Type 0} → List (ℕ × Bor (List (Vec ℕ A))) → List (ℕ × List (List ℕ))
+keyword_rows {A} rows = map (λ (row : ℕ × Bor (List (Vec ℕ A))). (row.0, bytes_lent row.1.now)) rows
+
+abbrev pub number_groups : {A : Type 0} → List (ℕ × Vec (ℕ × Bor (List ℤ)) A) → List (ℕ × List (ℕ × List ℤ))
+number_groups {A} groups = map (λ (group : ℕ × Vec (ℕ × Bor (List ℤ)) A). (group.0, number_rows group.1.items)) groups
+
+abbrev pub keyword_groups : {A B : Type 0} → List (ℕ × Vec (ℕ × Bor (List (Vec ℕ A))) B) → List (ℕ × List (ℕ × List (List ℕ)))
+keyword_groups {A} {B} groups = map (λ (group : ℕ × Vec (ℕ × Bor (List (Vec ℕ A))) B). (group.0, keyword_rows group.1.items)) groups
+
+-- ---- ordinals
+
+-- the terms at ordinals
+abbrev pub row_terms : List (ℕ × List ℕ) → ℕ × List ℕ → ℕ × List (Option (ℕ × List ℕ))
+row_terms terms row = (row.0, map (slice_get terms) row.1)
+
+abbrev pub column_terms : List (ℕ × List ℕ) → ℕ × List (ℕ × List ℕ) → ℕ × List (ℕ × List (Option (ℕ × List ℕ)))
+column_terms terms column = (column.0, map (row_terms terms) column.1)
+
+-- keywords as terms of their field
+abbrev pub named : ℕ → List (List ℕ) → List (Option (ℕ × List ℕ))
+named field values = map (λ bytes. Some (field, bytes)) values
+
+abbrev pub named_row : ℕ → ℕ × List (List ℕ) → ℕ × List (Option (ℕ × List ℕ))
+named_row field row = (row.0, named field row.1)
+
+abbrev pub named_group : ℕ × List (ℕ × List (List ℕ)) → ℕ × List (ℕ × List (Option (ℕ × List ℕ)))
+named_group group = (group.0, map (named_row group.0) group.1)
+
+-- keywords of a field whose terms are all there
+abbrev pub IsKeywordColumn : List (ℕ × List ℕ) → ℕ × List (ℕ × List (List ℕ)) → Type 0
+IsKeywordColumn terms group = IsColumn (slice_cmp nat_cmp) (λ bytes. Contains terms (group.0, bytes)) group
+
+-- ---- text fields
 
 -- flags with the flags of these documents set
 abbrev pub with_marks : List Bool → List ℕ → List Bool

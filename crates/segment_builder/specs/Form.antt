@@ -1,9 +1,11 @@
--- Documents that can be written: what each carries comes in order, and no list that it carries is empty.
-use Rattle.std.specs.Prelude.{ℕ, List, map}
+-- Documents that can be written: what each carries comes in order, no list that it carries is empty, and a document with a
+-- word of a text field has a value of the field.
+use Rattle.std.specs.Prelude.{◌≡◌, ℕ, ℤ, ◌<◌, ◌^◌, true, List, map, Contains, FitsSigned}
+use Rattle.std.specs.Int.{w64}
+use Rattle.std.specs.Cmp.Lexicographic.{slice_cmp}
 use Rattle.std.specs.List.{All}
-use Rattle.std.specs.List.Sorted.{IsStrictlySortedBy}
-use Rattle.std.specs.Ordering.{nat_cmp}
-use Rattle.std.specs.Prelude.{◌≡◌, true}
+use Rattle.std.specs.List.Sorted.{IsSorted, IsStrictlyIncreasing, IsStrictlySortedBy}
+use Rattle.std.specs.Ordering.{int_cmp, nat_cmp}
 use Rattle.segment.specs.Flat.{FlatDocument, has_some}
 use Rattle.term_table.specs.Terms.{term_cmp}
 
@@ -22,3 +24,12 @@ pub record IsOrdered (flat : FlatDocument) : Type 0 where
   pub keywords : IsByField flat.keywords
   pub words : IsByTerm flat.words
   pub texts : IsStrictlySortedBy nat_cmp flat.texts
+  pub numbers_rise : All (λ (entry : ℕ × List ℤ). IsSorted int_cmp entry.1) flat.numbers
+  pub keywords_rise : All (λ (entry : ℕ × List (List ℕ)). IsSorted (slice_cmp nat_cmp) entry.1) flat.keywords
+  pub positions_rise : All (λ (word : (ℕ × List ℕ) × List ℕ). IsStrictlyIncreasing word.1) flat.words
+  pub valued : All (λ (word : (ℕ × List ℕ) × List ℕ). Contains flat.texts word.0.0) flat.words
+
+-- what a document carries fits its types, as it does where it was made
+pub record IsFit (flat : FlatDocument) : Type 0 where
+  pub numbers : All (λ (entry : ℕ × List ℤ). All (FitsSigned w64) entry.1) flat.numbers
+  pub positions : All (λ (word : (ℕ × List ℕ) × List ℕ). All (λ position. position < 2 ^ 32) word.1) flat.words

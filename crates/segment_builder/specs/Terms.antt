@@ -1,4 +1,5 @@
 -- The terms of keyword and number fields, from the entries of documents.
+use denote.Ref.{Bor}
 use Rattle.std.specs.Prelude.{ℕ, ℤ, List, [], ◌∷◌, ◌++◌, map, if◌then◌else◌, Vec}
 use Rattle.std.specs.Str.{bytes_eq}
 use Rattle.term_table.specs.Keys.{number_key}
@@ -29,10 +30,18 @@ abbrev pub number_terms : List (ℕ × (ℕ × List ℤ)) → List ((ℕ × List
 number_terms [] = []
 number_terms (entry ∷ entries) = terms_at entry.0 entry.1.0 (once (map number_key entry.1.1)) ++ number_terms entries
 
+-- the keys of numbers, as they are kept until they are written
+abbrev pub keys_kept : List (ℕ × (ℕ × List ℕ)) → List ((ℕ × List ℕ) × (ℕ × List ℕ))
+keys_kept keys = map (λ (entry : ℕ × (ℕ × List ℕ)). ((entry.0, entry.1.1), (entry.1.0, []))) keys
+
 -- a row as the group of its term
 abbrev pub row_group : TermRow → (ℕ × List ℕ) × List (ℕ × List ℕ)
 row_group row = (row.term, row.postings)
 
+-- lent postings
+abbrev pub postings_lent : List (ℕ × Bor (List ℕ)) → List (ℕ × List ℕ)
+postings_lent postings = map (λ (posting : ℕ × Bor (List ℕ)). (posting.0, posting.1.now)) postings
+
 -- groups of postings by the bytes of their terms
-abbrev pub rows_seen : {A B : Type 0} → List ((ℕ × Vec ℕ A) × Vec (ℕ × List ℕ) B) → List ((ℕ × List ℕ) × List (ℕ × List ℕ))
-rows_seen {A} {B} groups = map (λ (group : (ℕ × Vec ℕ A) × Vec (ℕ × List ℕ) B). ((group.0.0, group.0.1.items), group.1.items)) groups
+abbrev pub rows_lent : {A : Type 0} → List ((ℕ × Bor (List ℕ)) × Vec (ℕ × Bor (List ℕ)) A) → List ((ℕ × List ℕ) × List (ℕ × List ℕ))
+rows_lent {A} groups = map (λ (group : (ℕ × Bor (List ℕ)) × Vec (ℕ × Bor (List ℕ)) A). ((group.0.0, group.0.1.now), postings_lent group.1.items)) groups

@@ -1,39 +1,35 @@
 //! A term among rows that stand in order.
 
-ghost use Rattle.std.specs.Prelude.{◌≡◌, true, slice_get, Some, IfSome};
+ghost use Rattle.std.specs.Prelude.{◌≡◌, slice_get, Some, Contains};
+ghost use Rattle.std.specs.Ordering.{is_gt};
+ghost use Rattle.term_table.specs.Terms.{AreAscending, term_cmp};
 ghost use Rattle.segment_builder.specs.Columns.{terms_in};
 
 use term_table::TermRow;
 
-/// The place of a term.
-pub(crate) fn find(rows: &[TermRow], field: u32, bytes: &[u8]) -> Option<usize>
-    ensures { IfSome result (λ at. slice_get (terms_in rows.now) at ≡ Some (field, bytes.now)) }
+/// The place of a term that is there.
+pub(crate) fn find(rows: &[TermRow], field: u32, bytes: &[u8]) -> usize
+    requires ascending { AreAscending (terms_in rows.now) }
+    requires there { Contains (terms_in rows.now) (field, bytes.now) }
+    ensures { slice_get (terms_in rows.now) result ≡ Some (field, bytes.now) }
 {
     let mut low = 0;
     let mut high = rows.len();
-    'places: while low < high {
+    'places: while high - low > 1 {
         let middle = low + (high - low) / 2;
-        if is_before(&rows[middle], field, bytes) {
-            low = middle + 1;
-        } else {
+        if is_after(&rows[middle], field, bytes) {
             high = middle;
+        } else {
+            low = middle;
         }
     }
-    if low < rows.len() && is_term(&rows[low], field, bytes) {
-        Some(low)
-    } else {
-        None
-    }
+    low
 }
 
-/// Whether a row's term comes before another.
-fn is_before(row: &TermRow, field: u32, bytes: &[u8]) -> bool {
-    row.term.0 < field || (row.term.0 == field && row.term.1.as_slice().cmp(bytes).is_lt())
-}
-
-/// Whether a row is of a term.
-fn is_term(row: &TermRow, field: u32, bytes: &[u8]) -> bool
-    ensures { result ≡ true → row.now.term ≡ (field, bytes.now) }
+/// Whether a row's term comes after another.
+fn is_after(row: &TermRow, field: u32, bytes: &[u8]) -> bool
+    ensures { result ≡ is_gt (term_cmp row.now.term (field, bytes.now)) }
 {
-    row.term.0 == field && row.term.1.as_slice() == bytes
+    let (own, term) = &row.term;
+    own.cmp(&field).then(term.as_slice().cmp(bytes)).is_gt()
 }

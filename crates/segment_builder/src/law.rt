@@ -1,12 +1,16 @@
 //! What the blocks of an entry say of trees, as laws for the crates above: call the function where you need its clauses.
 
-ghost use Rattle.std.specs.Prelude.{◌≡◌, ℕ, List, map};
+ghost use Rattle.std.specs.Prelude.{◌≡◌, ◌+◌, ℕ, List, count_by, filter, length, map, slice_get, Some};
+ghost use Rattle.block_bits.specs.Flags.{is_marked};
+ghost use Rattle.flattener.specs.Block.{BlockState};
 ghost use Rattle.flattener.specs.StandsFor.{Marked, EntryStandsFor};
 ghost use Rattle.mapping.specs.IsMapping.{IsMapping};
 ghost use Rattle.mapping.specs.Mapping.{Mapping};
-ghost use Rattle.segment.specs.Live.{IsLiveOver, LiveState, killed};
+ghost use Rattle.segment.specs.Flat.{roots_of};
+ghost use Rattle.segment.specs.Live.{IsLiveOver, LiveState, block_end, block_start, killed};
 ghost use Rattle.segment_parts.specs.declared.columns.Columns.{Columns};
-ghost use Rattle.segment_builder.specs.Blocks.{blocks_of, marked_by, block_of_marked, dead_at};
+ghost use Rattle.segment_builder.specs.Blocks.{blocks_of, marked_by, block_of_marked, dead_at, objects_of};
+ghost use Rattle.layout.specs.Layout.{is_live, item_in};
 ghost use Rattle.tree_objects.specs.Tree.{Tree};
 
 use segment::{LiveBits, Segment, scopes_are_of_documents};
@@ -26,3 +30,14 @@ pub fn blocks_stand_for_trees(segment: &Segment, live: &LiveBits)
 pub fn deaths_mark_blocks()
     ensures { (columns : Columns) (root : ℕ) (live : LiveState) → marked_by (blocks_of columns) (killed columns root live).roots ≡ dead_at root (marked_by (blocks_of columns) live.roots) }
 {}
+
+/// The blocks of a segment have its roots, in order; each has as many documents as stand from where it begins to where it ends;
+/// and as many documents are live as its live blocks have. Does nothing.
+pub fn blocks_are_whole(segment: &Segment)
+    ensures roots { map (λ (block : BlockState). block.root) (blocks_of segment.now) ≡ roots_of segment.now }
+    ensures lengths { (root : ℕ) (block : BlockState) → slice_get (blocks_of segment.now) root ≡ Some block → block_start segment.now.scopes root + length block.flats ≡ block_end segment.now.scopes root }
+    ensures live { (live : LiveState) → IsLiveOver segment.now live → count_by is_marked live.docs ≡ objects_of (map item_in (filter is_live (marked_by (blocks_of segment.now) live.roots))) }
+{
+    let _ = segment.docs();
+    scopes_are_of_documents(segment);
+}

@@ -9,17 +9,18 @@
 mod assemble;
 mod entries;
 mod find;
+mod fit;
 mod grouped;
-mod keywords;
 mod law;
 mod numbers;
 mod ordinals;
 mod present;
 mod refusal;
+mod roots;
 mod rows;
 mod scopes;
 mod terms;
 
 pub use assemble::built;
-pub use law::{blocks_stand_for_trees, deaths_mark_blocks};
-pub use refusal::BuildRefusal;
+pub use law::{blocks_are_whole, blocks_stand_for_trees, deaths_mark_blocks};
+pub use refusal::NoMemory;

@@ -1,40 +1,31 @@
-//! Why there is no segment.
+//! What there is no memory for.
 
 use std::alloc::{AllocError, AllocFailed};
 
-/// Why blocks give no segment.
+/// Memory ran out.
 #[derive(Clone, Copy, Debug, PartialEq, Eq)]
-pub enum BuildRefusal {
-    /// A test of the columns failed, or there is no block. Blocks that fit a mapping make columns that pass; that this is so
-    /// isn't proved yet.
-    NotASegment,
-    /// Memory ran out.
-    NoMemory,
-}
+pub struct NoMemory;
 
-impl From<AllocError> for BuildRefusal {
-    fn from(_: AllocError) -> BuildRefusal {
-        BuildRefusal::NoMemory
+impl From<AllocError> for NoMemory {
+    fn from(_: AllocError) -> NoMemory {
+        NoMemory
     }
 }
 
-impl<T: Drop> From<AllocFailed<T>> for BuildRefusal {
-    fn from(_: AllocFailed<T>) -> BuildRefusal {
-        BuildRefusal::NoMemory
+impl<T: Drop> From<AllocFailed<T>> for NoMemory {
+    fn from(_: AllocFailed<T>) -> NoMemory {
+        NoMemory
     }
 }
 
-impl From<block_bits::NoMemory> for BuildRefusal {
-    fn from(_: block_bits::NoMemory) -> BuildRefusal {
-        BuildRefusal::NoMemory
+impl From<block_bits::NoMemory> for NoMemory {
+    fn from(_: block_bits::NoMemory) -> NoMemory {
+        NoMemory
     }
 }
 
-impl From<segment::SegmentRefusal> for BuildRefusal {
-    fn from(refusal: segment::SegmentRefusal) -> BuildRefusal {
-        match refusal {
-            segment::SegmentRefusal::NotASegment => BuildRefusal::NotASegment,
-            segment::SegmentRefusal::NoMemory => BuildRefusal::NoMemory,
-        }
+impl From<segment::NoMemory> for NoMemory {
+    fn from(_: segment::NoMemory) -> NoMemory {
+        NoMemory
     }
 }

@@ -1,156 +1,188 @@
 //! The terms of keyword and number fields.
 
-ghost use Rattle.std.specs.Prelude.{◌≡◌, ◌++◌, ◌∷◌, [], map, OnOk};
+ghost use Rattle.std.specs.Prelude.{◌≡◌, ◌++◌, ◌∷◌, [], map, IfOk, OnOk};
 ghost use Rattle.term_table.specs.Keys.{number_key};
-ghost use Rattle.segment_builder.specs.Entries.{words_seen};
-ghost use Rattle.segment_builder.specs.Terms.{terms_at, unless_same, once_after, once, keyword_terms, number_terms};
+ghost use Rattle.segment_builder.specs.Entries.{bytes_lent, keywords_lent, numbers_lent, words_lent};
+ghost use Rattle.segment_builder.specs.Terms.{terms_at, unless_same, once_after, once, keyword_terms, keys_kept, number_terms};
 
-use crate::BuildRefusal;
-use crate::keywords::Keywords;
-use doc_values::ValueList;
+use crate::NoMemory;
 use std::alloc::Global;
-use term_table::{PositionList, number_key};
+use term_table::number_key;
+
+/// Adds the words of all documents to the terms.
+pub(crate) fn add_word_terms<'a>(
+    words: &[((u32, &'a [u8]), (u32, &'a [u32]))],
+    into: &mut Vec<((u32, &'a [u8]), (u32, &'a [u32]))>,
+) -> Result<(), NoMemory>
+    ensures { OnOk result (words_lent into.new.items ≡ words_lent into.old.items ++ words_lent words.now) }
+{
+    'words: for word in words {
+        into.push(*word)?;
+    }
+    Ok(())
+}
 
 /// Adds the keywords of all documents to the terms.
-pub(crate) fn add_keyword_terms(
-    alloc: Global,
-    keywords: &[(u32, (u32, Keywords))],
-    into: &mut Vec<((u32, Vec<u8>), (u32, PositionList))>,
-) -> Result<(), BuildRefusal>
-    ensures { OnOk result (words_seen into.new.items ≡ words_seen into.old.items ++ keyword_terms keywords.now) }
+pub(crate) fn add_keyword_terms<'a>(
+    keywords: &[(u32, (u32, &'a [Vec<u8>]))],
+    into: &mut Vec<((u32, &'a [u8]), (u32, &'a [u32]))>,
+) -> Result<(), NoMemory>
+    ensures { OnOk result (words_lent into.new.items ≡ words_lent into.old.items ++ keyword_terms (keywords_lent keywords.now)) }
 {
     'entries: for (field, (doc, values)) in keywords {
-        add_keywords(alloc, *field, *doc, values.as_slice(), into)?;
+        add_keywords(*field, *doc, *values, into)?;
     }
     Ok(())
 }
 
 /// Adds the keywords of a field in one document, each once.
-fn add_keywords(
-    alloc: Global,
+fn add_keywords<'a>(
     field: u32,
     doc: u32,
-    values: &[Vec<u8>],
-    into: &mut Vec<((u32, Vec<u8>), (u32, PositionList))>,
-) -> Result<(), BuildRefusal>
-    ensures { OnOk result (words_seen into.new.items ≡ words_seen into.old.items ++ terms_at field doc (once (map (λ bytes. bytes.items) values.now))) }
+    values: &'a [Vec<u8>],
+    into: &mut Vec<((u32, &'a [u8]), (u32, &'a [u32]))>,
+) -> Result<(), NoMemory>
+    ensures { OnOk result (words_lent into.new.items ≡ words_lent into.old.items ++ terms_at field doc (once (bytes_lent values.now))) }
 {
     match values {
         [] => Ok(()),
         [first, rest @ ..] => {
-            add_term(alloc, field, doc, first.as_slice(), into)?;
-            add_later_keywords(alloc, field, doc, first.as_slice(), rest, into)?;
+            add_term(field, doc, first.as_slice(), into)?;
+            add_later_keywords(field, doc, first.as_slice(), rest, into)?;
             Ok(())
         }
     }
 }
 
 /// Adds keywords that come behind one, each once.
-fn add_later_keywords(
-    alloc: Global,
+fn add_later_keywords<'a>(
     field: u32,
     doc: u32,
     first: &[u8],
-    rest: &[Vec<u8>],
-    into: &mut Vec<((u32, Vec<u8>), (u32, PositionList))>,
-) -> Result<(), BuildRefusal>
-    ensures { OnOk result (words_seen into.new.items ≡ words_seen into.old.items ++ terms_at field doc (once_after first.now (map (λ bytes. bytes.items) rest.now))) }
+    rest: &'a [Vec<u8>],
+    into: &mut Vec<((u32, &'a [u8]), (u32, &'a [u32]))>,
+) -> Result<(), NoMemory>
+    ensures { OnOk result (words_lent into.new.items ≡ words_lent into.old.items ++ terms_at field doc (once_after first.now (bytes_lent rest.now))) }
 {
     let mut last = first;
     'rest: for value in rest {
-        add_unless_same(alloc, field, doc, last, value.as_slice(), into)?;
+        add_unless_same(field, doc, last, value.as_slice(), into)?;
         last = value.as_slice();
     }
     Ok(())
 }
 
-/// Adds the numbers of all documents to the terms, by their keys.
-pub(crate) fn add_number_terms(
-    alloc: Global,
-    numbers: &[(u32, (u32, ValueList<i64>))],
-    into: &mut Vec<((u32, Vec<u8>), (u32, PositionList))>,
-) -> Result<(), BuildRefusal>
-    ensures { OnOk result (words_seen into.new.items ≡ words_seen into.old.items ++ number_terms numbers.now) }
-{
-    'entries: for (field, (doc, values)) in numbers {
-        add_numbers(alloc, *field, *doc, values.as_slice(), into)?;
-    }
-    Ok(())
-}
-
-/// Adds the numbers of a field in one document, each once.
-fn add_numbers(
-    alloc: Global,
-    field: u32,
-    doc: u32,
-    values: &[i64],
-    into: &mut Vec<((u32, Vec<u8>), (u32, PositionList))>,
-) -> Result<(), BuildRefusal>
-    ensures { OnOk result (words_seen into.new.items ≡ words_seen into.old.items ++ terms_at field doc (once (map number_key values.now))) }
-{
-    match values {
-        [] => Ok(()),
-        [first, rest @ ..] => {
-            let key = number_key(*first);
-            add_term(alloc, field, doc, key.as_slice(), into)?;
-            add_later_numbers(alloc, field, doc, key, rest, into)?;
-            Ok(())
-        }
-    }
-}
-
-/// Adds numbers that come behind one, each once.
-fn add_later_numbers(
-    alloc: Global,
-    field: u32,
-    doc: u32,
-    first: [u8; 8],
-    rest: &[i64],
-    into: &mut Vec<((u32, Vec<u8>), (u32, PositionList))>,
-) -> Result<(), BuildRefusal>
-    ensures { OnOk result (words_seen into.new.items ≡ words_seen into.old.items ++ terms_at field doc (once_after first (map number_key rest.now))) }
-{
-    let mut last = first;
-    'rest: for value in rest {
-        let key = number_key(*value);
-        add_unless_same(alloc, field, doc, last.as_slice(), key.as_slice(), into)?;
-        last = key;
-    }
-    Ok(())
-}
-
 /// Adds a term without positions, unless it is the one before it.
-fn add_unless_same(
-    alloc: Global,
+fn add_unless_same<'a>(
     field: u32,
     doc: u32,
     last: &[u8],
-    value: &[u8],
-    into: &mut Vec<((u32, Vec<u8>), (u32, PositionList))>,
-) -> Result<(), BuildRefusal>
-    ensures { OnOk result (words_seen into.new.items ≡ words_seen into.old.items ++ terms_at field doc (unless_same last.now value.now)) }
+    value: &'a [u8],
+    into: &mut Vec<((u32, &'a [u8]), (u32, &'a [u32]))>,
+) -> Result<(), NoMemory>
+    ensures { OnOk result (words_lent into.new.items ≡ words_lent into.old.items ++ terms_at field doc (unless_same last.now value.now)) }
 {
     if value == last {
         Ok(())
     } else {
-        add_term(alloc, field, doc, value, into)?;
+        add_term(field, doc, value, into)?;
         Ok(())
     }
 }
 
 /// Adds a term without positions.
-fn add_term(
-    alloc: Global,
+fn add_term<'a>(
     field: u32,
     doc: u32,
-    bytes: &[u8],
-    into: &mut Vec<((u32, Vec<u8>), (u32, PositionList))>,
-) -> Result<(), BuildRefusal>
-    ensures { OnOk result (words_seen into.new.items ≡ words_seen into.old.items ++ terms_at field doc (bytes.now ∷ [])) }
+    bytes: &'a [u8],
+    into: &mut Vec<((u32, &'a [u8]), (u32, &'a [u32]))>,
+) -> Result<(), NoMemory>
+    ensures { OnOk result (words_lent into.new.items ≡ words_lent into.old.items ++ terms_at field doc (bytes.now ∷ [])) }
 {
-    into.push((
-        (field, bytes.to_vec(alloc)?),
-        (doc, PositionList::of(Vec::new(alloc))),
-    ))?;
+    into.push(((field, bytes), (doc, &[])))?;
+    Ok(())
+}
+
+/// The keys of the numbers of all documents, each once in a document.
+pub(crate) fn number_keys(
+    alloc: Global,
+    numbers: &[(u32, (u32, &[i64]))],
+) -> Result<Vec<(u32, (u32, [u8; 8]))>, NoMemory>
+    ensures { IfOk result (λ keys. keys_kept keys.items ≡ number_terms (numbers_lent numbers.now)) }
+{
+    let mut keys = Vec::new(alloc);
+    'entries: for (field, (doc, values)) in numbers {
+        add_keys(*field, *doc, *values, &mut keys)?;
+    }
+    Ok(keys)
+}
+
+/// Adds the keys of the numbers of a field in one document, each once.
+fn add_keys(
+    field: u32,
+    doc: u32,
+    values: &[i64],
+    into: &mut Vec<(u32, (u32, [u8; 8]))>,
+) -> Result<(), NoMemory>
+    ensures { OnOk result (keys_kept into.new.items ≡ keys_kept into.old.items ++ terms_at field doc (once (map number_key values.now))) }
+{
+    match values {
+        [] => Ok(()),
+        [first, rest @ ..] => {
+            let key = number_key(*first);
+            into.push((field, (doc, key)))?;
+            add_later_keys(field, doc, key, rest, into)?;
+            Ok(())
+        }
+    }
+}
+
+/// Adds the keys of numbers that come behind one, each once.
+fn add_later_keys(
+    field: u32,
+    doc: u32,
+    first: [u8; 8],
+    rest: &[i64],
+    into: &mut Vec<(u32, (u32, [u8; 8]))>,
+) -> Result<(), NoMemory>
+    ensures { OnOk result (keys_kept into.new.items ≡ keys_kept into.old.items ++ terms_at field doc (once_after first (map number_key rest.now))) }
+{
+    let mut last = first;
+    'rest: for value in rest {
+        let key = number_key(*value);
+        add_key_unless_same(field, doc, last, key, into)?;
+        last = key;
+    }
+    Ok(())
+}
+
+/// Adds a key, unless it is the one before it.
+fn add_key_unless_same(
+    field: u32,
+    doc: u32,
+    last: [u8; 8],
+    key: [u8; 8],
+    into: &mut Vec<(u32, (u32, [u8; 8]))>,
+) -> Result<(), NoMemory>
+    ensures { OnOk result (keys_kept into.new.items ≡ keys_kept into.old.items ++ terms_at field doc (unless_same last key)) }
+{
+    if key.as_slice() == last.as_slice() {
+        Ok(())
+    } else {
+        into.push((field, (doc, key)))?;
+        Ok(())
+    }
+}
+
+/// Adds the keys of numbers to the terms.
+pub(crate) fn add_number_terms<'a>(
+    keys: &'a [(u32, (u32, [u8; 8]))],
+    into: &mut Vec<((u32, &'a [u8]), (u32, &'a [u32]))>,
+) -> Result<(), NoMemory>
+    ensures { OnOk result (words_lent into.new.items ≡ words_lent into.old.items ++ keys_kept keys.now) }
+{
+    'keys: for (field, (doc, key)) in keys {
+        into.push(((*field, key.as_slice()), (*doc, &[])))?;
+    }
     Ok(())
 }

@@ -1,4 +1,4 @@
-use Rattle.std.proofs.Common.{◌≡◌, ◌≤◌, ◌-◌, ◌++◌, ◌∷◌, [], length, true, false, slice_get, arith, ap, sym, subst, ◌∙◌}
+use Rattle.std.proofs.Common.{◌≡◌, ◌-◌, ◌++◌, ◌∷◌, [], length, true, false, slice_get, arith, ap, sym, subst, ◌∙◌}
 use Rattle.hit_order.specs.Indexed.{is_before, is_wanted, IsSelecting}
 use Rattle.hit_order.proofs.Cutting.{Laws, laws_of, selecting_passed, selecting_kept, selecting_cut}
 use Rattle.hit_order.proofs.selection.hold.Goals as goal

@@ -1,16 +1,22 @@
-use Rattle.std.proofs.Common.{◌≡◌, ◌<◌, ◌≤◌, ◌&&◌, ℕ, Bool, true, false, List, length, map, drop, Option, Some, None, refl, sym, ap, subst, ◌∙◌, arith}
+use Rattle.std.proofs.Common.{rules, ◌≡◌, ◌<◌, ◌≤◌, ◌&&◌, ℕ, Bool, true, false, List, length, map, drop, Option, Some, None, refl, sym, ap, subst, ◌∙◌, arith}
+use Rattle.std.specs.Prelude.{IsSome}
 use Rattle.std.proofs.lemmas.Bool.{and_parts}
 use Rattle.std.proofs.lemmas.List.{length-map}
 use Rattle.block_join.specs.declared.rule.Rule.TheVariants.{Both, Kept, Without, Plus, Either, Greatest, Counted}
-use Rattle.mapping.specs.Mapping.{IsAbove}
+use Rattle.leaf_search.specs.Found.{leaf_of}
 use Rattle.query_ast.specs.Clause.{Clause, Clauses, clauses_of, match_all, match_none, nested, to_child, has_child, has_parent}
 use Rattle.query_ast.specs.Clause.View.{clause_of}
 use Rattle.query_ast.specs.Resolved.{IsResolved}
 use Rattle.query_eval.specs.Folds.{asked_by, folded_by, is_empty, leaf_score, paired_by, whatever}
 use Rattle.query_eval.specs.Found.{IsFound, IsSeen, score_by}
 use Rattle.query_eval.specs.Sides.{children_by, parent_by}
-use Rattle.query_eval.proofs.Clauses.{asked_nothing, asked_of_many, asked_of_one, clauses_parts, folded_nothing, found_asked, found_childless, found_children, found_constant, found_down, found_everything, found_greatest, found_none, found_parent, found_parentless, found_plain, found_up, required_by, some_clauses}
+use Rattle.query_eval.proofs.Clauses.{asked_nothing, asked_of_many, asked_of_one, clauses_parts, folded_nothing, found_asked, found_childless, found_children, found_constant, found_down, found_everything, found_greatest, found_none, found_of_leaf, found_parent, found_parentless, found_plain, found_up, required_by, some_clauses}
 use Rattle.query_eval.proofs.evaluation.+found.Goals as goal
+
+pub found-returns-in_ok-leaves-in_default : goal.found-returns-in_ok-leaves-in_default
+found-returns-in_ok-leaves-in_default t c =
+    let some : IsSome (leaf_of (clause_of c.args.query.now)) = search rules in
+    found_of_leaf c.args.mapping.now c.args.entries.now c.args.scope (clause_of c.args.query.now) c.from.result c.in_ok-leaves-in_default.field-0 (c.from.ensures ∙ c.boost_of.ensures) some c.requires.resolved (λ l is own. c.in_ok-leaves-in_default.ensures.seen l is own)
 
 pub constant-returns : goal.constant-returns
 constant-returns t c =
@@ -18,7 +24,8 @@ constant-returns t c =
     let q = c.args.filter.now in
     let hits : IsFound m c.args.entries.now c.args.scope q c.in_ok-hits.hits = subst (λ (q : Clause). IsFound m c.args.entries.now c.args.scope q c.in_ok-hits.hits) c.get.ensures c.in_ok-hits.ensures in
     found_constant m c.args.entries.now c.args.scope q c.args.boost c.in_ok-merges.field-0
-    (c.in_ok-merges.ensures.seen m c.args.scope (whatever (leaf_score m match_all c.args.boost)) (score_by m q) (c.in_ok-all.ensures.seen match_all refl tt) hits)
+    (c.in_ok-merges.ensures.seen m c.args.scope (whatever (leaf_score m match_all c.args.boost)) (score_by m q)
+    (subst (λ (k : ℕ). IsSeen m c.args.entries.now c.args.scope (whatever (leaf_score m match_all k)) c.in_ok-all.all) c.from.ensures (c.in_ok-all.ensures.seen match_all refl tt)) hits)
 
 pub greatest-returns : goal.greatest-returns
 greatest-returns t c =

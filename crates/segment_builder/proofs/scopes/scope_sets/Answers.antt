@@ -1,4 +1,4 @@
-use Rattle.std.proofs.Common.{rules, ◌≡◌, ◌<◌, length, map, sym, ap, subst, ◌∙◌, arith}
+use Rattle.std.proofs.Common.{rules, ◌≡◌, ◌-◌, ◌<◌, length, map, Contains, sym, ap, subst, ◌∙◌, arith}
 use Rattle.std.specs.List.{All, range_with_len}
 use Rattle.std.proofs.lemmas.List.FromFn.{map-range_with_len_more, length-map-range_with_len}
 use Rattle.block_bits.specs.Blocks.{documents_of}
@@ -10,11 +10,23 @@ scopes-preserved c =
 
 pub returns-clause-sets : goal.returns-clause-sets
 returns-clause-sets c =
-    let all : c.of.result ≡ map (documents_of c.args.scopes.now) (range_with_len 0 c.in_ok-count.count) = search rules in
-    all ∙ ap (λ n. map (documents_of c.args.scopes.now) (range_with_len 0 n)) (sym (ap length all ∙ length-map-range_with_len (documents_of c.args.scopes.now) 0 c.in_ok-count.count))
+    let all : c.of.result ≡ map (documents_of c.args.scopes.now) (range_with_len 0 c.scope_count-count.result) = search rules in
+    all ∙ ap (λ n. map (documents_of c.args.scopes.now) (range_with_len 0 n)) (sym (ap length all ∙ length-map-range_with_len (documents_of c.args.scopes.now) 0 c.scope_count-count.result))
 
 pub returns-clause-within : goal.returns-clause-within
 returns-clause-within c =
-    let all : c.of.result ≡ map (documents_of c.args.scopes.now) (range_with_len 0 c.in_ok-count.count) = search rules in
-    let count : c.in_ok-count.count ≡ length c.of.result = sym (ap length all ∙ length-map-range_with_len (documents_of c.args.scopes.now) 0 c.in_ok-count.count) in
-    subst (λ n. All (λ scope. scope < n) c.args.scopes.now) count c.in_ok-count.ensures
+    let all : c.of.result ≡ map (documents_of c.args.scopes.now) (range_with_len 0 c.scope_count-count.result) = search rules in
+    let count : c.scope_count-count.result ≡ length c.of.result = sym (ap length all ∙ length-map-range_with_len (documents_of c.args.scopes.now) 0 c.scope_count-count.result) in
+    subst (λ n. All (λ scope. scope < n) c.args.scopes.now) count c.scope_count-count.ensures.within
+
+pub returns-clause-greatest : goal.returns-clause-greatest
+returns-clause-greatest c =
+    let all : c.of.result ≡ map (documents_of c.args.scopes.now) (range_with_len 0 c.scope_count-count.result) = search rules in
+    let count : c.scope_count-count.result ≡ length c.of.result = sym (ap length all ∙ length-map-range_with_len (documents_of c.args.scopes.now) 0 c.scope_count-count.result) in
+    λ some. subst (λ n. Contains c.args.scopes.now (n - 1)) count (c.scope_count-count.ensures.greatest some)
+
+pub returns-clause-fewer : goal.returns-clause-fewer
+returns-clause-fewer c =
+    let all : c.of.result ≡ map (documents_of c.args.scopes.now) (range_with_len 0 c.scope_count-count.result) = search rules in
+    let count : c.scope_count-count.result ≡ length c.of.result = sym (ap length all ∙ length-map-range_with_len (documents_of c.args.scopes.now) 0 c.scope_count-count.result) in
+    omega (arith, count, c.scope_count-count.ensures.fewer)

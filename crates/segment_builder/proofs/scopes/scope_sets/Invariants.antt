@@ -4,4 +4,5 @@ use Rattle.block_bits.specs.Blocks.{documents_of}
 use Rattle.segment_builder.proofs.scopes.scope_sets.Given as goal
 
 abbrev pub invariant-scopes : goal.invariant-scopes
-invariant-scopes l = l.sets.items ≡ map (documents_of l.scopes) (range_with_len 0 l.scope)
+invariant-scopes l =
+    l.sets.items ≡ map (documents_of l.scopes) (range_with_len 0 l.scope)

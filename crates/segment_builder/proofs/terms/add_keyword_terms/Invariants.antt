@@ -1,7 +1,8 @@
 use Rattle.std.proofs.Common.{◌≡◌, ◌++◌, drop}
-use Rattle.segment_builder.specs.Entries.{words_seen}
+use Rattle.segment_builder.specs.Entries.{keywords_lent, words_lent}
 use Rattle.segment_builder.specs.Terms.{keyword_terms}
 use Rattle.segment_builder.proofs.terms.add_keyword_terms.Given as goal
 
 abbrev pub invariant-entries : goal.invariant-entries
-invariant-entries l = words_seen l.into.items ++ keyword_terms (drop l.field-index l.keywords) ≡ words_seen l.fn.into.items ++ keyword_terms l.keywords
+invariant-entries l =
+    words_lent l.into.items ++ keyword_terms (keywords_lent (drop l.field-index l.keywords)) ≡ words_lent l.fn.into.items ++ keyword_terms (keywords_lent l.keywords)

@@ -1,0 +1,129 @@
+-- What stays true of the states of the machine, whatever is asked for.
+use Rattle.std.proofs.Common.{◌≡◌, ℕ, List, [], ◌∷◌, Option, Some, None, refl}
+use Rattle.line_reader.specs.Request.{Request}
+use Rattle.mapping.specs.Mapping.{Mapping}
+use Rattle.reply_text.specs.declared.refusal.Refusal.{Refusal}
+use Rattle.reply_text.specs.declared.reply.Reply.{Reply}
+use Rattle.reply_text.specs.declared.reply.WriteResult.TheVariants.{Deleted}
+use Rattle.request_form.specs.Asked.{Asked, refused, asks, asked_of}
+use Rattle.request_form.specs.Command.{Action, map_body, write, search, refresh, segments, open_pit, close_pit, force_merge, start_merge, advance_merge, finish_merge, abort_merge, commit, automerge, Write}
+use Rattle.tree_json.specs.Value.{JsonValue}
+use Rattle.tree_objects.specs.Tree.{Tree, without}
+use Rattle.query_ast.specs.declared.search.SearchBody.{SearchBody}
+use Rattle.query_parser.specs.Search.{search_of}
+use Rattle.search_walk.specs.Refusal.{first_refusal}
+use Rattle.machine.specs.Answer.{Answer, refuses, answers, outcome_of, first_of, refused_if, unless, with_mapping}
+use Rattle.machine.specs.declared.limits.Limits.{Limits}
+use Rattle.machine.specs.MappingLine.{first_refusals, first_done, first_mapping, growing_refusals, growing_done, grown_mapping, mapping_by, mapping_step, with_content_mapping}
+use Rattle.machine.specs.Searching.{boost_of_all, searched, search_all, search_over, search_by, body_refusal, search_step}
+use Rattle.machine.specs.State.{State, sealed_state}
+use Rattle.machine.specs.Step.{refresh_step, action_step, asked_step, step}
+use Rattle.machine.specs.Write.{live_tree, live_number, early_refusals, nothing_to_do, leaves_source, new_source, added_body, grown_by, put_refusals, put_result, changed, changed_state, put_tree, new_tree, full, with_put, take_out, change, answered_or, change_or_nothing, write_step}
+
+-- it stays so by sealing, by a mapping, by a tree that is put with the next number, and by one that is taken out
+pub record Stays (P : State → Type 0) : Type 0 where
+  pub sealed : (state : State) → P state → P (sealed_state state)
+  pub mapped : (m : Mapping) (state : State) → P state → P (with_content_mapping m state)
+  pub put : (m : Mapping) (tree : Tree) (state : State) → tree.number ≡ state.content.next → P state → P (changed_state m tree.id (with_put tree state.content.live) (tree ∷ []) state)
+  pub taken : (m : Mapping) (id : List ℕ) (state : State) → P state → P (changed_state m id (without id state.content.live) [] state)
+
+-- where nothing is refused it is so of the state afterwards
+abbrev After : (State → Type 0) → Answer → Type 0
+After P (refuses why) = Unit {0}
+After P (answers reply after) = P after
+
+refused_so : (P : State → Type 0) (why : Option Refusal) (answer : Answer) → After P answer → After P (refused_if why answer)
+refused_so P None answer so = so
+refused_so P (Some why) answer so = tt
+
+unless_so : (P : State → Type 0) (refusals : List (Option Refusal)) (answer : Answer) → After P answer → After P (unless refusals answer)
+unless_so P refusals answer so = refused_so P (first_of refusals) answer so
+
+mapped_so : (P : State → Type 0) (m : Option Mapping) (command : Mapping → Answer) → ((m : Mapping) → After P (command m)) → After P (with_mapping m command)
+mapped_so P None command so = tt
+mapped_so P (Some m) command so = so m
+
+-- ---- writes
+
+put_so : (P : State → Type 0) (limits : Limits) (m : Mapping) (body : Option JsonValue) (tree : Tree) (live : Option Tree) (state : State) → Stays P → tree.number ≡ state.content.next → P state
+    → After P (put_tree limits m body tree live state)
+put_so P limits m body tree live state stays next so =
+    unless_so P (put_refusals limits m body tree state) (changed (grown_by m body) tree.id (with_put tree state.content.live) (tree ∷ []) (put_result live) state)
+    (stays.put (grown_by m body) tree state next so)
+
+take_so : (P : State → Type 0) (limits : Limits) (m : Mapping) (id : List ℕ) (state : State) → Stays P → P state → After P (take_out limits m id state)
+take_so P limits m id state stays so =
+    unless_so P (full limits m (without id state.content.live) state.content.next ∷ []) (changed m id (without id state.content.live) [] Deleted state)
+    (stays.taken m id state so)
+
+changes_so : (P : State → Type 0) (limits : Limits) (m : Mapping) (id : List ℕ) (source : Option JsonValue) (live : Option Tree) (state : State) → Stays P → P state
+    → After P (change limits m id source live state)
+changes_so P limits m id None live state stays so = take_so P limits m id state stays so
+changes_so P limits m id (Some source) live state stays so =
+    put_so P limits m (added_body m source) (new_tree id source (grown_by m (added_body m source)) state.content.next) live state stays refl so
+
+answered_so : (P : State → Type 0) (reply : Option Reply) (state : State) (answer : Answer) → P state → After P answer → After P (answered_or reply state answer)
+answered_so P None state answer before after = after
+answered_so P (Some reply) state answer before after = before
+
+write_so : (P : State → Type 0) (limits : Limits) (m : Mapping) (it : Write) (state : State) → Stays P → P state → After P (write_step limits m it state)
+unfolding write_step
+write_so P limits m it state stays so =
+    let live = live_tree it.target.id state.content.live in
+    refused_so P (first_of (early_refusals m it (live_number live))) (change_or_nothing limits m it live state)
+    (answered_so P (nothing_to_do (leaves_source it.operation live) it.target.id it.operation live) state (change limits m it.target.id (new_source it.operation live) live state) so
+    (changes_so P limits m it.target.id (new_source it.operation live) live state stays so))
+
+-- ---- the other commands
+
+mapping_so : (P : State → Type 0) (body : JsonValue) (m : Option Mapping) (state : State) → Stays P → P state → After P (mapping_by body m state)
+mapping_so P body None state stays so = unless_so P (first_refusals body) (first_done body state) (stays.mapped (first_mapping body) state so)
+mapping_so P body (Some m) state stays so = unless_so P (growing_refusals m body) (growing_done m body state) (stays.mapped (grown_mapping m body) state so)
+
+line_so : (P : State → Type 0) (body : JsonValue) (state : State) → Stays P → P state → After P (mapping_step body state)
+unfolding mapping_step
+line_so P body state stays so = mapping_so P body state.content.mapping state stays so
+
+all_so : (P : State → Type 0) (limits : Limits) (m : Mapping) (body : SearchBody) (live : List Tree) (boost : Option ℕ) (state : State) → P state → After P (search_all limits m body live boost state)
+all_so P limits m body live None state so = tt
+all_so P limits m body live (Some boost) state so = so
+
+over_so : (P : State → Type 0) (limits : Limits) (m : Mapping) (body : SearchBody) (live : Option (List Tree)) (state : State) → P state → After P (search_over limits m body live state)
+over_so P limits m body None state so = tt
+over_so P limits m body (Some live) state so = all_so P limits m body live (boost_of_all body) state so
+
+search_so : (P : State → Type 0) (limits : Limits) (body : JsonValue) (m : Mapping) (state : State) → P state → After P (search_step limits body m state)
+unfolding search_step
+search_so P limits body m state so =
+    refused_so P (body_refusal (first_refusal m body)) (search_by limits m (search_of m body) state)
+    (over_so P limits m (search_of m body) (searched (search_of m body).pit state) state so)
+
+action_so : (P : State → Type 0) (limits : Limits) (action : Action) (state : State) → Stays P → P state → After P (action_step limits action state)
+action_so P limits (map_body body) state stays so = line_so P body (sealed_state state) stays (stays.sealed state so)
+action_so P limits (write it) state stays so = mapped_so P state.content.mapping (λ m. write_step limits m it state) (λ m. write_so P limits m it state stays so)
+action_so P limits (search body) state stays so =
+    mapped_so P state.content.mapping (λ m. search_step limits body m (sealed_state state)) (λ m. search_so P limits body m (sealed_state state) (stays.sealed state so))
+action_so P limits refresh state stays so = mapped_so P state.content.mapping (λ m. refresh_step m (sealed_state state)) (λ m. stays.sealed state so)
+action_so P limits segments state stays so = tt
+action_so P limits open_pit state stays so = tt
+action_so P limits (close_pit id) state stays so = tt
+action_so P limits (force_merge most) state stays so = tt
+action_so P limits (start_merge from count) state stays so = tt
+action_so P limits (advance_merge id roots) state stays so = tt
+action_so P limits (finish_merge id) state stays so = tt
+action_so P limits (abort_merge id) state stays so = tt
+action_so P limits commit state stays so = tt
+action_so P limits (automerge factor) state stays so = tt
+
+asked_so : (P : State → Type 0) (limits : Limits) (asked : Asked) (state : State) → Stays P → P state → After P (asked_step limits asked state)
+asked_so P limits (refused why) state stays so = tt
+asked_so P limits (asks action) state stays so = action_so P limits action state stays so
+
+outcome_so : (P : State → Type 0) (answer : Answer) (state : State) → P state → After P answer → P (outcome_of state answer).state
+outcome_so P (refuses why) state before after = before
+outcome_so P (answers reply later) state before after = after
+
+pub step_so : (P : State → Type 0) (limits : Limits) (state : State) (request : Request) → Stays P → P state → P (step limits state request).state
+unfolding step
+step_so P limits state request stays so =
+    outcome_so P (asked_step limits (asked_of request.first request.source) state) state so (asked_so P limits (asked_of request.first request.source) state stays so)
