@@ -1,0 +1,277 @@
+//! What is evaluated once for a search: what the query of each definition finds, and the filters of its sort.
+ghost use Rattle.std.specs.Prelude.{◌≡◌, ◌++◌, true, [], List, length, map, Option, IfOk, OnOk};
+ghost use Rattle.inner_hits.specs.Filters.{AddsFound, AreFound, filters_of, filters_of_key, filter_of};
+ghost use Rattle.inner_hits.specs.Kinship.{AreKin};
+ghost use Rattle.inner_hits.specs.Prepared.{ArePrepared, IsAnswered, IsPrepared};
+ghost use Rattle.inner_hits.specs.Prepared.View.{prepared_of};
+ghost use Rattle.join_ordinals.specs.Ordinals.{AreOrdinals};
+ghost use Rattle.query_ast.specs.Definition.{definitions_of};
+ghost use Rattle.query_ast.specs.Inner.View.{inner_of};
+ghost use Rattle.query_ast.specs.Joins.{inner_joins, some_inner_joins, sort_joins, step_joins};
+ghost use Rattle.query_ast.specs.Resolved.{AreInnerDefinitions, AreSorts, IsChain, IsInnerDefinition, IsResolved, IsSortKey};
+ghost use Rattle.std.specs.List.{flat_map, list_any};
+
+use crate::NoMemory;
+use crate::joined::{Kin, kin};
+use block_join::Matches;
+use join_ordinals::JoinOrdinals;
+use mapping::Mapping;
+use query_ast::{Chain, InnerDef, InnerList, InnerOver, Sort, SortKey};
+use query_eval::{Side, matches};
+use segment_view::View;
+use source_steps::Steps;
+use std::alloc::Global;
+use std::marker::Model;
+use std::sync::ledger::Ledger;
+
+/// What was evaluated for a definition of inner hits.
+#[cycle(prepared)]
+#[derive(Drop)]
+pub(crate) struct Prepared {
+    /// What its query finds, in the scope of its objects.
+    pub(crate) hits: Matches,
+    /// What the filters of its sort find, clauses in order, each from the outermost in.
+    pub(crate) filters: Vec<Matches>,
+    /// The hits by the keys of their roots, where it joins trees.
+    pub(crate) kin: Vec<Kin>,
+    pub(crate) owned: PreparedList,
+}
+
+/// What was evaluated for definitions of inner hits, in their order.
+#[cycle(prepared)]
+#[derive(Drop)]
+pub struct PreparedList {
+    items: Vec<Prepared>,
+}
+
+impl Model for PreparedList {
+    ghost use Rattle.std.specs.Prelude.{List, map};
+    ghost use Rattle.std.specs.Coded.{coded_list};
+    ghost use Rattle.query_ast.specs.Definition.{Definition, definitions_of, definitions_size};
+    ghost use Rattle.inner_hits.specs.Answers.{Answer};
+    ghost use Rattle.inner_hits.specs.Answers.Code.{answered_code};
+
+    ghost Value = { List (Definition Answer) };
+
+    ghost coded = { coded_list answered_code };
+
+    ghost use Rattle.inner_hits.specs.Prepared.View.{prepared_of};
+
+    ghost view = { λ l. map prepared_of l.items.items };
+
+    ghost size = { λ ds. definitions_size (definitions_of ds) };
+
+    ghost use Rattle.std.proofs.Common.{arith};
+    ghost use Rattle.inner_hits.specs.Prepared.Falls.{prepared_list_falls};
+
+    ghost size_decreases = { λ a h. Prim.omega (arith, prepared_list_falls a.items.items) };
+}
+
+impl PreparedList {
+    ghost use Rattle.inner_hits.specs.Prepared.View.{prepared_of};
+
+    /// The list of these. Takes no memory.
+    fn of(items: Vec<Prepared>) -> PreparedList
+        ensures { result ≡ map prepared_of items.items }
+    {
+        PreparedList { items }
+    }
+
+    /// The items in order.
+    pub(crate) fn as_slice(&self) -> &[Prepared]
+        ensures { map prepared_of result.now ≡ self.now }
+    {
+        self.items.as_slice()
+    }
+}
+
+/// Evaluates the query of each definition, and the filters of its sort, over a view; those of an ignored one are left out.
+///
+/// The definitions were resolved under the mapping in that scope. The ordinals are those of the view, where they join trees.
+pub fn prepared<L: Ledger>(
+    alloc: Global,
+    view: &View,
+    mapping: &Mapping,
+    ordinals: &JoinOrdinals,
+    definitions: &InnerList,
+    scope: u32,
+    steps: &mut Steps<L>,
+) -> Result<PreparedList, NoMemory>
+    requires resolved { AreInnerDefinitions mapping.now scope (definitions_of definitions.now) }
+    requires joined { some_inner_joins (definitions_of definitions.now) ≡ true → AreOrdinals view.now ordinals.now }
+    ensures prepared { IfOk result (λ made. ArePrepared mapping.now view.now ordinals.now (definitions_of definitions.now) (definitions_of made)) }
+    ensures steps { steps.new ≡ steps.old }
+{
+    Ok(each(alloc, view, mapping, ordinals, definitions.as_slice(), scope, steps)?)
+}
+
+#[cycle(prepared)]
+fn each<L: Ledger>(
+    alloc: Global,
+    view: &View,
+    mapping: &Mapping,
+    ordinals: &JoinOrdinals,
+    definitions: &[InnerDef],
+    scope: u32,
+    steps: &mut Steps<L>,
+) -> Result<PreparedList, NoMemory>
+    requires resolved { AreInnerDefinitions mapping.now scope (definitions_of (map inner_of definitions.now)) }
+    requires joined { some_inner_joins (definitions_of (map inner_of definitions.now)) ≡ true → AreOrdinals view.now ordinals.now }
+    ensures prepared { IfOk result (λ made. ArePrepared mapping.now view.now ordinals.now (definitions_of (map inner_of definitions.now)) (definitions_of made)) }
+    ensures steps { steps.new ≡ steps.old }
+{
+    let mut made = Vec::with_capacity(alloc, definitions.len())?;
+    'definitions: for def in definitions {
+        made.push(one(alloc, view, mapping, ordinals, def, scope, steps)?)?;
+    }
+    Ok(PreparedList::of(made))
+}
+
+#[cycle(prepared)]
+fn one<L: Ledger>(
+    alloc: Global,
+    view: &View,
+    mapping: &Mapping,
+    ordinals: &JoinOrdinals,
+    def: &InnerDef,
+    scope: u32,
+    steps: &mut Steps<L>,
+) -> Result<Prepared, NoMemory>
+    requires resolved { IsInnerDefinition mapping.now scope (inner_of def.now) }
+    requires joined { inner_joins (inner_of def.now) ≡ true → AreOrdinals view.now ordinals.now }
+    ensures prepared { IfOk result (λ made. IsPrepared mapping.now view.now ordinals.now (inner_of def.now) (prepared_of made)) }
+    ensures steps { steps.new ≡ steps.old }
+{
+    match def.over {
+        InnerOver::Below(path) => {
+            let hits = matches(alloc, view, mapping, ordinals, def.query.get(), path, steps)?;
+            let filters = filters(alloc, view, mapping, ordinals, def.sort.as_slice(), path, steps)?;
+            let owned = each(alloc, view, mapping, ordinals, def.owned.as_slice(), path, steps)?;
+            Ok(Prepared {
+                hits,
+                filters,
+                kin: Vec::new(alloc),
+                owned,
+            })
+        }
+        InnerOver::Children(relation) => Ok(joining(
+            alloc, view, mapping, ordinals, def, Side::Children(relation), steps,
+        )?),
+        InnerOver::Parents(relation) => Ok(joining(
+            alloc, view, mapping, ordinals, def, Side::Parents(relation), steps,
+        )?),
+        InnerOver::Ignored => Ok(Prepared {
+            hits: Matches::of(Vec::new(alloc)),
+            filters: Vec::new(alloc),
+            kin: Vec::new(alloc),
+            owned: PreparedList::of(Vec::new(alloc)),
+        }),
+    }
+}
+
+/// The same for a definition that joins trees, which take part on a side.
+#[cycle(prepared)]
+fn joining<L: Ledger>(
+    alloc: Global,
+    view: &View,
+    mapping: &Mapping,
+    ordinals: &JoinOrdinals,
+    def: &InnerDef,
+    side: Side,
+    steps: &mut Steps<L>,
+) -> Result<Prepared, NoMemory>
+    requires query { IsResolved mapping.now 0 def.now.query }
+    requires sorts { AreSorts mapping.now 0 def.now.sort }
+    requires owned { AreInnerDefinitions mapping.now 0 (definitions_of def.now.owned) }
+    requires joined { AreOrdinals view.now ordinals.now }
+    ensures answered { IfOk result (λ made. IsAnswered mapping.now view.now 0 def.now.query def.now.sort made.hits made.filters.items) }
+    ensures kin { IfOk result (λ made. AreKin mapping.now ordinals.now side view.now made.hits made.kin.items) }
+    ensures owned { IfOk result (λ made. ArePrepared mapping.now view.now ordinals.now (definitions_of def.now.owned) (definitions_of made.owned)) }
+    ensures steps { steps.new ≡ steps.old }
+{
+    let hits = matches(alloc, view, mapping, ordinals, def.query.get(), 0, steps)?;
+    let filters = filters(alloc, view, mapping, ordinals, def.sort.as_slice(), 0, steps)?;
+    let kin = kin(alloc, view.entries(), mapping, ordinals, &hits, side)?;
+    let owned = each(alloc, view, mapping, ordinals, def.owned.as_slice(), 0, steps)?;
+    Ok(Prepared {
+        hits,
+        filters,
+        kin,
+        owned,
+    })
+}
+
+/// What the filters of sort clauses find.
+fn filters<L: Ledger>(
+    alloc: Global,
+    view: &View,
+    mapping: &Mapping,
+    ordinals: &JoinOrdinals,
+    sorts: &[Sort],
+    scope: u32,
+    steps: &mut Steps<L>,
+) -> Result<Vec<Matches>, NoMemory>
+    requires sorts { AreSorts mapping.now scope sorts.now }
+    requires joined { list_any sort_joins sorts.now ≡ true → AreOrdinals view.now ordinals.now }
+    ensures found { IfOk result (λ filters. AreFound mapping.now view.now (filters_of sorts.now) filters.items) }
+    ensures steps { steps.new ≡ steps.old }
+{
+    let mut filters = Vec::new(alloc);
+    'sorts: for sort in sorts {
+        add_filters(alloc, view, mapping, ordinals, sort, scope, &mut filters, steps)?;
+    }
+    Ok(filters)
+}
+
+/// Adds those of one clause.
+fn add_filters<L: Ledger>(
+    alloc: Global,
+    view: &View,
+    mapping: &Mapping,
+    ordinals: &JoinOrdinals,
+    sort: &Sort,
+    scope: u32,
+    filters: &mut Vec<Matches>,
+    steps: &mut Steps<L>,
+) -> Result<(), NoMemory>
+    requires sort { IsSortKey mapping.now scope sort.now.missing sort.now.key }
+    requires joined { sort_joins sort.now ≡ true → AreOrdinals view.now ordinals.now }
+    ensures found { OnOk result (AddsFound mapping.now view.now (filters_of_key sort.now.key) filters.old.items filters.new.items) }
+    ensures steps { steps.new ≡ steps.old }
+{
+    match &sort.key {
+        SortKey::Score => Ok(()),
+        SortKey::Field { chain, .. } => add_chain(
+            alloc, view, mapping, ordinals, chain.as_slice(), scope, filters, steps,
+        ),
+    }
+}
+
+/// Adds those of a chain, from the outermost in.
+fn add_chain<L: Ledger>(
+    alloc: Global,
+    view: &View,
+    mapping: &Mapping,
+    ordinals: &JoinOrdinals,
+    chain: &[Chain],
+    scope: u32,
+    filters: &mut Vec<Matches>,
+    steps: &mut Steps<L>,
+) -> Result<(), NoMemory>
+    requires chain { IsChain mapping.now scope chain.now }
+    requires joined { list_any step_joins chain.now ≡ true → AreOrdinals view.now ordinals.now }
+    ensures found { OnOk result (AddsFound mapping.now view.now (flat_map filter_of chain.now) filters.old.items filters.new.items) }
+    ensures steps { steps.new ≡ steps.old }
+{
+    match chain {
+        [] => Ok(()),
+        [step, rest @ ..] => {
+            if let Some(filter) = &step.filter {
+                filters.push(matches(
+                    alloc, view, mapping, ordinals, filter.get(), step.scope, steps,
+                )?)?;
+            }
+            add_chain(alloc, view, mapping, ordinals, rest, step.scope, filters, steps)
+        }
+    }
+}
