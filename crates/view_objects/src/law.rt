@@ -12,7 +12,7 @@ ghost use Rattle.tree_objects.specs.Object.{Object, below, scope};
 ghost use Rattle.tree_objects.specs.Tree.{Tree};
 ghost use Rattle.view_objects.specs.Hits.{IsChildAt, IsInTree, document_object, hit_object, hits_between, hits_in, live_objects, live_trees, object_at, objects_in, start_before};
 
-use block_bits::places_are_nearest;
+use mapping::scopes_form_chains;
 use tree_joins::joins_are_of_trees;
 use tree_objects::objects_nest;
 
@@ -40,5 +40,5 @@ pub fn documents_are_of_objects()
 {
     objects_nest();
     joins_are_of_trees();
-    places_are_nearest::<u32>();
+    scopes_form_chains();
 }
