@@ -126,15 +126,11 @@ fn of_key(alloc: Global, kin: &[Kin], key: u32) -> Result<Vec<Hit>, NoMemory>
     requires { IsInKeyOrder kin.now }
     ensures { IfOk result (λ hits. hits.items ≡ map hit_of (filter (has_key key) kin.now)) }
 {
-    let start = kin.partition_point(|one| one.key < key);
-    let mut rest = kin.split_at(start).1;
+    let mut at = kin.partition_point(|one| one.key < key);
     let mut hits = Vec::new(alloc);
-    'kin: while let [one, later @ ..] = rest {
-        if one.key != key {
-            break;
-        }
-        hits.push(one.hit)?;
-        rest = later;
+    'kin: while at < kin.len() && kin[at].key == key {
+        hits.push(kin[at].hit)?;
+        at += 1;
     }
     Ok(hits)
 }

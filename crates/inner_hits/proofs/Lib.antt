@@ -1,0 +1,5 @@
+pub mod Ranges
+pub mod Sets
+pub mod Sorted
+pub mod Rows
+pub mod Objects
