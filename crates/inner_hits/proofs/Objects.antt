@@ -1,5 +1,5 @@
 -- Rows of objects, and the tree that objects below another are of.
-use Rattle.std.proofs.Common.{◌≡◌, ℕ, zero, suc, ◌+◌, List as Seq, [], ◌∷◌, ◌++◌, map, filter, flat_map, Bool, true, false, Option, Some, None, refl, sym, ap, subst, ◌∙◌}
+use Rattle.std.proofs.Common.{◌≡◌, ℕ, zero, suc, ◌+◌, List as Seq, [], ◌∷◌, ◌++◌, map, filter, flat_map, get_or, slice_get, Bool, true, false, Option, Some, None, refl, sym, ap, subst, ◌∙◌}
 use Rattle.std.specs.List.{AllByRecursion, cons_option, filter_map}
 use Rattle.std.specs.Option.{option_map}
 use Rattle.flattener.specs.StandsFor.{Marked}
@@ -12,7 +12,7 @@ use Rattle.tree_joins.specs.Seen.{scored}
 use Rattle.tree_json.specs.Value.{JsonValue, is_object}
 use Rattle.tree_objects.specs.Object.{Object, below, below_along, children, content, given, inside, items, numbered, scope, tree_of, way}
 use Rattle.tree_objects.specs.Tree.{Tree}
-use Rattle.view_objects.specs.Hits.{hit_object, live_trees}
+use Rattle.view_objects.specs.Hits.{hit_object, live_in, live_trees}
 use Rattle.view_objects.specs.declared.hit.Hit.{Hit}
 use Rattle.inner_hits.specs.Hits.{row_at}
 use Rattle.inner_hits.proofs.Rows.{by_test, map_map}
@@ -84,3 +84,28 @@ hits_of_tree m trees given t os hits own are = unpaired hits (subst (λ (ps : Se
     unpaired : (hits : Seq Hit) → AllByRecursion (λ (p : Object × ℕ). tree_of p.0 ≡ t) (map (hit_object m trees) hits) → AllByRecursion (λ (h : Hit). tree_of (hit_object m trees h).0 ≡ t) hits
     unpaired [] are = tt
     unpaired (h ∷ hits) are = (are.0, unpaired hits are.1)
+
+-- ---- the tree of a hit is one of the live trees
+
+kept_in : (P : Tree → Type 0) (trees : Seq (Marked Tree)) (k : ℕ) (t : Marked Tree) → slice_get trees k ≡ Some t → t.live ≡ true → AllByRecursion P (live_in trees) → P t.item
+kept_in P [] k t at live all = absurd (let no : ⊥ = cc in no)
+kept_in P (x ∷ trees) zero t at live all =
+    let same : x ≡ t = cc in
+    let here : x.live ≡ true = ap (λ (t : Marked Tree). t.live) same ∙ live in
+    subst (λ (t : Marked Tree). P t.item) same ((rw here at all).0)
+kept_in P (x ∷ trees) (suc k) t at live all =
+    by_test x.live
+    (λ yes. kept_in P trees k t at live ((rw yes at all).1))
+    (λ no. kept_in P trees k t at live (rw no at all))
+
+part_of : (P : Tree → Type 0) (xs ys : Seq Tree) → AllByRecursion P (xs ++ ys) → AllByRecursion P xs × AllByRecursion P ys
+part_of P [] ys all = (tt, all)
+part_of P (x ∷ xs) ys all = let more = part_of P xs ys all.1 in ((all.0, more.0), more.1)
+
+kept_at : (P : Tree → Type 0) (entries : Seq (Seq (Marked Tree))) (place : ℕ) → AllByRecursion P (live_trees entries) → AllByRecursion P (live_in (get_or entries place []))
+kept_at P [] place all = tt
+kept_at P (trees ∷ entries) zero all = (part_of P (live_in trees) (live_trees entries) all).0
+kept_at P (trees ∷ entries) (suc place) all = kept_at P entries place ((part_of P (live_in trees) (live_trees entries) all).1)
+
+pub kept_tree : (P : Tree → Type 0) (entries : Seq (Seq (Marked Tree))) (place k : ℕ) (t : Marked Tree) → slice_get (get_or entries place []) k ≡ Some t → t.live ≡ true → AllByRecursion P (live_trees entries) → P t.item
+kept_tree P entries place k t at live all = kept_in P (get_or entries place []) k t at live (kept_at P entries place all)

@@ -1,6 +1,6 @@
 -- What stands behind hits: objects, rows, and what a call is told of the object that it is asked about.
-use Rattle.std.specs.Prelude.{◌≡◌, ℕ, ◌<◌, List, [], map, get_or, slice_get, IsSomeAnd, Option, Some, None}
-use Rattle.std.specs.List.{All}
+use Rattle.std.specs.Prelude.{◌≡◌, ℕ, ◌<◌, ◌^◌, List, [], map, get_or, slice_get, IsSomeAnd, Option, Some, None}
+use Rattle.std.specs.List.{All, AllByRecursion}
 use Rattle.flattener.specs.StandsFor.{Marked, ViewStandsFor}
 use Rattle.mapping.specs.Mapping.{Mapping}
 use Rattle.query_ast.specs.Definition.{Definition, definition}
@@ -32,9 +32,14 @@ AreHits m n trees hits = All (λ (hit : Hit). IsHitAt m n trees hit.place hit.do
 abbrev pub row_at : Mapping → List (List (Marked Tree)) → List Sort → Hit → Row
 row_at m trees sorts hit = row_of m (live_trees trees) sorts (object_at m trees hit.place hit.doc) hit.score
 
--- the sources of trees, as they are stored, are read as what they are; so it is of sources that were read
-abbrev pub AreReadable : List Tree → Type 0
-AreReadable trees = All (λ (tree : Tree). reading (compact tree.source) ≡ value tree.source) trees
+-- A tree as an index keeps it: its stored source is read as what it is, as that of each source that was read, and its
+-- sequence number fits an i64.
+pub record IsKept (tree : Tree) : Type 0 where
+  pub reads : reading (compact tree.source) ≡ value tree.source
+  pub numbered : tree.number < 2 ^ 63
+
+abbrev pub AreKept : List Tree → Type 0
+AreKept trees = AllByRecursion IsKept trees
 
 -- a document of the entry at a place
 abbrev pub IsDocOf : List EntryState → ℕ → ℕ → Type 0
@@ -47,7 +52,7 @@ AreDocs view hits = All (λ (hit : Hit). IsDocOf view hit.place hit.doc) hits
 -- its tree holds, and the stored sources are read as what they are.
 pub record IsAsked (m : Mapping) (view : List EntryState) (trees : List (List (Marked Tree))) (n place doc : ℕ) (source : JsonValue) : Type 0 where
   pub stands : ViewStandsFor m view trees
-  pub readable : AreReadable (live_trees trees)
+  pub kept : AreKept (live_trees trees)
   pub hit : IsHitAt m n trees place doc
   pub holds : source ≡ (tree_of (object_at m trees place doc)).source
 

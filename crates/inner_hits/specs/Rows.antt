@@ -12,6 +12,7 @@ use Rattle.tree_objects.specs.Object.{tree_of}
 use Rattle.tree_objects.specs.Tree.{Tree}
 use Rattle.view_objects.specs.Hits.{live_trees, object_at}
 use Rattle.view_objects.specs.declared.hit.Hit.{Hit}
+use Rattle.inner_hits.specs.Hits.{AreKept, IsHitAt}
 
 abbrev pub no_hit : Hit
 no_hit = record { place = 0; doc = 0; score = 0 }
@@ -23,7 +24,7 @@ pub record AreKeyed (m : Mapping) (trees : List (List (Marked Tree))) (sorts : L
 -- the index of a hit, and the sequence number of the tree of its object
 pub record IsPlaceOf (view : List EntryState) (at : ℕ) (hit : Hit) (place : RowPlace) : Type 0 where
   pub index : place.place ≡ at
-  pub number : (m : Mapping) (trees : List (List (Marked Tree))) → ViewStandsFor m view trees → place.number ≡ pos (tree_of (object_at m trees hit.place hit.doc)).number
+  pub number : (m : Mapping) (n : ℕ) (trees : List (List (Marked Tree))) → ViewStandsFor m view trees → AreKept (live_trees trees) → IsHitAt m n trees hit.place hit.doc → place.number ≡ pos (tree_of (object_at m trees hit.place hit.doc)).number
 
 pub record ArePlaces (view : List EntryState) (hits : List Hit) (places : List RowPlace) : Type 0 where
   pub long : length places ≡ length hits

@@ -1,7 +1,7 @@
 //! The pages of inner hits.
 ghost use Rattle.std.specs.Prelude.{◌≡◌, ◌++◌, ◌+◌, ◌<◌, ◌≤◌, ◌∷◌, [], ℕ, true, List, length, map, IfOk, OnOk};
 ghost use Rattle.flattener.specs.StandsFor.{EntryStandsFor, Marked, ViewStandsFor};
-ghost use Rattle.inner_hits.specs.Hits.{AreDocs, AreHits, AreReadable, HaveSource, IsAsked, IsDocOf, IsHitAt, page_in, row_at, shown_as};
+ghost use Rattle.inner_hits.specs.Hits.{AreDocs, AreHits, AreKept, HaveSource, IsAsked, IsDocOf, IsHitAt, page_in, row_at, shown_as};
 ghost use Rattle.inner_hits.specs.Filters.{AreFound, filters_of};
 ghost use Rattle.inner_hits.specs.Prepared.{ArePrepared, IsPrepared};
 ghost use Rattle.inner_hits.specs.Prepared.View.{prepared_of};
@@ -248,9 +248,9 @@ fn shown_page<L: Ledger>(
     requires prepared { ArePrepared mapping.now view.now ordinals.now (definitions_of def.now.owned) (definitions_of prepared.now.owned) }
     requires joined { some_inner_joins (definitions_of def.now.owned) ≡ true → AreOrdinals view.now ordinals.now }
     requires docs { AreDocs view.now hits.items }
-    ensures page { IfOk result (λ page. (trees : List (List (Marked Tree))) → ViewStandsFor mapping.now view.now trees → AreReadable (live_trees trees) → AreHits mapping.now scope trees hits.items → HaveSource mapping.now trees scope hits.items (seen_as source.now)
+    ensures page { IfOk result (λ page. (trees : List (List (Marked Tree))) → ViewStandsFor mapping.now view.now trees → AreKept (live_trees trees) → AreHits mapping.now scope trees hits.items → HaveSource mapping.now trees scope hits.items (seen_as source.now)
         → page_part page ≡ page_in mapping.now (live_trees trees) (inner_of def.now) (map (row_at mapping.now trees def.now.sort) hits.items)) }
-    ensures steps { (trees : List (List (Marked Tree))) → ViewStandsFor mapping.now view.now trees → AreReadable (live_trees trees) → AreHits mapping.now scope trees hits.items → HaveSource mapping.now trees scope hits.items (seen_as source.now)
+    ensures steps { (trees : List (List (Marked Tree))) → ViewStandsFor mapping.now view.now trees → AreKept (live_trees trees) → AreHits mapping.now scope trees hits.items → HaveSource mapping.now trees scope hits.items (seen_as source.now)
         → steps.new ≤ steps.old + joined_among (page_in mapping.now (live_trees trees) (inner_of def.now) (map (row_at mapping.now trees def.now.sort) hits.items)).hits }
 {
     let page = chosen(
@@ -302,9 +302,9 @@ fn shown_hits<L: Ledger>(
     requires prepared { ArePrepared mapping.now view.now ordinals.now (definitions_of def.now.owned) (definitions_of prepared.now.owned) }
     requires joined { some_inner_joins (definitions_of def.now.owned) ≡ true → AreOrdinals view.now ordinals.now }
     requires docs { AreDocs view.now hits.now }
-    ensures hits { IfOk result (λ shown. (trees : List (List (Marked Tree))) → ViewStandsFor mapping.now view.now trees → AreReadable (live_trees trees) → AreHits mapping.now scope trees hits.now → HaveSource mapping.now trees scope hits.now (seen_as source.now)
+    ensures hits { IfOk result (λ shown. (trees : List (List (Marked Tree))) → ViewStandsFor mapping.now view.now trees → AreKept (live_trees trees) → AreHits mapping.now scope trees hits.now → HaveSource mapping.now trees scope hits.now (seen_as source.now)
         → map hit_part shown.items ≡ map (shown_as mapping.now trees (inner_of def.now)) hits.now) }
-    ensures steps { (trees : List (List (Marked Tree))) → ViewStandsFor mapping.now view.now trees → AreReadable (live_trees trees) → AreHits mapping.now scope trees hits.now → HaveSource mapping.now trees scope hits.now (seen_as source.now)
+    ensures steps { (trees : List (List (Marked Tree))) → ViewStandsFor mapping.now view.now trees → AreKept (live_trees trees) → AreHits mapping.now scope trees hits.now → HaveSource mapping.now trees scope hits.now (seen_as source.now)
         → steps.new ≤ steps.old + joined_among (hits_of (map (shown_as mapping.now trees (inner_of def.now)) hits.now)) }
 {
     let mut shown = Vec::with_capacity(alloc, hits.len())?;
@@ -399,9 +399,9 @@ fn tree_hit<L: Ledger>(
     requires prepared { ArePrepared mapping.now view.now ordinals.now (definitions_of def.now.owned) (definitions_of prepared.now.owned) }
     requires joined { some_inner_joins (definitions_of def.now.owned) ≡ true → AreOrdinals view.now ordinals.now }
     requires doc { IsDocOf view.now hit.place hit.doc }
-    ensures hit { IfOk result (λ shown. (trees : List (List (Marked Tree))) → ViewStandsFor mapping.now view.now trees → AreReadable (live_trees trees) → IsHitAt mapping.now 0 trees hit.place hit.doc
+    ensures hit { IfOk result (λ shown. (trees : List (List (Marked Tree))) → ViewStandsFor mapping.now view.now trees → AreKept (live_trees trees) → IsHitAt mapping.now 0 trees hit.place hit.doc
         → hit_part shown ≡ shown_as mapping.now trees (inner_of def.now) hit) }
-    ensures steps { (trees : List (List (Marked Tree))) → ViewStandsFor mapping.now view.now trees → AreReadable (live_trees trees) → IsHitAt mapping.now 0 trees hit.place hit.doc
+    ensures steps { (trees : List (List (Marked Tree))) → ViewStandsFor mapping.now view.now trees → AreKept (live_trees trees) → IsHitAt mapping.now 0 trees hit.place hit.doc
         → steps.new ≤ steps.old + joined_among (hits_of (shown_as mapping.now trees (inner_of def.now) hit ∷ [])) }
 {
     documents_are_of_objects();

@@ -3,12 +3,13 @@ ghost use Rattle.std.specs.Prelude.{◌≡◌, ◌<◌, ℕ, List, None, pos, ma
 ghost use Rattle.flattener.specs.StandsFor.{Marked, ViewStandsFor};
 ghost use Rattle.hit_order.specs.Table.{directions_of, key_at};
 ghost use Rattle.inner_hits.specs.Filters.{AreFound, filters_of};
-ghost use Rattle.inner_hits.specs.Hits.{AreDocs, AreHits, IsDocOf, row_at};
+ghost use Rattle.inner_hits.specs.Hits.{AreDocs, AreHits, AreKept, IsDocOf, row_at};
 ghost use Rattle.inner_hits.specs.Rows.{AreKeyed, ArePlaces, IsPlaceOf, no_hit};
 ghost use Rattle.query_ast.specs.Page.{direction_of};
 ghost use Rattle.query_ast.specs.Resolved.{AreSorts};
 ghost use Rattle.query_ast.specs.Rows.{paged};
 ghost use Rattle.tree_objects.specs.Tree.{Tree};
+ghost use Rattle.view_objects.specs.Hits.{live_trees};
 
 use crate::NoMemory;
 use crate::trees::root_of;
@@ -36,7 +37,7 @@ pub(crate) fn chosen(
     requires filters { AreFound mapping.now view.now (filters_of sorts.now) filters.now }
     requires docs { AreDocs view.now hits.now }
     ensures docs { IfOk result (λ page. AreDocs view.now page.items) }
-    ensures page { IfOk result (λ page. (trees : List (List (Marked Tree))) → ViewStandsFor mapping.now view.now trees → AreHits mapping.now scope trees hits.now
+    ensures page { IfOk result (λ page. (trees : List (List (Marked Tree))) → ViewStandsFor mapping.now view.now trees → AreKept (live_trees trees) → AreHits mapping.now scope trees hits.now
         → map (row_at mapping.now trees sorts.now) page.items ≡ paged sorts.now None from size (map (row_at mapping.now trees sorts.now) hits.now)) }
     ensures hits { IfOk result (λ page. (trees : List (List (Marked Tree))) → AreHits mapping.now scope trees hits.now → AreHits mapping.now scope trees page.items) }
 {

@@ -1,0 +1,8 @@
+use Rattle.std.proofs.Common.{◌≡◌, ◌++◌, drop}
+use Rattle.inner_hits.specs.Kinship.{kin_from}
+use Rattle.inner_hits.proofs.joined.add_kin.Given as goal
+
+abbrev pub invariant-hits : goal.invariant-hits
+invariant-hits l =
+    l.kin.items ++ kin_from l.mapping l.ordinals l.side l.entries (drop l.hit-index l.hits.items)
+    ≡ l.fn.kin.items ++ kin_from l.mapping l.ordinals l.side l.entries l.hits.items
