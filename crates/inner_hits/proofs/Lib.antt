@@ -3,3 +3,4 @@ pub mod Sets
 pub mod Sorted
 pub mod Rows
 pub mod Objects
+pub mod Kinship

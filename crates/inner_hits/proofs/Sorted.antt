@@ -1,6 +1,7 @@
 -- Hits of one key among hits in the order of their keys.
-use Rattle.std.proofs.Common.{◌≡◌, ℕ, zero, suc, ◌+◌, ◌-◌, ◌<◌, ◌≤◌, ◌==◌, List as Seq, [], ◌∷◌, ◌++◌, length, map, filter, get_or, take, drop, Bool, true, false, refl, sym, ap, ◌∙◌, arith, append_assoc}
+use Rattle.std.proofs.Common.{◌≡◌, ℕ, zero, suc, ◌+◌, ◌-◌, ◌<◌, ◌≤◌, ◌==◌, List as Seq, [], ◌∷◌, ◌++◌, length, map, filter, get_or, take, drop, Bool, true, false, cond, not, ◌&&◌, refl, sym, ap, ◌∙◌, arith, append_assoc}
 use Rattle.std.proofs.lemmas.Bool.Decides.{nat_tests}
+use Rattle.std.specs.List.Sorted.{IsStableByKey, ties}
 use Rattle.std.specs.Ordering.{is_lt, nat_cmp}
 use Rattle.inner_hits.specs.Kinship.{IsInKeyOrder, has_key, hit_of, key_of}
 use Rattle.inner_hits.specs.declared.joined.Kin.{Kin}
@@ -81,3 +82,28 @@ one_more kin key at d had all low is goes =
   where
     same : (a b : ℕ) → a ≡ b → (a == b) ≡ true
     same a b e = grind arith
+
+-- ---- hits sorted by their keys
+
+abbrev lt : Kin → Kin → Bool
+lt a b = is_lt (nat_cmp (key_of a) (key_of b))
+
+abbrev of_key : ℕ → Kin
+of_key k = record { key = k; hit = record { place = 0; doc = 0; score = 0 } }
+
+ties_are : (key : ℕ) (k : Kin) → ties lt (of_key key) k ≡ has_key key k
+ties_are key k = by key (key_of k)
+  where
+    by : (a b : ℕ) → (not (is_lt (nat_cmp a b)) && not (is_lt (nat_cmp b a))) ≡ (b == a)
+    by a b = grind (arith, nat_tests)
+
+same_filter : (p q : Kin → Bool) → ((k : Kin) → p k ≡ q k) → (xs : Seq Kin) → filter p xs ≡ filter q xs
+same_filter p q same [] = refl
+same_filter p q same (x ∷ xs) = rw (same x) (ap (λ (l : Seq Kin). cond (q x) (x ∷ l) l) (same_filter p q same xs))
+
+-- those of one key stand as they stood
+pub stays : (xs ys : Seq Kin) → IsStableByKey key_of nat_cmp xs ys → (key : ℕ) → filter (has_key key) ys ≡ filter (has_key key) xs
+stays xs ys stable key =
+    sym (same_filter (ties lt (of_key key)) (has_key key) (ties_are key) ys)
+    ∙ stable (of_key key)
+    ∙ same_filter (ties lt (of_key key)) (has_key key) (ties_are key) xs
