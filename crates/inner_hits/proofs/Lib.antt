@@ -4,3 +4,4 @@ pub mod Sorted
 pub mod Rows
 pub mod Objects
 pub mod Kinship
+pub mod Contents

@@ -221,3 +221,11 @@ no_next n scopes none from = by from (drop from scopes) (λ doc. ap (λ (l : Seq
     by : (k : ℕ) (ss : Seq ℕ) → ((doc : ℕ) → get_or (map (has_scope n) ss) doc false ≡ false) → position_from (has_scope n) k ss ≡ None
     by k [] each = refl
     by k (s ∷ ss) each = let no : (s == n) ≡ false = each 0 in rw no (by (k + 1) ss (λ doc. each (suc doc)))
+
+pub ruleset next_hits = (first_hit, no_hit_left, no_hit_before, found_some, own_between)
+
+pub ruleset starts = (previous_of_flags, no_previous)
+
+pub ruleset counts = (count_more, count_none, none_of)
+
+pub ruleset nexts = (next_of_flags, no_next)

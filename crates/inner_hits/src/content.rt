@@ -1,11 +1,10 @@
 //! The content of a nested object, from the source of its root, and its place.
-ghost use Rattle.std.specs.Prelude.{◌≡◌, ℕ, ◌<◌, ◌≤◌, List, length, get_or, IfOk, IfSome, Some, None};
+ghost use Rattle.std.specs.Prelude.{◌≡◌, ◌<◌, List, length, IfOk, IfSome, Some, None, if◌then◌else◌};
 ghost use Rattle.std.specs.List.{join_with_byte};
 ghost use Rattle.flattener.specs.StandsFor.{EntryStandsFor, Marked};
 ghost use Rattle.inner_hits.specs.Contents.{IsChildDoc, IsLocated};
 ghost use Rattle.mapping.specs.Mapping.{scope_at};
 ghost use Rattle.mapping_body.specs.Names.{dot};
-ghost use Rattle.query_ast.specs.InnerHits.{source_of};
 ghost use Rattle.segment.specs.Live.{LiveState};
 ghost use Rattle.tree_json.specs.Text.{compact};
 ghost use Rattle.tree_json.specs.View.{view};
@@ -80,6 +79,7 @@ pub(crate) struct ChildDoc {
 }
 
 /// The document of the scope around a document of a nested path, and the offset there.
+#[tactic(auto, using(crate::proofs::Ranges::nexts))]
 fn child_doc(segment: &Segment, around: u32, scope: u32, doc: u32) -> Option<ChildDoc>
     requires { doc < segment.now.documents }
     ensures within { IfSome result (λ child. child.parent < segment.now.documents) }

@@ -1,8 +1,8 @@
 //! Documents with scores, and documents of a scope, in a range.
-ghost use Rattle.std.specs.Prelude.{◌≡◌, ◌++◌, ◌∷◌, ◌<◌, ◌≤◌, ◌+◌, [], ℕ, get_or, length, Option, Some, None, IfSome, IfNone, OnOk};
+ghost use Rattle.std.specs.Prelude.{◌≡◌, ◌++◌, ◌∷◌, ◌<◌, ◌≤◌, ◌+◌, [], ℕ, false, get_or, length, IfSome, IfNone, OnOk};
 ghost use Rattle.block_bits.specs.Blocks.{documents_of};
 ghost use Rattle.inner_hits.specs.Walks.{scopes_in};
-ghost use Rattle.view_objects.specs.Hits.{count_between, hits_between, hits_from, start_before};
+ghost use Rattle.view_objects.specs.Hits.{count_between, hits_between, start_before};
 
 use crate::NoMemory;
 use block_bits::BitSet;
@@ -31,6 +31,7 @@ pub(crate) fn add_hits(
 }
 
 /// The next document with a score, before `end`. The cursor goes on behind it.
+#[tactic(auto, using(crate::proofs::Ranges::next_hits))]
 fn next_hit(left: &mut Cursor, place: u64, end: u32) -> Option<Hit>
     requires ordered { left.old.from ≤ end }
     requires within { end ≤ length left.old.scores }
@@ -51,7 +52,7 @@ fn next_hit(left: &mut Cursor, place: u64, end: u32) -> Option<Hit>
 /// The documents of a scope; None where the segment has none of it.
 pub(crate) fn scope_docs(segment: &Segment, scope: u32) -> Option<&BitSet>
     ensures some { IfSome result (λ set. set.now ≡ documents_of (scopes_in segment.now) scope) }
-    ensures none { IfNone result ((doc : ℕ) → get_or (documents_of (scopes_in segment.now) scope) doc Bool.false ≡ Bool.false) }
+    ensures none { IfNone result ((doc : ℕ) → get_or (documents_of (scopes_in segment.now) scope) doc false ≡ false) }
 {
     scopes_are_of_documents(segment);
     let _documents = segment.docs();
@@ -59,6 +60,7 @@ pub(crate) fn scope_docs(segment: &Segment, scope: u32) -> Option<&BitSet>
 }
 
 /// Where the documents inside a document of a scope begin.
+#[tactic(auto, using(crate::proofs::Ranges::starts))]
 pub(crate) fn child_start(segment: &Segment, scope: u32, doc: u32) -> u32
     ensures start { result ≡ start_before scope doc (scopes_in segment.now) }
     ensures ordered { result ≤ doc }
@@ -73,6 +75,7 @@ pub(crate) fn child_start(segment: &Segment, scope: u32, doc: u32) -> u32
 }
 
 /// How many documents of a scope there are in a range.
+#[tactic(auto, using(crate::proofs::Ranges::counts))]
 pub(crate) fn count_between(segment: &Segment, scope: u32, start: u32, end: u32) -> u32
     requires { end ≤ segment.now.documents }
     ensures { result ≡ count_between scope start end (scopes_in segment.now) }

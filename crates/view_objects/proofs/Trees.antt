@@ -1,6 +1,6 @@
 -- The tree of a document: the one with as many roots before it.
 use Rattle.std.proofs.Common.{◌≡◌, ℕ, zero, suc, ◌+◌, ◌-◌, ◌<◌, ◌≤◌, ◌==◌, List as Seq, [], ◌∷◌, ◌++◌, length, map, filter, flat_map, get_or, slice_get, take, Bool, true, false, Option, Some, None, ◌⊎◌, refl, sym, ap, ◌∙◌, inl, inr, arith}
-use Rattle.std.proofs.lemmas.Bool.{cases_lt}
+use Rattle.std.proofs.lemmas.Bool.{cases_lt, false≢true}
 use Rattle.std.proofs.lemmas.List.{length-map, length-append}
 use Rattle.std.specs.List.{AllByRecursion, count_by}
 use Rattle.block_bits.specs.Blocks.{documents_of, has_scope}
@@ -115,6 +115,30 @@ count_past (o ∷ os) t flags k none =
         ∙ count-mark false (take (length (os ++ (root t ∷ [])) + k) (map stand (os ++ (root t ∷ [])) ++ flags))
         ∙ count_past os t flags k none.1)
 
+-- what stands at the root's scope is the root
+roots_alone : (os : Seq Object) (t : Tree) → filter (stands_at 0) os ≡ root t ∷ [] → AllByRecursion (λ (o : Object). stand o ≡ true → o ≡ root t) os
+roots_alone [] t one = tt
+roots_alone (o ∷ os) t one =
+    by_test (stand o)
+    (λ yes.
+    let e : o ∷ filter (stands_at 0) os ≡ root t ∷ [] = rw yes at one in
+    let here : o ≡ root t = cc in
+    let none : filter (stands_at 0) os ≡ [] = cc in
+    ((λ _. here), no_more os none))
+    (λ no. ((λ yes. absurd (false≢true (sym no ∙ yes))), roots_alone os t (rw no at one)))
+  where
+    no_more : (os : Seq Object) → filter (stands_at 0) os ≡ [] → AllByRecursion (λ (o : Object). stand o ≡ true → o ≡ root t) os
+    no_more [] none = tt
+    no_more (p ∷ os) none =
+        by_test (stand p)
+        (λ yes. absurd (let e : p ∷ filter (stands_at 0) os ≡ [] = rw yes at none in let no : ⊥ = cc in no))
+        (λ no. ((λ yes. absurd (false≢true (sym no ∙ yes))), no_more os (rw no at none)))
+
+each_at : (P : Object → Type 0) (os : Seq Object) (k : ℕ) (d : Object) → AllByRecursion P os → k < length os → P (get_or os k d)
+each_at P [] k d all low = absurd (omega (arith, low))
+each_at P (o ∷ os) zero d all low = all.0
+each_at P (o ∷ os) (suc k) d all low = each_at P os k d all.1 (omega (arith, low))
+
 -- ---- the trees of an entry
 
 abbrev OneRoot : Mapping → Type 0
@@ -159,6 +183,7 @@ record Found (m : Mapping) (trees : Seq (Marked Tree)) (doc : ℕ) : Type 0 wher
   pub at : slice_get trees (count_by is_marked (take doc (by_document m stands trees))) ≡ Some marked
   pub tree : tree_of (get_or (by_document m any_object trees) doc no_object) ≡ marked.item
   pub live : get_or (by_document m live_mark trees) doc false ≡ marked.live
+  pub at_root : scope (get_or (by_document m any_object trees) doc no_object) ≡ 0 → get_or (by_document m any_object trees) doc no_object ≡ root marked.item
 
 module _ (m : Mapping) (one : OneRoot m) where
   found : (trees : Seq (Marked Tree)) (doc : ℕ) → doc < length (by_document m any_object trees) → Found m trees doc
@@ -191,7 +216,15 @@ module _ (m : Mapping) (one : OneRoot m) where
                 ∙ of_at t.item block doc no_object (of_block m t.item) here;
             live = low_at (map (live_mark t.live) block) (by_document m live_mark trees) doc false (omega (arith, here, length-map block (live_mark t.live)))
                 ∙ map_at (live_mark t.live) block doc no_object false here;
+            at_root = λ zero_scope.
+                object_here ∙ each_at (λ (o : Object). stand o ≡ true → o ≡ root t.item) block doc no_object (roots_alone block t.item (one t.item)) here
+                (ap (λ s. s == 0) (sym (ap scope object_here) ∙ zero_scope));
           }
+        where
+          object_here : get_or (by_document m any_object (t ∷ trees)) doc no_object ≡ get_or block doc no_object
+          object_here =
+              low_at (map (any_object t.live) block) (by_document m any_object trees) doc no_object (omega (arith, here, length-map block (any_object t.live)))
+              ∙ map_at (any_object t.live) block doc no_object no_object here
       by (inr behind) =
           let k = doc - length block in
           let sum : doc ≡ length block + k = omega (arith, behind) in
@@ -211,7 +244,13 @@ module _ (m : Mapping) (one : OneRoot m) where
             live = ap (λ n. get_or (by_document m live_mark (t ∷ trees)) n false) (sum ∙ ap (λ n. n + k) (sym (length-map block (live_mark t.live))))
                 ∙ high_at (map (live_mark t.live) block) (by_document m live_mark trees) k false
                 ∙ more.live;
+            at_root = λ zero_scope. object_behind ∙ more.at_root (sym (ap scope object_behind) ∙ zero_scope);
           }
+        where
+          object_behind : get_or (by_document m any_object (t ∷ trees)) doc no_object ≡ get_or (by_document m any_object trees) (doc - length block) no_object
+          object_behind =
+              ap (λ n. get_or (by_document m any_object (t ∷ trees)) n no_object) (let sum : doc ≡ length block + (doc - length block) = omega (arith, behind) in sum ∙ ap (λ n. n + (doc - length block)) (sym (length-map block (any_object t.live))))
+              ∙ high_at (map (any_object t.live) block) (by_document m any_object trees) (doc - length block) no_object
 
   pub in_tree : (trees : Seq (Marked Tree)) (doc : ℕ) → doc < length (objects_in m trees) → IsInTree m trees doc
   in_tree trees doc low =
@@ -221,6 +260,7 @@ module _ (m : Mapping) (one : OneRoot m) where
         at = ap (λ flags. slice_get trees (count_by is_marked (take doc flags))) (flags_are m trees) ∙ it.at;
         tree = it.tree;
         live = it.live;
+        at_root = it.at_root;
       }
 
 -- ---- scopes, and how many documents there are

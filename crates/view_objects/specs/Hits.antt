@@ -92,12 +92,14 @@ hits_between place start end scores = hits_from place start (drop start (take en
 abbrev pub count_between : ℕ → ℕ → ℕ → List ℕ → ℕ
 count_between n start end scopes = length (filter (has_scope n) (drop start (take end scopes)))
 
--- The tree of a document is the one with as many roots before the document, and the document is live where it is.
+-- The tree of a document is the one with as many roots before the document, the document is live where it is, and at the
+-- scope of roots it stands for the root.
 pub record IsInTree (m : Mapping) (trees : List (Marked Tree)) (doc : ℕ) : Type 0 where
   pub marked : Marked Tree
   pub at : slice_get trees (root_of (documents_of (scopes_of m trees) 0) doc) ≡ Some marked
   pub tree : tree_of (document_object m trees doc) ≡ marked.item
   pub live : get_or (by_document m live_mark trees) doc false ≡ marked.live
+  pub at_root : scope (document_object m trees doc) ≡ 0 → document_object m trees doc ≡ root marked.item
 
 -- ---- a document of a nested path among those of the scope around it
 
