@@ -17,7 +17,7 @@ use Rattle.view_objects.specs.Hits.{IsChildAt, IsInTree, document_object, no_obj
 use Rattle.inner_hits.specs.Contents.{IsChildDoc, IsChildOf}
 use Rattle.inner_hits.specs.Walks.{scopes_in}
 use Rattle.inner_hits.specs.declared.content.ChildDoc.{ChildDoc}
-use Rattle.inner_hits.proofs.Rows.{by_test}
+use Rattle.inner_hits.proofs.Paging.{by_test}
 
 numbered_at : (o : Object) (n from k : ℕ) (values : Seq JsonValue) (d : Object) → k < length values → get_or (numbered o n from values) k d ≡ inside o n (from + k) (get_or values k null)
 numbered_at o n from k [] d low = absurd (omega (arith, low))

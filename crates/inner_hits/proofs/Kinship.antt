@@ -12,7 +12,7 @@ use Rattle.view_objects.specs.Hits.{hit_object}
 use Rattle.view_objects.specs.declared.hit.Hit.{Hit}
 use Rattle.inner_hits.specs.Kinship.{has_key, hit_of, is_key}
 use Rattle.inner_hits.specs.declared.joined.Kin.{Kin}
-use Rattle.inner_hits.proofs.Rows.{by_test}
+use Rattle.inner_hits.proofs.Paging.{by_test}
 
 -- the hits among the trees that pass are the hits whose trees pass
 scored_passing : (test : Tree → Bool) (given : Object → Option ℕ) (live : Seq Tree) → filter_map (scored given) (roots (filter test live)) ≡ filter (λ (p : Object × ℕ). test (tree_of p.0)) (filter_map (scored given) (roots live))

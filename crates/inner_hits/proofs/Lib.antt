@@ -1,7 +1,7 @@
 pub mod Ranges
 pub mod Sets
 pub mod Sorted
-pub mod Rows
+pub mod Paging
 pub mod Objects
 pub mod Kinship
 pub mod Contents

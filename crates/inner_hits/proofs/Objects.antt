@@ -15,7 +15,7 @@ use Rattle.tree_objects.specs.Tree.{Tree}
 use Rattle.view_objects.specs.Hits.{hit_object, live_in, live_trees}
 use Rattle.view_objects.specs.declared.hit.Hit.{Hit}
 use Rattle.inner_hits.specs.Hits.{row_at}
-use Rattle.inner_hits.proofs.Rows.{by_test, map_map}
+use Rattle.inner_hits.proofs.Paging.{by_test, map_map}
 
 abbrev row_of_pair : Mapping → Seq Tree → Seq Sort → Object × ℕ → Row
 row_of_pair m live sorts pair = row_of m live sorts pair.0 pair.1

@@ -4,7 +4,7 @@ use Rattle.std.proofs.lemmas.Bool.{false≢true}
 use Rattle.std.proofs.lemmas.List.{append-nil, drop-map, take-map}
 use Rattle.std.proofs.lemmas.Option.{same_Some}
 use Rattle.std.specs.List.{flat_map, position_from}
-use Rattle.std.specs.Option.{option_or}
+use Rattle.std.specs.Option.{option_or, option_to_list}
 use Rattle.block_bits.specs.Blocks.{documents_of, has_scope}
 use Rattle.block_bits.specs.Flags.{is_marked}
 use Rattle.block_bits.specs.Places.{last_place, next_place, previous_place}
@@ -115,13 +115,9 @@ found_some from scores p is =
 
 -- what is told between a document and the next
 pub own_between : (scores : Seq (Option ℕ)) (doc s : ℕ) (rest : Seq ℕ) → between scores doc (doc + 1) ≡ s ∷ rest → get_or scores doc None ≡ Some s
-own_between scores doc s rest told = by doc scores (ap (λ k. flat_map one_of (take k (drop doc scores))) (let e : 1 ≡ doc + 1 - doc = omega arith in e) ∙ told)
+own_between scores doc s rest told = by doc scores (ap (λ k. flat_map option_to_list (take k (drop doc scores))) (let e : 1 ≡ doc + 1 - doc = omega arith in e) ∙ told)
   where
-    one_of : Option ℕ → Seq ℕ
-    one_of None = []
-    one_of (Some t) = t ∷ []
-
-    by : (k : ℕ) (xs : Seq (Option ℕ)) → flat_map one_of (take 1 (drop k xs)) ≡ s ∷ rest → get_or xs k None ≡ Some s
+    by : (k : ℕ) (xs : Seq (Option ℕ)) → flat_map option_to_list (take 1 (drop k xs)) ≡ s ∷ rest → get_or xs k None ≡ Some s
     by zero [] told = absurd (let no : ⊥ = cc in no)
     by zero (None ∷ xs) told = absurd (let no : ⊥ = cc in no)
     by zero (Some t ∷ xs) told = let e : t ≡ s = cc in ap Some e

@@ -23,7 +23,7 @@ pub(crate) struct Kin {
 }
 
 /// The hits among the roots of a side, by their keys, those of one key in the order of the view.
-pub(crate) fn kin(
+pub(crate) fn kin_of(
     alloc: Global,
     entries: &[Entry],
     mapping: &Mapping,

@@ -27,7 +27,7 @@ ghost use Rattle.view_objects.specs.Hits.{document_object, live_trees, object_at
 use crate::NoMemory;
 use crate::below::{children_of, hits_below, parents_of};
 use crate::content::{located, text_of};
-use crate::prepared::{Prepared, PreparedList};
+use crate::prepared::{PreparedDef, PreparedList};
 use crate::rows::chosen;
 use crate::trees::root_of;
 use join_ordinals::JoinOrdinals;
@@ -98,7 +98,7 @@ fn add_pages<L: Ledger>(
     mapping: &Mapping,
     ordinals: &JoinOrdinals,
     definitions: &[InnerDef],
-    prepared: &[Prepared],
+    prepared: &[PreparedDef],
     scope: u32,
     place: usize,
     doc: u32,
@@ -142,7 +142,7 @@ fn page<L: Ledger>(
     mapping: &Mapping,
     ordinals: &JoinOrdinals,
     def: &InnerDef,
-    prepared: &Prepared,
+    prepared: &PreparedDef,
     scope: u32,
     place: usize,
     doc: u32,
@@ -235,7 +235,7 @@ fn shown_page<L: Ledger>(
     mapping: &Mapping,
     ordinals: &JoinOrdinals,
     def: &InnerDef,
-    prepared: &Prepared,
+    prepared: &PreparedDef,
     scope: u32,
     hits: Vec<Hit>,
     source: &Json,
@@ -291,7 +291,7 @@ fn shown_hits<L: Ledger>(
     mapping: &Mapping,
     ordinals: &JoinOrdinals,
     def: &InnerDef,
-    prepared: &Prepared,
+    prepared: &PreparedDef,
     scope: u32,
     hits: &[Hit],
     source: &Json,
@@ -329,7 +329,7 @@ fn nested_hit<L: Ledger>(
     mapping: &Mapping,
     ordinals: &JoinOrdinals,
     def: &InnerDef,
-    prepared: &Prepared,
+    prepared: &PreparedDef,
     scope: u32,
     hit: Hit,
     source: &Json,
@@ -391,7 +391,7 @@ fn tree_hit<L: Ledger>(
     mapping: &Mapping,
     ordinals: &JoinOrdinals,
     def: &InnerDef,
-    prepared: &Prepared,
+    prepared: &PreparedDef,
     hit: Hit,
     steps: &mut Steps<L>,
 ) -> Result<InnerHit, NoMemory>

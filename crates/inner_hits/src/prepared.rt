@@ -12,7 +12,7 @@ ghost use Rattle.query_ast.specs.Resolved.{AreInnerDefinitions, AreSorts, IsChai
 ghost use Rattle.std.specs.List.{flat_map, list_any};
 
 use crate::NoMemory;
-use crate::joined::{Kin, kin};
+use crate::joined::{Kin, kin_of};
 use block_join::Matches;
 use join_ordinals::JoinOrdinals;
 use mapping::Mapping;
@@ -27,7 +27,7 @@ use std::sync::ledger::Ledger;
 /// What was evaluated for a definition of inner hits.
 #[cycle(prepared)]
 #[derive(Drop)]
-pub(crate) struct Prepared {
+pub(crate) struct PreparedDef {
     /// What its query finds, in the scope of its objects.
     pub(crate) hits: Matches,
     /// What the filters of its sort find, clauses in order, each from the outermost in.
@@ -41,7 +41,7 @@ pub(crate) struct Prepared {
 #[cycle(prepared)]
 #[derive(Drop)]
 pub struct PreparedList {
-    items: Vec<Prepared>,
+    items: Vec<PreparedDef>,
 }
 
 impl Model for PreparedList {
@@ -71,14 +71,14 @@ impl PreparedList {
     ghost use Rattle.inner_hits.specs.Prepared.View.{prepared_of};
 
     /// The list of these. Takes no memory.
-    fn of(items: Vec<Prepared>) -> PreparedList
+    fn of(items: Vec<PreparedDef>) -> PreparedList
         ensures { result ≡ map prepared_of items.items }
     {
         PreparedList { items }
     }
 
     /// The items in order.
-    pub(crate) fn as_slice(&self) -> &[Prepared]
+    pub(crate) fn as_slice(&self) -> &[PreparedDef]
         ensures { map prepared_of result.now ≡ self.now }
     {
         self.items.as_slice()
@@ -136,7 +136,7 @@ fn one<L: Ledger>(
     def: &InnerDef,
     scope: u32,
     steps: &mut Steps<L>,
-) -> Result<Prepared, NoMemory>
+) -> Result<PreparedDef, NoMemory>
     requires resolved { IsInnerDefinition mapping.now scope (inner_of def.now) }
     requires joined { inner_joins (inner_of def.now) ≡ true → AreOrdinals view.now ordinals.now }
     ensures prepared { IfOk result (λ made. IsPrepared mapping.now view.now ordinals.now (inner_of def.now) (prepared_of made)) }
@@ -147,7 +147,7 @@ fn one<L: Ledger>(
             let hits = matches(alloc, view, mapping, ordinals, def.query.get(), path, steps)?;
             let filters = filters(alloc, view, mapping, ordinals, def.sort.as_slice(), path, steps)?;
             let owned = each(alloc, view, mapping, ordinals, def.owned.as_slice(), path, steps)?;
-            Ok(Prepared {
+            Ok(PreparedDef {
                 hits,
                 filters,
                 kin: Vec::new(alloc),
@@ -160,7 +160,7 @@ fn one<L: Ledger>(
         InnerOver::Parents(relation) => Ok(joining(
             alloc, view, mapping, ordinals, def, Side::Parents(relation), steps,
         )?),
-        InnerOver::Ignored => Ok(Prepared {
+        InnerOver::Ignored => Ok(PreparedDef {
             hits: Matches::of(Vec::new(alloc)),
             filters: Vec::new(alloc),
             kin: Vec::new(alloc),
@@ -179,7 +179,7 @@ fn joining<L: Ledger>(
     def: &InnerDef,
     side: Side,
     steps: &mut Steps<L>,
-) -> Result<Prepared, NoMemory>
+) -> Result<PreparedDef, NoMemory>
     requires query { IsResolved mapping.now 0 def.now.query }
     requires sorts { AreSorts mapping.now 0 def.now.sort }
     requires owned { AreInnerDefinitions mapping.now 0 (definitions_of def.now.owned) }
@@ -191,9 +191,9 @@ fn joining<L: Ledger>(
 {
     let hits = matches(alloc, view, mapping, ordinals, def.query.get(), 0, steps)?;
     let filters = filters(alloc, view, mapping, ordinals, def.sort.as_slice(), 0, steps)?;
-    let kin = kin(alloc, view.entries(), mapping, ordinals, &hits, side)?;
+    let kin = kin_of(alloc, view.entries(), mapping, ordinals, &hits, side)?;
     let owned = each(alloc, view, mapping, ordinals, def.owned.as_slice(), 0, steps)?;
-    Ok(Prepared {
+    Ok(PreparedDef {
         hits,
         filters,
         kin,

@@ -18,7 +18,7 @@ use Rattle.tree_objects.specs.Enclosing.{stands_at}
 use Rattle.tree_objects.specs.Object.{Object, root, inside, scope, content, tree_of, given, numbered, children, items, objects, block_objects}
 use Rattle.tree_objects.specs.Tree.{Tree}
 use Rattle.view_objects.specs.Hits.{IsInTree, any_object, document_object, no_object, objects_in}
-use Rattle.view_objects.proofs.Hits.{by_test, map_map}
+use Rattle.view_objects.proofs.Hits.{by_test}
 
 -- ---- each object of a block is of its tree
 
@@ -100,20 +100,15 @@ count_none : (os more : Seq Object) (k : ℕ) → AllByRecursion (λ (o : Object
 count_none os more zero none low = refl
 count_none [] more (suc k) none low = absurd (omega (arith, low))
 count_none (o ∷ os) more (suc k) none low =
-    ap (λ b. count_by is_marked (b ∷ take k (map stand (os ++ more)))) none.0
-    ∙ count-mark false (take k (map stand (os ++ more)))
-    ∙ count_none os more k none.1 (omega (arith, low))
+    rw none.0 (omega (arith, count-mark false (take k (map stand (os ++ more))), count_none os more k none.1 (omega (arith, low))))
 
 count_past : (os : Seq Object) (t : Tree) (flags : Seq Bool) (k : ℕ) → AllByRecursion (λ (o : Object). stand o ≡ false) os → count_by is_marked (take (length (os ++ (root t ∷ [])) + k) (map stand (os ++ (root t ∷ [])) ++ flags)) ≡ suc (count_by is_marked (take k flags))
 count_past [] t flags k none =
     let e : 1 + k ≡ suc k = omega arith in
-    rw e (count-mark true (take k flags))
+    rw e (omega (arith, count-mark true (take k flags)))
 count_past (o ∷ os) t flags k none =
     let e : suc (length (os ++ (root t ∷ []))) + k ≡ suc (length (os ++ (root t ∷ [])) + k) = omega arith in
-    rw e
-        (ap (λ b. count_by is_marked (b ∷ take (length (os ++ (root t ∷ [])) + k) (map stand (os ++ (root t ∷ [])) ++ flags))) none.0
-        ∙ count-mark false (take (length (os ++ (root t ∷ [])) + k) (map stand (os ++ (root t ∷ [])) ++ flags))
-        ∙ count_past os t flags k none.1)
+    rw (e, none.0) (omega (arith, count-mark false (take (length (os ++ (root t ∷ [])) + k) (map stand (os ++ (root t ∷ [])) ++ flags)), count_past os t flags k none.1))
 
 -- what stands at the root's scope is the root
 roots_alone : (os : Seq Object) (t : Tree) → filter (stands_at 0) os ≡ root t ∷ [] → AllByRecursion (λ (o : Object). stand o ≡ true → o ≡ root t) os

@@ -1,7 +1,7 @@
 use Rattle.std.proofs.Common.{◌≡◌, take}
 use Rattle.view_objects.specs.Hits.{hits_in}
 use Rattle.inner_hits.specs.Kinship.{kin_from}
-use Rattle.inner_hits.proofs.joined.kin.Given as goal
+use Rattle.inner_hits.proofs.joined.kin_of.Given as goal
 
 abbrev pub invariant-entries : goal.invariant-entries
 invariant-entries l = l.kin.items ≡ kin_from l.mapping l.ordinals l.side l.entries (hits_in (take l.place l.fn.matches))
