@@ -18,4 +18,3 @@ pub mod FitsFurther
 pub mod Smallness
 pub mod Weights
 pub mod Lightness
-pub mod Namings

@@ -52,7 +52,7 @@ child_is m parent n k o low at =
 
 -- what a reader finds there
 pub read_at : {A B : Type 0} (f : A → B) (xs : Seq A) (k : ℕ) (x : A) (values : Seq B) (d : B) → slice_get xs k ≡ Some x → map f xs ≡ values → f x ≡ get_or values k d
-read_at f xs k x values d is are = by xs k is ∙ ap (λ l. get_or l k d) are
+read_at {A} {B} f xs k x values d is are = by xs k is ∙ ap (λ l. get_or l k d) are
   where
     by : (xs : Seq A) (k : ℕ) → slice_get xs k ≡ Some x → f x ≡ get_or (map f xs) k d
     by [] k is = absurd (let no : ⊥ = cc in no)
@@ -60,7 +60,7 @@ read_at f xs k x values d is are = by xs k is ∙ ap (λ l. get_or l k d) are
     by (y ∷ ys) (suc k) is = by ys k is
 
 pub none_there : {A B : Type 0} (f : A → B) (xs : Seq A) (k : ℕ) (values : Seq B) → slice_get xs k ≡ None → map f xs ≡ values → length values ≤ k
-none_there f xs k values is are = let e : length values ≡ length xs = sym (ap length are) ∙ length-map xs f in let past : length xs ≤ k = by xs k is in omega (arith, e, past)
+none_there {A} {B} f xs k values is are = let e : length values ≡ length xs = sym (ap length are) ∙ length-map xs f in let past : length xs ≤ k = by xs k is in omega (arith, e, past)
   where
     by : (xs : Seq A) (k : ℕ) → slice_get xs k ≡ None → length xs ≤ k
     by [] k is = omega arith

@@ -5,3 +5,6 @@ pub mod Paging
 pub mod Objects
 pub mod Kinship
 pub mod Contents
+pub mod Scored
+pub mod Standing
+pub mod Showing

@@ -30,7 +30,7 @@ drop_further zero (suc k) [] = refl
 drop_further (suc j) (suc k) [] = refl
 drop_further j (suc k) (x ∷ xs) = let e : suc k + j ≡ suc (k + j) = omega arith in rw e (drop_further j k xs)
 
-get_at : {A : Type 0} (k j : ℕ) (xs : Seq A) (d : A) → get_or (drop k xs) j d ≡ get_or xs (k + j) d
+pub get_at : {A : Type 0} (k j : ℕ) (xs : Seq A) (d : A) → get_or (drop k xs) j d ≡ get_or xs (k + j) d
 get_at zero j xs d = let e : 0 + j ≡ j = omega arith in rw e refl
 get_at (suc k) j [] d = refl
 get_at (suc k) j (x ∷ xs) d = let e : suc k + j ≡ suc (k + j) = omega arith in rw e (get_at k j xs d)
