@@ -8,3 +8,4 @@ pub mod Contents
 pub mod Scored
 pub mod Standing
 pub mod Showing
+pub mod Adding

@@ -1,11 +1,11 @@
 -- What is evaluated once for a search, so that each hit finds its inner hits in it.
 pub mod View
 pub mod Falls
-use Rattle.std.specs.Prelude.{ℕ, List, Option, ⊤, ⊥}
+use Rattle.std.specs.Prelude.{◌≡◌, ℕ, List, ◌++◌, Option, ⊤, ⊥}
 use Rattle.join_ordinals.specs.Ordinals.{Ordinals}
 use Rattle.mapping.specs.Mapping.{Mapping}
 use Rattle.query_ast.specs.Clause.{Clause}
-use Rattle.query_ast.specs.Definition.{Definition, definition, Definitions, no_definitions, with_definition}
+use Rattle.query_ast.specs.Definition.{Definition, definition, Definitions, no_definitions, with_definition, definitions_of}
 use Rattle.query_ast.specs.Inner.{Inner}
 use Rattle.query_ast.specs.declared.inner.InnerOver.{InnerOver}
 use Rattle.query_ast.specs.declared.inner.InnerOver.TheVariants.{Below, Children as ChildTrees, Parents as ParentTrees, Ignored}
@@ -41,3 +41,9 @@ abbrev mutual
   ArePrepared m view ordinals no_definitions (with_definition a answers) = ⊥
   ArePrepared m view ordinals (with_definition d ds) no_definitions = ⊥
   ArePrepared m view ordinals (with_definition d ds) (with_definition a answers) = IsPrepared m view ordinals d a × ArePrepared m view ordinals ds answers
+
+-- and what is prepared for several stands behind what was prepared before
+pub record AddsPrepared (m : Mapping) (view : List EntryState) (ordinals : Ordinals) (ds : Definitions Inner) (old new : List (Definition Answer)) : Type 0 where
+  pub added : List (Definition Answer)
+  pub is : new ≡ old ++ added
+  pub prepared : ArePrepared m view ordinals ds (definitions_of added)

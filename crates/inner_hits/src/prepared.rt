@@ -2,13 +2,13 @@
 ghost use Rattle.std.specs.Prelude.{◌≡◌, ◌++◌, true, [], List, length, map, Option, IfOk, OnOk};
 ghost use Rattle.inner_hits.specs.Filters.{AddsFound, AreFound, filters_of, filters_of_key, filter_of};
 ghost use Rattle.inner_hits.specs.Kinship.{AreKin};
-ghost use Rattle.inner_hits.specs.Prepared.{ArePrepared, IsAnswered, IsPrepared};
+ghost use Rattle.inner_hits.specs.Prepared.{AddsPrepared, ArePrepared, IsAnswered, IsPrepared};
 ghost use Rattle.inner_hits.specs.Prepared.View.{prepared_of};
 ghost use Rattle.join_ordinals.specs.Ordinals.{AreOrdinals};
 ghost use Rattle.query_ast.specs.Definition.{definitions_of};
 ghost use Rattle.query_ast.specs.Inner.View.{inner_of};
 ghost use Rattle.query_ast.specs.Joins.{inner_joins, some_inner_joins, sort_joins, step_joins};
-ghost use Rattle.query_ast.specs.Resolved.{AreInnerDefinitions, AreSorts, IsChain, IsInnerDefinition, IsResolved, IsSortKey};
+ghost use Rattle.query_ast.specs.Resolved.{AreInnerDefinitions, AreSorts, IsChain, IsFilter, IsInnerDefinition, IsResolved, IsSortKey};
 ghost use Rattle.std.specs.List.{flat_map, list_any};
 
 use crate::NoMemory;
@@ -102,29 +102,65 @@ pub fn prepared<L: Ledger>(
     ensures prepared { IfOk result (λ made. ArePrepared mapping.now view.now ordinals.now (definitions_of definitions.now) (definitions_of made)) }
     ensures steps { steps.new ≡ steps.old }
 {
-    Ok(each(alloc, view, mapping, ordinals, definitions.as_slice(), scope, steps)?)
+    Ok(each(alloc, view, mapping, ordinals, definitions, scope, steps)?)
 }
 
+/// What is evaluated for definitions.
 #[cycle(prepared)]
+#[tactic(auto, using(crate::proofs::Adding::preparing))]
 fn each<L: Ledger>(
+    alloc: Global,
+    view: &View,
+    mapping: &Mapping,
+    ordinals: &JoinOrdinals,
+    definitions: &InnerList,
+    scope: u32,
+    steps: &mut Steps<L>,
+) -> Result<PreparedList, NoMemory>
+    requires resolved { AreInnerDefinitions mapping.now scope (definitions_of definitions.now) }
+    requires joined { some_inner_joins (definitions_of definitions.now) ≡ true → AreOrdinals view.now ordinals.now }
+    ensures prepared { IfOk result (λ made. ArePrepared mapping.now view.now ordinals.now (definitions_of definitions.now) (definitions_of made)) }
+    ensures steps { steps.new ≡ steps.old }
+{
+    let mut made = Vec::new(alloc);
+    add_each(
+        alloc,
+        view,
+        mapping,
+        ordinals,
+        definitions.as_slice(),
+        scope,
+        &mut made,
+        steps,
+    )?;
+    Ok(PreparedList::of(made))
+}
+
+/// Adds what is evaluated for each definition.
+#[cycle(prepared)]
+#[tactic(auto, using(crate::proofs::Adding::preparing))]
+fn add_each<L: Ledger>(
     alloc: Global,
     view: &View,
     mapping: &Mapping,
     ordinals: &JoinOrdinals,
     definitions: &[InnerDef],
     scope: u32,
+    made: &mut Vec<PreparedDef>,
     steps: &mut Steps<L>,
-) -> Result<PreparedList, NoMemory>
+) -> Result<(), NoMemory>
     requires resolved { AreInnerDefinitions mapping.now scope (definitions_of (map inner_of definitions.now)) }
     requires joined { some_inner_joins (definitions_of (map inner_of definitions.now)) ≡ true → AreOrdinals view.now ordinals.now }
-    ensures prepared { IfOk result (λ made. ArePrepared mapping.now view.now ordinals.now (definitions_of (map inner_of definitions.now)) (definitions_of made)) }
+    ensures prepared { OnOk result (AddsPrepared mapping.now view.now ordinals.now (definitions_of (map inner_of definitions.now)) (map prepared_of made.old.items) (map prepared_of made.new.items)) }
     ensures steps { steps.new ≡ steps.old }
 {
-    let mut made = Vec::with_capacity(alloc, definitions.len())?;
-    'definitions: for def in definitions {
-        made.push(one(alloc, view, mapping, ordinals, def, scope, steps)?)?;
+    match definitions {
+        [] => Ok(()),
+        [def, rest @ ..] => {
+            made.push(one(alloc, view, mapping, ordinals, def, scope, steps)?)?;
+            add_each(alloc, view, mapping, ordinals, rest, scope, made, steps)
+        }
     }
-    Ok(PreparedList::of(made))
 }
 
 #[cycle(prepared)]
@@ -146,7 +182,7 @@ fn one<L: Ledger>(
         InnerOver::Below(path) => {
             let hits = matches(alloc, view, mapping, ordinals, def.query.get(), path, steps)?;
             let filters = filters(alloc, view, mapping, ordinals, def.sort.as_slice(), path, steps)?;
-            let owned = each(alloc, view, mapping, ordinals, def.owned.as_slice(), path, steps)?;
+            let owned = each(alloc, view, mapping, ordinals, &def.owned, path, steps)?;
             Ok(PreparedDef {
                 hits,
                 filters,
@@ -192,7 +228,7 @@ fn joining<L: Ledger>(
     let hits = matches(alloc, view, mapping, ordinals, def.query.get(), 0, steps)?;
     let filters = filters(alloc, view, mapping, ordinals, def.sort.as_slice(), 0, steps)?;
     let kin = kin_of(alloc, view.entries(), mapping, ordinals, &hits, side)?;
-    let owned = each(alloc, view, mapping, ordinals, def.owned.as_slice(), 0, steps)?;
+    let owned = each(alloc, view, mapping, ordinals, &def.owned, 0, steps)?;
     Ok(PreparedDef {
         hits,
         filters,
@@ -202,6 +238,7 @@ fn joining<L: Ledger>(
 }
 
 /// What the filters of sort clauses find.
+#[tactic(auto, using(crate::proofs::Adding::adding))]
 fn filters<L: Ledger>(
     alloc: Global,
     view: &View,
@@ -217,13 +254,38 @@ fn filters<L: Ledger>(
     ensures steps { steps.new ≡ steps.old }
 {
     let mut filters = Vec::new(alloc);
-    'sorts: for sort in sorts {
-        add_filters(alloc, view, mapping, ordinals, sort, scope, &mut filters, steps)?;
-    }
+    add_all(alloc, view, mapping, ordinals, sorts, scope, &mut filters, steps)?;
     Ok(filters)
 }
 
+/// Adds those of clauses, in order.
+#[tactic(auto, using(crate::proofs::Adding::adding))]
+fn add_all<L: Ledger>(
+    alloc: Global,
+    view: &View,
+    mapping: &Mapping,
+    ordinals: &JoinOrdinals,
+    sorts: &[Sort],
+    scope: u32,
+    filters: &mut Vec<Matches>,
+    steps: &mut Steps<L>,
+) -> Result<(), NoMemory>
+    requires sorts { AreSorts mapping.now scope sorts.now }
+    requires joined { list_any sort_joins sorts.now ≡ true → AreOrdinals view.now ordinals.now }
+    ensures found { OnOk result (AddsFound mapping.now view.now (filters_of sorts.now) filters.old.items filters.new.items) }
+    ensures steps { steps.new ≡ steps.old }
+{
+    match sorts {
+        [] => Ok(()),
+        [sort, rest @ ..] => {
+            add_filters(alloc, view, mapping, ordinals, sort, scope, filters, steps)?;
+            add_all(alloc, view, mapping, ordinals, rest, scope, filters, steps)
+        }
+    }
+}
+
 /// Adds those of one clause.
+#[tactic(auto, using(crate::proofs::Adding::adding))]
 fn add_filters<L: Ledger>(
     alloc: Global,
     view: &View,
@@ -248,6 +310,7 @@ fn add_filters<L: Ledger>(
 }
 
 /// Adds those of a chain, from the outermost in.
+#[tactic(auto, using(crate::proofs::Adding::adding))]
 fn add_chain<L: Ledger>(
     alloc: Global,
     view: &View,
@@ -266,12 +329,42 @@ fn add_chain<L: Ledger>(
     match chain {
         [] => Ok(()),
         [step, rest @ ..] => {
-            if let Some(filter) = &step.filter {
-                filters.push(matches(
-                    alloc, view, mapping, ordinals, filter.get(), step.scope, steps,
-                )?)?;
-            }
+            add_step(alloc, view, mapping, ordinals, step, filters, steps)?;
             add_chain(alloc, view, mapping, ordinals, rest, step.scope, filters, steps)
+        }
+    }
+}
+
+/// Adds that of one step, if it has a filter.
+#[tactic(auto, using(crate::proofs::Adding::adding))]
+fn add_step<L: Ledger>(
+    alloc: Global,
+    view: &View,
+    mapping: &Mapping,
+    ordinals: &JoinOrdinals,
+    step: &Chain,
+    filters: &mut Vec<Matches>,
+    steps: &mut Steps<L>,
+) -> Result<(), NoMemory>
+    requires filter { IsFilter mapping.now step.now.scope step.now.filter }
+    requires joined { step_joins step.now ≡ true → AreOrdinals view.now ordinals.now }
+    ensures found { OnOk result (AddsFound mapping.now view.now (filter_of step.now) filters.old.items filters.new.items) }
+    ensures steps { steps.new ≡ steps.old }
+{
+    match &step.filter {
+        None => Ok(()),
+        Some(filter) => {
+            let found = matches(
+                alloc,
+                view,
+                mapping,
+                ordinals,
+                filter.get(),
+                step.scope,
+                steps,
+            )?;
+            filters.push(found)?;
+            Ok(())
         }
     }
 }
