@@ -26,12 +26,12 @@ scored_passing test given (t ∷ live) =
     passing p = test (tree_of p.0)
 
     put : test t ≡ true → (score : Option ℕ) → cons_option (option_map (λ s. (root t, s)) score) (filter_map (scored given) (roots (filter test live))) ≡ filter (λ (p : Object × ℕ). test (tree_of p.0)) (cons_option (option_map (λ s. (root t, s)) score) (filter_map (scored given) (roots live)))
-    put yes None = scored_passing test given live
-    put yes (Some s) = rw yes (ap (λ l. (root t, s) ∷ l) (scored_passing test given live))
+    put held None = scored_passing test given live
+    put held (Some s) = rw held (ap (λ l. (root t, s) ∷ l) (scored_passing test given live))
 
     skip : test t ≡ false → (score : Option ℕ) → filter_map (scored given) (roots (filter test live)) ≡ filter (λ (p : Object × ℕ). test (tree_of p.0)) (cons_option (option_map (λ s. (root t, s)) score) (filter_map (scored given) (roots live)))
-    skip no None = scored_passing test given live
-    skip no (Some s) = rw no (scored_passing test given live)
+    skip failed None = scored_passing test given live
+    skip failed (Some s) = rw failed (scored_passing test given live)
 
 -- hits by a test of their objects
 passing_hits : (m : Mapping) (trees : Seq (Seq (Marked Tree))) (test : Tree → Bool) (is : Hit → Bool) (hits : Seq Hit) → AllByRecursion (λ (h : Hit). is h ≡ test (tree_of (hit_object m trees h).0)) hits

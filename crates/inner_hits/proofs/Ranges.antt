@@ -42,8 +42,8 @@ behind test k [] p is = absurd (let no : ⊥ = cc in no)
 behind test k (x ∷ xs) p is = by (test x) refl
   where
     by : (b : Bool) → test x ≡ b → k ≤ p
-    by true yes = let e : Some k ≡ Some p = rw yes at is in omega (arith, same_Some k p e)
-    by false no = let e : position_from test (k + 1) xs ≡ Some p = rw no at is in omega (arith, behind test (k + 1) xs p e)
+    by true held = let e : Some k ≡ Some p = rw held at is in omega (arith, same_Some k p e)
+    by false failed = let e : position_from test (k + 1) xs ≡ Some p = rw failed at is in omega (arith, behind test (k + 1) xs p e)
 
 module _ (place : ℕ) where
   first_from : (k n : ℕ) (xs : Seq (Option ℕ)) (p s : ℕ) → position_from is_some k xs ≡ Some p → p < k + n → get_or xs (p - k) None ≡ Some s
@@ -145,23 +145,23 @@ counted_from n k [] p is = absurd (let no : ⊥ = cc in no)
 counted_from n k (s ∷ ss) p is = by (s == n) refl
   where
     by : (b : Bool) → (s == n) ≡ b → length (filter (has_scope n) (s ∷ ss)) ≡ suc (length (filter (has_scope n) (drop (p + 1 - k) (s ∷ ss))))
-    by true yes =
-        let e : Some k ≡ Some p = rw yes at is in
+    by true held =
+        let e : Some k ≡ Some p = rw held at is in
         let one : p + 1 - k ≡ 1 = omega (arith, same_Some k p e) in
-        rw (yes, one) refl
-    by false no =
-        let e : position_from is_marked (k + 1) (map (has_scope n) ss) ≡ Some p = rw no at is in
+        rw (held, one) refl
+    by false failed =
+        let e : position_from is_marked (k + 1) (map (has_scope n) ss) ≡ Some p = rw failed at is in
         let far : k + 1 ≤ p = behind is_marked (k + 1) (map (has_scope n) ss) p e in
         let over : p + 1 - k ≡ suc (p + 1 - (k + 1)) = omega (arith, far) in
-        rw (no, over) (counted_from n (k + 1) ss p e)
+        rw (failed, over) (counted_from n (k + 1) ss p e)
 
 none_counted : (n k : ℕ) (ss : Seq ℕ) → position_from is_marked k (map (has_scope n) ss) ≡ None → length (filter (has_scope n) ss) ≡ 0
 none_counted n k [] is = refl
 none_counted n k (s ∷ ss) is = by (s == n) refl
   where
     by : (b : Bool) → (s == n) ≡ b → length (filter (has_scope n) (s ∷ ss)) ≡ 0
-    by true yes = absurd (let e : Some k ≡ None = rw yes at is in let no : ⊥ = cc in no)
-    by false no = let e : position_from is_marked (k + 1) (map (has_scope n) ss) ≡ None = rw no at is in rw no (none_counted n (k + 1) ss e)
+    by true held = absurd (let e : Some k ≡ None = rw held at is in let no : ⊥ = cc in no)
+    by false failed = let e : position_from is_marked (k + 1) (map (has_scope n) ss) ≡ None = rw failed at is in rw failed (none_counted n (k + 1) ss e)
 
 flags_range : (n from end : ℕ) (scopes : Seq ℕ) → drop from (take end (documents_of scopes n)) ≡ map (has_scope n) (drop from (take end scopes))
 flags_range n from end scopes = ap (drop from) (take-map (has_scope n) end scopes) ∙ drop-map (has_scope n) from (take end scopes)

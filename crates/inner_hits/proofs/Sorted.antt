@@ -19,7 +19,7 @@ module _ (kin : Seq Kin) (sorted : IsInKeyOrder kin) where
       rw e (omega (arith, before, next))
     where
       not_less : (a b : ℕ) → is_lt (nat_cmp a b) ≡ false → b ≤ a
-      not_less a b no = grind (arith, nat_tests)
+      not_less a b failed = grind (arith, nat_tests)
 
   pub climbs : (i j : ℕ) (d : Kin) → i ≤ j → j < length kin → key_of (get_or kin i d) ≤ key_of (get_or kin j d)
   climbs i j d up low = 

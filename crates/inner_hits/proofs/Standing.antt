@@ -71,7 +71,7 @@ pub record SeenAt (m : Mapping) (n : ℕ) (given : Object → Option ℕ) (trees
   pub given_score : given (document_object m trees doc) ≡ Some score
 
 parts : (live there : Bool) (score : Option ℕ) (s : ℕ) → cond live (cond there score None) None ≡ Some s → (live ≡ true) × (there ≡ true) × (score ≡ Some s)
-parts true true score s is = (refl, (refl, is))
+parts true true score s is = (refl, refl, is)
 parts true false score s is = absurd (false≢true (ap is_some is))
 parts false there score s is = absurd (false≢true (ap is_some is))
 
@@ -85,8 +85,8 @@ seen_at m n given trees doc score is =
     record {
       low = subst (λ k. doc < k) (sym (length-map (documents m trees) (λ (d : Document). d.1)) ∙ sym (ap length (documents_are m any_object trees))) found.0;
       live = ap (λ (l : Seq Bool). get_or l doc false) (documents_are m live_mark trees) ∙ read_map (λ (d : Document). d.0) (documents m trees) doc none false found.0 ∙ part.0;
-      stands_at = ap scope object ∙ eqb-true (scope d.1) n part.1.0;
-      given_score = ap given object ∙ part.1.1;
+      stands_at = ap scope object ∙ eqb-true (scope d.1) n part.1;
+      given_score = ap given object ∙ part.2;
     }
 
 -- ---- a root that a query hits

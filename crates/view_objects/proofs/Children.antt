@@ -30,10 +30,13 @@ get_take (suc k) j [] d low = refl
 get_take (suc k) zero (x ∷ xs) d low = refl
 get_take (suc k) (suc j) (x ∷ xs) d low = get_take k j xs d (omega (arith, low))
 
+take_nothing : {A : Type 0} (k : ℕ) → (let none : Seq A = [] in take k none ≡ none)
+take_nothing zero = refl
+take_nothing (suc k) = refl
+
 take_drop : {A : Type 0} (k j : ℕ) (xs : Seq A) → take j (drop k xs) ≡ drop k (take (k + j) xs)
 take_drop zero j xs = let e : 0 + j ≡ j = omega arith in rw e refl
-take_drop (suc k) zero [] = refl
-take_drop (suc k) (suc j) [] = refl
+take_drop (suc k) j [] = let e : suc k + j ≡ suc (k + j) = omega arith in rw e (take_nothing j)
 take_drop (suc k) j (x ∷ xs) = let e : suc k + j ≡ suc (k + j) = omega arith in rw e (take_drop k j xs)
 
 take_take : {A : Type 0} (j k : ℕ) (xs : Seq A) → j ≤ k → take j (take k xs) ≡ take j xs
@@ -52,6 +55,9 @@ take_low zero j xs low within = absurd (omega (arith, low))
 take_low (suc k) j [] low within = absurd (omega (arith, within))
 take_low (suc k) zero (x ∷ xs) low within = omega arith
 take_low (suc k) (suc j) (x ∷ xs) low within = let more : j < length (take k xs) = take_low k j xs (omega (arith, low)) (omega (arith, within)) in omega (arith, more)
+
+pub same_number : (k : ℕ) → (k == k) ≡ true
+same_number k = grind arith
 
 -- ---- documents of one scope
 
@@ -136,8 +142,8 @@ module _ (a n : ℕ) where
       })
     where
       past : (ahead : ℕ) → ((j : ℕ) → j < ahead → (get_or scopes j 0 == a) ≡ false) → (s == a) ≡ false → (j : ℕ) → j < suc ahead → (get_or (s ∷ scopes) j 0 == a) ≡ false
-      past ahead quiet no zero low = no
-      past ahead quiet no (suc j) low = quiet j (omega (arith, low))
+      past ahead quiet off zero low = off
+      past ahead quiet off (suc j) low = quiet j (omega (arith, low))
 
   -- ---- the last one of a scope
 
@@ -147,8 +153,8 @@ module _ (a n : ℕ) where
 
   lies_more : (k s : ℕ) (scopes : Seq ℕ) (found : Option ℕ) → Lies (k + 1) scopes found → Lies k (s ∷ scopes) (option_or found (cond (s == a) (Some k) None))
   unfolding Lies
-  lies_more k s scopes None h = by_test (s == a) (λ yes. rw yes (0, (omega arith, (omega arith, yes)))) (λ no. rw no tt)
-  lies_more k s scopes (Some q) h = (suc h.0, (omega (arith, h.1.0), (omega (arith, h.1.1.0), h.1.1.1)))
+  lies_more k s scopes None h = by_test (s == a) (λ yes. rw yes (0, omega arith, omega arith, yes)) (λ no. rw no tt)
+  lies_more k s scopes (Some q) h = (suc h.0, omega (arith, h.1), omega (arith, h.2), h.3)
 
   lies : (k : ℕ) (scopes : Seq ℕ) → Lies k scopes (last_place (has_scope a) k scopes)
   unfolding Lies
@@ -157,6 +163,7 @@ module _ (a n : ℕ) where
 
 -- where the documents inside a parent begin is at or before each from which it is the next of its scope
 start_low : (a n doc ahead : ℕ) (scopes : Seq ℕ) → (get_or scopes doc 0 == a) ≡ false → ((j : ℕ) → j < ahead → (get_or (drop (doc + 1) scopes) j 0 == a) ≡ false) → start_before a (doc + 1 + ahead) scopes ≤ doc
+unfolding Lies
 start_low a n doc ahead scopes other quiet = by (last_place (has_scope a) 0 (take (doc + 1 + ahead) scopes)) (lies a n 0 (take (doc + 1 + ahead) scopes))
   where
     off : (q : ℕ) → q < doc + 1 + ahead → doc ≤ q → (get_or scopes q 0 == a) ≡ false
@@ -169,17 +176,16 @@ start_low a n doc ahead scopes other quiet = by (last_place (has_scope a) 0 (tak
         by_place (inr same) = let e : q ≡ doc = omega (arith, same, high) in ap (λ k. get_or scopes k 0 == a) e ∙ other
 
     by : (found : Option ℕ) → Lies a n 0 (take (doc + 1 + ahead) scopes) found → option_map_or (λ previous. previous + 1) found 0 ≤ doc
-    unfolding Lies
     by None h = omega arith
     by (Some q) h =
-        let same : q ≡ h.0 = omega (arith, h.1.0) in
+        let same : q ≡ h.0 = omega (arith, h.1) in
         low_or (cases_lt q doc) same
       where
         low_or : (q < doc) ⊎ (doc ≤ q) → q ≡ h.0 → q + 1 ≤ doc
         low_or (inl low) same = omega (arith, low)
         low_or (inr high) same =
-            let low : q < doc + 1 + ahead = shorter (doc + 1 + ahead) scopes h.0 h.1.1.0 same in
-            absurd (true≢false (sym h.1.1.1 ∙ ap (λ s. s == a) (get_take (doc + 1 + ahead) h.0 scopes 0 (omega (arith, low, same)) ∙ ap (λ k. get_or scopes k 0) (sym same)) ∙ off q low high))
+            let low : q < doc + 1 + ahead = shorter (doc + 1 + ahead) scopes h.0 h.2 same in
+            absurd (true≢false (sym h.3 ∙ ap (λ s. s == a) (get_take (doc + 1 + ahead) h.0 scopes 0 (omega (arith, low, same)) ∙ ap (λ k. get_or scopes k 0) (sym same)) ∙ off q low high))
           where
             shorter : (k : ℕ) (xs : Seq ℕ) (j : ℕ) → j < length (take k xs) → q ≡ j → q < k
             shorter zero xs j within e = absurd (omega (arith, within))
@@ -235,7 +241,7 @@ below_child m o (suc left) some at less =
 
     stop : (left : ℕ) (s : ℕ) (found : Seq ℕ) → climb m left s s found ≡ found
     stop zero s found = refl
-    stop (suc left) s found = let e : (s == s) ≡ true = grind arith in rw e refl
+    stop (suc left) s found = rw (same_number s) refl
 
     step : (left2 : ℕ) → climb m (suc left) (outer m (suc left)) (suc left) [] ≡ suc left ∷ []
     step left2 = rw apart (stop left (outer m (suc left)) (suc left ∷ []))
@@ -275,10 +281,7 @@ module _ (m : Mapping) (trees : Seq (Marked Tree)) (doc n : ℕ) (some : 0 < n) 
   long = ap length (scopes_map m trees) ∙ length-map (objects_in m trees) scope
 
   is_n : (get_or scopes doc 0 == n) ≡ true
-  is_n = ap (λ s. s == n) (scope_at_doc m trees doc ∙ here) ∙ same n
-    where
-      same : (k : ℕ) → (k == k) ≡ true
-      same k = grind arith
+  is_n = ap (λ s. s == n) (scope_at_doc m trees doc ∙ here) ∙ same_number n
 
   not_a : (get_or scopes doc 0 == a) ≡ false
   not_a = ap (λ s. s == a) (scope_at_doc m trees doc ∙ here) ∙ apart n a less

@@ -183,7 +183,7 @@ record Found (m : Mapping) (trees : Seq (Marked Tree)) (doc : ℕ) : Type 0 wher
 module _ (m : Mapping) (one : OneRoot m) where
   found : (trees : Seq (Marked Tree)) (doc : ℕ) → doc < length (by_document m any_object trees) → Found m trees doc
   found [] doc low = absurd (omega (arith, low))
-  found (t ∷ trees) doc low = by (cases_lt doc (length block))
+  found (t ∷ trees) doc low = by (cases_lt doc (length block)) (λ k below. found trees k below)
     where
       block : Seq Object
       block = block_objects m t.item
@@ -197,8 +197,8 @@ module _ (m : Mapping) (one : OneRoot m) where
       long : length block ≡ length end.before + 1
       long = ap length end.are ∙ length-append end.before (root t.item ∷ [])
 
-      by : (doc < length block) ⊎ (length block ≤ doc) → Found m (t ∷ trees) doc
-      by (inl here) =
+      by : (doc < length block) ⊎ (length block ≤ doc) → ((k : ℕ) → k < length (by_document m any_object trees) → Found m trees k) → Found m (t ∷ trees) doc
+      by (inl here) further =
           let few : count_by is_marked (take doc (by_document m stands (t ∷ trees))) ≡ 0 =
           ap (count_by is_marked) (take_low (map stand block) (by_document m stands trees) doc (omega (arith, here, length-map block stand)))
           ∙ ap (λ os. count_by is_marked (take doc (map stand os))) end.are
@@ -220,12 +220,12 @@ module _ (m : Mapping) (one : OneRoot m) where
           object_here =
               low_at (map (any_object t.live) block) (by_document m any_object trees) doc no_object (omega (arith, here, length-map block (any_object t.live)))
               ∙ map_at (any_object t.live) block doc no_object no_object here
-      by (inr behind) =
+      by (inr behind) further =
           let k = doc - length block in
           let sum : doc ≡ length block + k = omega (arith, behind) in
           let count : length (by_document m any_object (t ∷ trees)) ≡ length block + length (by_document m any_object trees) =
           length-append (map (any_object t.live) block) (by_document m any_object trees) ∙ ap (λ n. n + length (by_document m any_object trees)) (length-map block (any_object t.live)) in
-          let more = found trees k (omega (arith, low, count, behind)) in
+          let more = further k (omega (arith, low, count, behind)) in
           let many : count_by is_marked (take doc (by_document m stands (t ∷ trees))) ≡ suc (count_by is_marked (take k (by_document m stands trees))) =
           ap (λ n. count_by is_marked (take n (by_document m stands (t ∷ trees)))) sum
           ∙ ap (λ (os : Seq Object). count_by is_marked (take (length os + k) (map stand os ++ by_document m stands trees))) end.are
