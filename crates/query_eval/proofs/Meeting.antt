@@ -31,54 +31,54 @@ keys_same ids (Some x) (Some y) (Some i) (Some j) once one two = same_key ids j 
 
 -- ---- trees by their ids
 
+abbrev child_test : Mapping → ℕ → Tree → Tree → Option Joined → Bool
+child_test m r t c j = has_relation (join_of m c) r && (is_parent_relation m j (join_of m c) && names_parent (join_of m c) t.id)
+
+abbrev child_met : Mapping → ℕ → ℕ → Tree → Tree → Option Joined → Bool
+child_met m r p t c j = same_id (cond (is_on m (Parents p) (relation_of j)) (Some t.id) None) (id_on m (Children r) c)
+
+abbrev parent_test : Mapping → ℕ → Tree → Option Joined → Bool
+parent_test m p q j = has_relation (join_of m q) p && (is_parent_relation m (join_of m q) j && names_parent j q.id)
+
+abbrev parent_met : Mapping → ℕ → Tree → Option Joined → Bool
+parent_met m p q j = same_id (cond (is_on m (ChildrenOf p) (relation_of j)) (parent_of j) None) (id_on m (Parents p) q)
+
 module _ (m : Mapping) (r p : ℕ) (parent : (relation_at m r).parent ≡ Some p) (t c : Tree) where
   child_meets : is_child_by m r t c ≡ same_id (id_on m (Parents p) t) (id_on m (Children r) c)
   child_meets = by (join_of m t) refl
     where
-      abbrev joined : Option Joined → Bool
-      joined j = has_relation (join_of m c) r && (is_parent_relation m j (join_of m c) && names_parent (join_of m c) t.id)
-
-      abbrev met : Option Joined → Bool
-      met j = same_id (cond (is_on m (Parents p) (relation_of j)) (Some t.id) None) (id_on m (Children r) c)
-
       by : (own : Option Joined) → join_of m t ≡ own → is_child_by m r t c ≡ same_id (id_on m (Parents p) t) (id_on m (Children r) c)
-      by None join = ap joined join ∙ no_child_by m r p parent None (join_of m c) t.id refl ∙ sym (ap met join)
+      by None join = ap (child_test m r t c) join ∙ no_child_by m r p parent None (join_of m c) t.id refl ∙ sym (ap (child_met m r p t c) join)
       by (Some own) join = elim (cases_Bool (own.relation == p)) [
         | inl here ↦
-            ap joined join ∙ child_by m r p parent t own t.id (join_of m c) here
-            ∙ sym (ap met join ∙ ap (λ (b : Bool). same_id (cond b (Some t.id) None) (id_on m (Children r) c)) here)
+            ap (child_test m r t c) join ∙ child_by m r p parent t own t.id (join_of m c) here
+            ∙ sym (ap (child_met m r p t c) join ∙ ap (λ (b : Bool). same_id (cond b (Some t.id) None) (id_on m (Children r) c)) here)
         | inr other ↦
-            ap joined join ∙ no_child_by m r p parent (Some own) (join_of m c) t.id other
-            ∙ sym (ap met join ∙ ap (λ (b : Bool). same_id (cond b (Some t.id) None) (id_on m (Children r) c)) other)
+            ap (child_test m r t c) join ∙ no_child_by m r p parent (Some own) (join_of m c) t.id other
+            ∙ sym (ap (child_met m r p t c) join ∙ ap (λ (b : Bool). same_id (cond b (Some t.id) None) (id_on m (Children r) c)) other)
       ]
 
 module _ (m : Mapping) (p : ℕ) (t q : Tree) where
   parent_meets : is_parent_by m p t q ≡ same_id (id_on m (ChildrenOf p) t) (id_on m (Parents p) q)
   parent_meets = by (join_of m t) refl
     where
-      abbrev joined : Option Joined → Bool
-      joined j = has_relation (join_of m q) p && (is_parent_relation m (join_of m q) j && names_parent j q.id)
-
-      abbrev met : Option Joined → Bool
-      met j = same_id (cond (is_on m (ChildrenOf p) (relation_of j)) (parent_of j) None) (id_on m (Parents p) q)
-
-      named : (own : Joined) (id : Option (List ℕ)) → own.parent ≡ id → is_number (relation_at m own.relation).parent p ≡ true → joined (Some own) ≡ same_id id (id_on m (Parents p) q)
+      named : (own : Joined) (id : Option (List ℕ)) → own.parent ≡ id → is_number (relation_at m own.relation).parent p ≡ true → parent_test m p q (Some own) ≡ same_id id (id_on m (Parents p) q)
       named own None names number = no_name m p q own (join_of m q) names
       named own (Some id) names number = parent_by_id m p q own id (join_of m q) number names
 
       by : (own : Option Joined) → join_of m t ≡ own → is_parent_by m p t q ≡ same_id (id_on m (ChildrenOf p) t) (id_on m (Parents p) q)
       by None join =
-          ap joined join
+          ap (parent_test m p q) join
           ∙ ap (λ (b : Bool). has_relation (join_of m q) p && b) (and_no (is_parent_relation m (join_of m q) None))
           ∙ and_no (has_relation (join_of m q) p)
-          ∙ sym (ap met join)
+          ∙ sym (ap (parent_met m p q) join)
       by (Some own) join = elim (cases_Bool (is_number (relation_at m own.relation).parent p)) [
         | inl here ↦
-            ap joined join ∙ named own own.parent refl here
-            ∙ sym (ap met join ∙ ap (λ (b : Bool). same_id (cond b own.parent None) (id_on m (Parents p) q)) here)
+            ap (parent_test m p q) join ∙ named own own.parent refl here
+            ∙ sym (ap (parent_met m p q) join ∙ ap (λ (b : Bool). same_id (cond b own.parent None) (id_on m (Parents p) q)) here)
         | inr other ↦
-            ap joined join ∙ off_parent m p q own (join_of m q) other
-            ∙ sym (ap met join ∙ ap (λ (b : Bool). same_id (cond b own.parent None) (id_on m (Parents p) q)) other)
+            ap (parent_test m p q) join ∙ off_parent m p q own (join_of m q) other
+            ∙ sym (ap (parent_met m p q) join ∙ ap (λ (b : Bool). same_id (cond b own.parent None) (id_on m (Parents p) q)) other)
       ]
 
 -- ---- roots by their keys
