@@ -24,3 +24,4 @@ pub use document::{Block, Document, KeywordField, NumberField, Word};
 pub use flatten::block;
 pub use law::{blocks_are_of_their_mapping, blocks_are_small, further_bodies_leave_blocks};
 pub use refusal::{FlattenRefusal, NoMemory};
+pub use shown::{name_below, objects_at};

@@ -1,9 +1,10 @@
 //! The items of a field that an object shows.
 ghost use Rattle.std.specs.Prelude.{◌≡◌, ◌++◌, ◌<◌, ◌==◌, length, map, filter, option_map, nat_le, reverse, IfOk, OnOk};
-ghost use Rattle.std.specs.List.{All, flat_map, list_all};
+ghost use Rattle.std.specs.List.{All, flat_map, join_with_byte, list_all};
 ghost use Rattle.tree_json.specs.Value.{is_object};
 ghost use Rattle.tree_json.specs.View.{view};
 ghost use Rattle.mapping.specs.Mapping.{outer, home_of, scope_at};
+ghost use Rattle.mapping_body.specs.Names.{dot};
 ghost use Rattle.tree_objects.specs.Object.{items, way};
 ghost use Rattle.flattener.specs.Walked.{names_left, children_at, along, own_items, shown_items};
 
@@ -181,9 +182,9 @@ pub(crate) fn children<'a>(
     Ok(objects_at(alloc, mapping, scope, content)?)
 }
 
-/// The objects along the names of a scope.
+/// The objects that stand in the content of an object along the names of a nested path, in document order.
 #[tactic(auto, using(crate::proofs::Ways::all_kept))]
-fn objects_at<'a>(
+pub fn objects_at<'a>(
     alloc: Global,
     mapping: &Mapping,
     scope: u32,
@@ -216,6 +217,18 @@ fn path_of(mapping: &Mapping, scope: u32) -> Option<&[u8]>
     let _ = mapping.scope_count();
     let above = mapping.scope_path(outer(mapping, scope));
     below(above, mapping.scope_path(scope))
+}
+
+/// The path of a nested path's field below the scope around it.
+#[tactic(auto, using(crate::proofs::Namings::namings))]
+pub fn name_below(mapping: &Mapping, scope: u32) -> &[u8]
+    requires { scope < length mapping.now.scopes }
+    ensures { result.now ≡ join_with_byte dot (scope_at mapping.now scope).names }
+{
+    match path_of(mapping, scope) {
+        Some(path) => path,
+        None => &[],
+    }
 }
 
 /// Those items that are objects.
