@@ -12,13 +12,14 @@ use Rattle.layout.proofs.Goes.{split}
 use Rattle.layout.proofs.Keeps.{sealed_keeps, with_room_keeps, changed_keeps}
 use Rattle.layout.specs.Ascending.{Ascend}
 use Rattle.layout.specs.Layout.{Layout, live_items, staying, killed, sealed, with_room, with_new, with_change, buffer_size}
+use Rattle.mapping.specs.IsMapping.{IsMapping}
 use Rattle.mapping.specs.Mapping.{Mapping}
 use Rattle.segment.specs.Live.{EntryState}
 use Rattle.segment_builder.specs.Blocks.{objects_of}
 use Rattle.index_core.specs.Found.{BlocksState, HasOld, HasLive, AreFit, columns_of, layout_of, live_blocks, number_under}
-use Rattle.index_core.specs.Inside.{IsKept}
+use Rattle.index_core.specs.Inside.{IsKept, state_of}
 use Rattle.index_core.specs.declared.index_core.IndexCore.TheInside.{Inside}
-use Rattle.index_core.specs.Kept.{AreBlocks, HaveOwnIds, block_number, has_block_id, laid, numbers_of}
+use Rattle.index_core.specs.Kept.{AreBlocks, HaveOwnIds, IndexFits, block_number, has_block_id, laid, numbers_of}
 use Rattle.index_core.specs.Write.{id_of, new_of, new_number, IsNext}
 use Rattle.index_core.specs.declared.live_numbers.LiveNumbers.{LiveNumbers}
 use Rattle.index_core.specs.declared.op.WriteOp.{WriteOp}
@@ -129,6 +130,14 @@ new_fits m next (Take id) is = All-nil (BlockFits m)
 -- the blocks in the buffer fit, after the buffer was sealed
 pub sealed_fits : (m : Mapping) (layout now : Layout BlockState) → layout.factor ≡ None → now ≡ with_room layout → All (BlockFits m) layout.buffer → All (BlockFits m) now.buffer
 sealed_fits m layout now none is fit = subst (λ (l : Layout BlockState). All (BlockFits m) l.buffer) (sym is) (room_fits m layout none fit)
+
+-- a mapping that fitted fits still, after the buffer was sealed
+pub still_fits : (m : Mapping) (it : Inside) (room blocks : BlocksState) → IsMapping m → ((m' : Mapping) → IsMapping m' → All (BlockFits m') it.blocks.buffer → AreFit m' it.blocks.entries → AreFit m' room.entries)
+    → columns_of blocks.entries ≡ columns_of room.entries → layout_of blocks ≡ with_room (layout_of it.blocks) → IndexFits m (state_of it) → IndexFits m (state_of (record it { blocks = blocks }))
+still_fits m it room blocks is segments columns room_is fits = record {
+  entries = fit_columns m room.entries blocks.entries columns (segments m is fits.buffer fits.entries);
+  buffer = sealed_fits m (layout_of it.blocks) (layout_of blocks) refl room_is fits.buffer;
+}
 
 -- and after a change
 pub changed_fits : (m : Mapping) (op : WriteOp) (room now : Layout BlockState) (next : ℕ) → IsNext m next op → now ≡ with_new (new_of op) (killed (has_block_id (id_of op)) room) → All (BlockFits m) room.buffer → All (BlockFits m) now.buffer

@@ -4,6 +4,7 @@ ghost use Rattle.std.specs.Prelude.{◌≡◌, ◌⊎◌, ◌+◌, ◌≤◌, �
 ghost use Rattle.std.specs.Option.{option_map};
 ghost use Rattle.flattener.specs.Fits.{ViewFits, most_live};
 ghost use Rattle.layout.specs.Layout.{sealed, with_room};
+ghost use Rattle.mapping.specs.IsMapping.{IsMapping};
 ghost use Rattle.mapping.specs.Mapping.{Mapping as Mappings};
 ghost use Rattle.index_core.specs.Kept.{AreBlocks, IndexFits, IsIndex, block_number, laid, last_number, layout_kept, live_block, made_by};
 ghost use Rattle.index_core.specs.Write.{IsNext, done_of, id_of, is_refused, next_after, reads_of, source_of, written};
@@ -127,12 +128,14 @@ impl IndexCore {
         ensures objects { self.new.objects ≡ self.old.objects }
         ensures fits { IndexFits mapping.now self.new }
     {
+        let _scopes = mapping.scope_count();
         self.blocks.seal(mapping)?;
         Ok(())
     }
 
     /// Puts a block in place of the live one with its id, or as a new one, or takes a live one out. A full buffer is sealed
-    /// first. After IndexFull nothing has changed; after NoMemory a full buffer may be sealed.
+    /// first. After IndexFull nothing has changed; after NoMemory a full buffer may be sealed, and what is kept fits each mapping
+    /// that it has fitted: the one before the write, where the write made it grow.
     pub fn write(&mut self, mapping: &Mapping, op: WriteOp) -> Result<WriteDone, WriteRefusal>
         requires fits { IndexFits mapping.now self.old }
         requires block { IsNext mapping.now self.old.next op }
@@ -146,7 +149,9 @@ impl IndexCore {
         ensures same_next { IsErrOf result WriteRefusal.NoMemory → self.new.next ≡ self.old.next }
         ensures objects { self.new.objects ≡ self.old.objects }
         ensures fits { IndexFits mapping.now self.new }
+        ensures still_fits { IsErrOf result WriteRefusal.NoMemory → (m : Mappings) → IsMapping m → IndexFits m self.old → IndexFits m self.new }
     {
+        let _scopes = mapping.scope_count();
         let old = self.numbers.get(written_id(&op));
         if takes_nothing(&op, old) {
             return Ok(WriteDone::NotFound);

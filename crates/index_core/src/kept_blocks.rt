@@ -6,6 +6,8 @@ ghost use Rattle.flattener.specs.Block.{BlockState};
 ghost use Rattle.flattener.specs.Fits.{BlockFits, SegmentFits, most_live};
 ghost use Rattle.flattener.specs.Seen.{block_seen};
 ghost use Rattle.layout.specs.Layout.{alive, killed, sealed};
+ghost use Rattle.mapping.specs.IsMapping.{IsMapping};
+ghost use Rattle.mapping.specs.Mapping.{Mapping as Mappings};
 ghost use Rattle.segment.specs.Live.{EntryState};
 ghost use Rattle.segment_builder.specs.Blocks.{block_objects, blocks_in, objects_of};
 ghost use Rattle.index_core.specs.Found.{AreBelow, AreFit, IsLive, IsLiveNumber, IsRootAt, IsWhole, columns_of, layout_of, live_blocks};
@@ -13,7 +15,7 @@ ghost use Rattle.index_core.specs.Kept.{HaveOwnIds, has_block_id};
 
 use crate::NoMemory;
 use crate::place::{Place, entry_is_whole, place_of};
-use flattener::Block;
+use flattener::{Block, blocks_are_of_their_mapping};
 use mapping::Mapping;
 use segment::LiveBits;
 use segment_builder::{blocks_are_whole, built, deaths_mark_blocks};
@@ -148,14 +150,14 @@ impl KeptBlocks {
         self.buffer.push(block).unwrap();
     }
 
-    /// Makes a segment of the buffer, if there is a block in it.
+    /// Makes a segment of the buffer, if there is a block in it. It fits each mapping that the blocks fit.
     pub(crate) fn seal(&mut self, mapping: &Mapping) -> Result<(), NoMemory>
         requires fits { All (BlockFits mapping.now) self.old.buffer }
         requires few { objects_of self.old.buffer ≤ most_live }
         requires made { self.old.made + 1 < 2 ^ 128 }
         ensures sealed { OnOk result (layout_of self.new ≡ sealed (layout_of self.old)) }
         ensures same { OnErr result (self.new ≡ self.old) }
-        ensures segments { AreFit mapping.now self.old.entries → AreFit mapping.now self.new.entries }
+        ensures segments { (m : Mappings) → IsMapping m → All (BlockFits m) self.old.buffer → AreFit m self.old.entries → AreFit m self.new.entries }
     {
         if self.buffer.is_empty() {
             return Ok(());
@@ -207,16 +209,17 @@ fn fetch_root<L: Ledger>(
     Ok(())
 }
 
-/// The entry of blocks, all of them live.
+/// The entry of blocks, all of them live. It fits each mapping that they fit.
 fn entry_of(alloc: Global, mapping: &Mapping, id: u128, blocks: &[Block]) -> Result<Entry, NoMemory>
     requires some { 0 < length blocks.now }
     requires fits { All (BlockFits mapping.now) (map block_seen blocks.now) }
     requires few { objects_of (map block_seen blocks.now) ≤ most_live }
     ensures blocks { IfOk result (λ entry. blocks_in entry ≡ map alive (map block_seen blocks.now)) }
     ensures id { IfOk result (λ entry. entry.id ≡ id) }
-    ensures fits { IfOk result (λ entry. SegmentFits mapping.now entry.columns) }
+    ensures fits { IfOk result (λ entry. (m : Mappings) → IsMapping m → All (BlockFits m) (map block_seen blocks.now) → SegmentFits m entry.columns) }
     ensures whole { IfOk result (λ entry. IsWhole entry) }
 {
+    blocks_are_of_their_mapping();
     let segment = built(alloc, mapping, blocks)?;
     blocks_are_whole(&segment);
     let live = LiveBits::over(alloc, &segment, &[])?;

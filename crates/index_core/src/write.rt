@@ -8,6 +8,8 @@ ghost use Rattle.flattener.specs.Block.{BlockState};
 ghost use Rattle.flattener.specs.Fits.{BlockFits, most_live};
 ghost use Rattle.flattener.specs.Seen.{block_seen};
 ghost use Rattle.layout.specs.Layout.{killed, staying, with_new, with_room};
+ghost use Rattle.mapping.specs.IsMapping.{IsMapping};
+ghost use Rattle.mapping.specs.Mapping.{Mapping as Mappings};
 ghost use Rattle.segment_builder.specs.Blocks.{objects_of};
 ghost use Rattle.index_core.specs.Found.{AreFit, HasLive, HasOld, columns_of, layout_of, live_blocks, number_under};
 ghost use Rattle.index_core.specs.Kept.{block_number, has_block_id};
@@ -98,7 +100,7 @@ pub(crate) fn make_room(blocks: &mut KeptBlocks, mapping: &Mapping) -> Result<()
     requires made { blocks.old.made + 1 < 2 ^ 128 }
     ensures room { OnOk result (layout_of blocks.new ≡ with_room (layout_of blocks.old)) }
     ensures same { OnErr result (blocks.new ≡ blocks.old) }
-    ensures segments { AreFit mapping.now blocks.old.entries → AreFit mapping.now blocks.new.entries }
+    ensures segments { (m : Mappings) → IsMapping m → All (BlockFits m) blocks.old.buffer → AreFit m blocks.old.entries → AreFit m blocks.new.entries }
 {
     if blocks.buffered_count() >= BUFFER_SIZE {
         blocks.seal(mapping)?;

@@ -9,4 +9,4 @@ invariant_of-self-2 c = kept_sealed c.self.inside c.seal.new.self c.in_ok-seal.e
 pub returns-clause-fits : goal.returns-clause-fits
 returns-clause-fits c =
     let fits = subst (IndexFits c.args.mapping.now) (sym c.self.view_is) c.requires in
-    record { entries = c.seal.ensures.segments fits.entries; buffer = sealed_all_fit c.args.mapping.now c.self.inside.blocks c.seal.new.self c.in_ok-seal.ensures.sealed }
+    record { entries = c.seal.ensures.segments c.args.mapping.now c.scope_count-scopes.ensures.is_mapping fits.buffer fits.entries; buffer = sealed_all_fit c.args.mapping.now c.self.inside.blocks c.seal.new.self c.in_ok-seal.ensures.sealed }

@@ -5,7 +5,7 @@ use Rattle.index_core.specs.Found.{layout_of, number_under}
 use Rattle.index_core.specs.Inside.{state_of}
 use Rattle.index_core.specs.Kept.{IndexFits, IndexState, block_number, last_number, live_block}
 use Rattle.index_core.specs.Write.{IsNext, has_nothing, id_of, written}
-use Rattle.index_core.proofs.Keeping.{changed_fits, fit_columns, has_old, kept_in_room, old_in_room, sealed_fits}
+use Rattle.index_core.proofs.Keeping.{changed_fits, fit_columns, has_old, kept_in_room, old_in_room, sealed_fits, still_fits}
 use Rattle.index_core.proofs.Writing.{change_layout, kept_changed, kept_numbers}
 use Rattle.index_core.proofs.index_core.IndexCore.write.Goals as goal
 
@@ -24,11 +24,13 @@ invariant_of-self-in_err-change c =
 
 pub returns-in_err-change-clause-fits : goal.returns-in_err-change-clause-fits
 returns-in_err-change-clause-fits c =
-    let fits = subst (IndexFits c.args.mapping.now) (sym c.self.view_is) c.requires.fits in
-    record {
-      entries = fit_columns c.args.mapping.now c.make_room.new.blocks.entries c.change.new.blocks.entries c.change.ensures.columns (c.make_room.ensures.segments fits.entries);
-      buffer = sealed_fits c.args.mapping.now (layout_of c.self.inside.blocks) (layout_of c.change.new.blocks) refl (c.in_err-change.ensures.same ∙ c.in_ok-make_room.ensures.room) fits.buffer;
-    }
+    still_fits c.args.mapping.now c.self.inside c.make_room.new.blocks c.change.new.blocks c.scope_count-scopes.ensures.is_mapping c.make_room.ensures.segments c.change.ensures.columns
+    (c.in_err-change.ensures.same ∙ c.in_ok-make_room.ensures.room) (subst (IndexFits c.args.mapping.now) (sym c.self.view_is) c.requires.fits)
+
+pub returns-in_err-change-clause-still_fits : goal.returns-in_err-change-clause-still_fits
+returns-in_err-change-clause-still_fits c = λ lacking m is fits.
+    still_fits m c.self.inside c.make_room.new.blocks c.change.new.blocks is c.make_room.ensures.segments c.change.ensures.columns
+    (c.in_err-change.ensures.same ∙ c.in_ok-make_room.ensures.room) (subst (IndexFits m) (sym c.self.view_is) fits)
 
 pub invariant_of-self-2 : goal.invariant_of-self-2
 invariant_of-self-2 c =
@@ -51,7 +53,7 @@ pub returns-clause-fits : goal.returns-clause-fits
 returns-clause-fits c =
     let fits = subst (IndexFits c.args.mapping.now) (sym c.self.view_is) c.requires.fits in
     record {
-      entries = fit_columns c.args.mapping.now c.make_room.new.blocks.entries c.change.new.blocks.entries c.change.ensures.columns (c.make_room.ensures.segments fits.entries);
+      entries = fit_columns c.args.mapping.now c.make_room.new.blocks.entries c.change.new.blocks.entries c.change.ensures.columns (c.make_room.ensures.segments c.args.mapping.now c.scope_count-scopes.ensures.is_mapping fits.buffer fits.entries);
       buffer = changed_fits c.args.mapping.now c.args.op (layout_of c.make_room.new.blocks) (layout_of c.change.new.blocks) c.args.self.now.next c.requires.block c.in_ok-change.ensures.layout
           (sealed_fits c.args.mapping.now (layout_of c.self.inside.blocks) (layout_of c.make_room.new.blocks) refl c.in_ok-make_room.ensures.room fits.buffer);
     }

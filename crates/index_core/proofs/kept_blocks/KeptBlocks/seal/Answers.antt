@@ -1,7 +1,9 @@
 use Rattle.std.proofs.Common.{◌≡◌, ◌+◌, ◌<◌, List, [], map, length, refl, sym, ap, subst, ◌∙◌, arith}
 use Rattle.std.proofs.lemmas.Bool.Decides.{nat_tests}
 use Rattle.std.proofs.lemmas.List.{length-map}
+use Rattle.std.specs.List.{All}
 use Rattle.flattener.specs.Block.{BlockState}
+use Rattle.flattener.specs.Fits.{BlockFits}
 use Rattle.flattener.specs.Seen.{block_seen}
 use Rattle.flattener.specs.declared.document.Block.{Block}
 use Rattle.layout.specs.Layout.{alive, sealed}
@@ -25,8 +27,9 @@ returns-clause-sealed c =
     ∙ ap (λ (s : BlocksState). sealed (layout_of s)) c.self.view_is
 
 pub returns-clause-segments : goal.returns-clause-segments
-returns-clause-segments c = λ fit.
-    fit_more c.args.mapping.now c.self.inside.view c.push.new.self c.in_ok-entry.entry c.in_ok-push.ensures.pushed c.in_ok-entry.ensures.fits (subst (λ (s : BlocksState). AreFit c.args.mapping.now s.entries) (sym c.self.view_is) fit)
+returns-clause-segments c = λ m is buffer fit.
+    let blocks = subst (λ (bs : List Block). All (BlockFits m) (map block_seen bs)) (sym c.as_slice.ensures.value) (subst (λ (s : BlocksState). All (BlockFits m) s.buffer) (sym c.self.view_is) buffer) in
+    fit_more m c.self.inside.view c.push.new.self c.in_ok-entry.entry c.in_ok-push.ensures.pushed (c.in_ok-entry.ensures.fits m is blocks) (subst (λ (s : BlocksState). AreFit m s.entries) (sym c.self.view_is) fit)
 
 pub returns-then-is_empty-clause-sealed : goal.returns-then-is_empty-clause-sealed
 returns-then-is_empty-clause-sealed c =
