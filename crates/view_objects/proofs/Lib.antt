@@ -2,3 +2,4 @@ mod Hits
 mod Inside
 pub mod Trees
 pub mod Children
+mod Values

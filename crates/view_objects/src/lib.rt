@@ -9,4 +9,4 @@ mod hit;
 mod law;
 
 pub use hit::Hit;
-pub use law::{documents_are_of_objects, hits_are_objects};
+pub use law::{documents_are_of_objects, documents_show_values, hits_are_objects};
