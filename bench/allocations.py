@@ -4,7 +4,7 @@
 A preloaded library counts the calls of malloc and realloc and refuses one of them. Then the program may end with status 9 and
 no output, or answer one request with out_of_memory and the others as if that request hadn't come; anything else is wrong.
 The replies that are expected come from the plain machine below, and not from the program. Wants gcc; run
-`./run examples/first.ndjson` once before: it builds the program.
+`./run examples/shop.ndjson` once before: it builds the program.
 """
 import json
 import os
@@ -54,15 +54,25 @@ def refusal(number, reason):
     return compact({"error": {"number": number, "reason": reason}})
 
 
+MAPPING = '{"mapping":{"properties":{"title":{"type":"text"},"offers":{"type":"nested","properties":' \
+    '{"color":{"type":"keyword"},"price":{"type":"long"}}}}}}\n'
+
+
 class Machine:
-    """The live trees in the order of their numbers, and the next number."""
+    """Whether there is a mapping, the live trees in the order of their numbers, and the next number."""
 
     def __init__(self):
+        self.mapped = False
         self.trees = []
         self.next = 0
 
     def answer(self, request):
         kind, id, source = request
+        if kind == "mapping":
+            self.mapped = True
+            return compact({"result": "mapped"})
+        if kind in ("index", "search") and not self.mapped:
+            return refusal(6, "no_mapping")
         if kind == "index":
             before = len(self.trees)
             self.trees = [tree for tree in self.trees if tree[0] != id]
@@ -84,6 +94,7 @@ def text_of(request):
     kind, id, source = request
     action = '{"index":{"_id":%s}}\n' % json.dumps(id)
     return {
+        "mapping": lambda: MAPPING,
         "index": lambda: action + json.dumps(source) + "\n",
         "search": lambda: '{"search":{}}\n',
         "no json": lambda: '{"search":{"query":\n',
@@ -93,8 +104,9 @@ def text_of(request):
 
 
 def made_requests(count):
-    """Requests of all kinds, index requests with names in and out of order, short and long texts."""
+    """A mapping, and requests of all kinds, index requests with names in and out of order, short and long texts."""
     numbers = random.Random(5)
+    yield "mapping", None, None
     for _ in range(count):
         kind = numbers.choice(["index"] * 5 + ["search"] * 3 + ["no json", "a fraction", "no request"])
         offers = [{"price": numbers.randrange(100), "color": "red" * numbers.randrange(9)} for _ in range(numbers.randrange(4))]

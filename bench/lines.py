@@ -2,7 +2,7 @@
 """How many lines a second the built program answers, beside a Python loop over the same lines.
 
 The loop reads each line as JSON, puts it into a dict and prints it as JSON. Both read the same file and write to one, and
-the best of three runs counts. Run `./run examples/first.ndjson` once before: it builds the program.
+the best of three runs counts. Run `./run examples/shop.ndjson` once before: it builds the program.
 """
 import os
 import random
@@ -23,13 +23,15 @@ for number, line in enumerate(sys.stdin):
 """
 
 
+MAPPING = '{"mapping":{"properties":{%s:{"type":"text"},"offers":{"type":"nested","properties":{%s:{"type":"keyword"},"price":{"type":"long"}}}}}}\n'
 IN_ORDER = '{"name":"item %d","offers":[%s]}', '{"color":"%s","price":%d}'
 OUT_OF_ORDER = '{"title":"item %d","offers":[%s]}', '{"tone":"%s","price":%d}'
 
 
 def index_lines(count, ids, texts=IN_ORDER):
-    """Action lines with their source lines: products with nested offers, over so many ids."""
+    """A mapping, and action lines with their source lines: products with nested offers, over so many ids."""
     source, offer = texts
+    yield MAPPING % (source[1:].split(":")[0], offer[1:].split(":")[0])
     numbers = random.Random(7)
     for _ in range(count):
         product = numbers.randrange(ids)

@@ -1,9 +1,9 @@
 //! The program, from its words to its exit status.
 
 ghost use Rattle.std.specs.Prelude.{◌≡◌, ◌↔◌, true, false};
-ghost use Rattle.line_engine.specs.Limit.{standard_limits};
+ghost use Rattle.machine.specs.Limit.{standard_limits};
 ghost use Rattle.line_engine.specs.Run.{Serves, IsCaused};
-ghost use Rattle.line_engine.specs.State.{empty_state};
+ghost use Rattle.machine.specs.State.{empty_state};
 ghost use Rattle.line_engine.specs.Word.{is_serve};
 
 use crate::streams::{StdinSource, StdoutSink};

@@ -1,5 +1,5 @@
 -- A session, request after request.
-use Rattle.std.proofs.Common.{◌≡◌, ℕ, List, [], ◌∷◌, ◌++◌, codes, Option, Some, None, refl, sym, ap, subst, inl, inr, ◌∙◌, append_assoc, append-nil}
+use Rattle.std.proofs.Common.{◌≡◌, ℕ, List, [], ◌∷◌, ◌++◌, codes, Option, Some, None, refl, sym, ap, subst, ◌∙◌, append_assoc, append-nil}
 use Rattle.std.proofs.lemmas.List.{map-append}
 use Rattle.std.specs.Io.KnownBytes.{Appends}
 use Rattle.json.specs.Print.{escape_byte}
@@ -10,19 +10,21 @@ use Rattle.line_reader.specs.declared.stop.Stop.{Stop}
 use Rattle.line_reader.specs.declared.stop.Stop.TheVariants.{End, Limit, Fault}
 use Rattle.tree_json.specs.Text.{quoted}
 use Rattle.line_engine.specs.Exit.{status_of}
-use Rattle.line_engine.specs.Answer.{Outcome}
-use Rattle.line_engine.specs.Faithful.{IsFaithful, AnswersTo, reply_bytes, state_of}
-use Rattle.line_engine.specs.Machine.{step}
+use Rattle.engine.specs.Answers.{Answers, AnswersTo, reply_bytes}
+use Rattle.engine.specs.Faithful.{IsFaithful}
+use Rattle.engine.specs.Kept.{EngineState}
+use Rattle.machine.specs.Answer.{Outcome}
+use Rattle.machine.specs.May.{MayEnd, MayStep}
+use Rattle.machine.specs.State.{State, empty_state}
+use Rattle.machine.specs.Step.{step}
+use Rattle.machine.specs.declared.limits.Limits.{Limits}
 use Rattle.reply_text.specs.Object.{object_text}
 use Rattle.reply_text.specs.Text.{line_of, reply_text}
 use Rattle.reply_text.specs.declared.reply.Reply.{Reply}
 use Rattle.reply_text.specs.declared.reply.Reply.TheVariants.{OutOfMemory}
-use Rattle.line_engine.specs.Run.{MayStep, Turn, IsChain, Serves, last_state, requests_of, text_of}
-use Rattle.line_engine.specs.Seen.{EngineState}
-use Rattle.line_engine.specs.Served.{Served, TakesPart}
-use Rattle.line_engine.specs.State.{State, empty_state}
-use Rattle.line_engine.specs.declared.engine.Answered.{Answered}
-use Rattle.line_engine.specs.declared.limits.Limits.{Limits}
+use Rattle.line_engine.specs.Run.{Turn, IsChain, Serves, last_state, requests_of, text_of}
+use Rattle.line_engine.specs.Served.{Served, TakesPart, new_engine}
+use Rattle.engine.specs.declared.engine.Answered.{Answered}
 use Rattle.line_engine.specs.declared.status.Status.TheVariants.{WriteFault}
 use Rattle.line_engine.proofs.Writing.{appends_none, appends_more}
 
@@ -54,23 +56,17 @@ unfolding step
 step_alike limits before one two first source = rw (first, source) refl
 
 may_alike : (limits : Limits) (before after : State) (one two : Request) (reply : Reply) → one.first ≡ two.first → one.source ≡ two.source → MayStep limits before one reply after → MayStep limits before two reply after
-may_alike limits before after one two reply first source may = elim may [
-  | inl stepped ↦ inl (record {
-    reply_is = stepped.reply_is ∙ ap (λ (outcome : Outcome). outcome.reply) (step_alike limits before one two first source);
-    state_is = stepped.state_is ∙ ap (λ (outcome : Outcome). outcome.state) (step_alike limits before one two first source);
-  })
-  | inr none ↦ inr none
-]
+may_alike limits before after one two reply first source may = subst (λ (outcome : Outcome). MayEnd before outcome reply after) (step_alike limits before one two first source) may
 
 -- ## one request more
 
-pub served_next : (limits : Limits) (start : State) (left l l' taken t t' : Option (List ℕ)) (input input' : InputState) (engine engine' : EngineState) (request asked : Request) (answered : Answered) (out : List ℕ) →
+pub served_next : (limits : Limits) (start : State) (left l l' taken t t' : Option (List ℕ)) (input input' : InputState) (engine engine' : EngineState) (request asked : Request) (answered : Answered) (out : List ℕ) (reads reads' : ℕ) →
     (served : Served limits start left l taken t input engine) → Gives None limits.session_bytes left l' input' (requests_of served.turns) request →
-    asked.first ≡ request.first → asked.source ≡ request.source → AnswersTo engine.limits (last_state start served.turns) asked answered out engine' → Appends t t' (reply_bytes answered out) →
+    asked.first ≡ request.first → asked.source ≡ request.source → AnswersTo engine.limits (last_state start served.turns) asked answered out reads reads' engine' → Appends t t' (reply_bytes answered out) →
     engine'.limits ≡ engine.limits → Served limits start left l' taken t' input' engine'
-served_next limits start left l l' taken t t' input input' engine engine' request asked answered out served gives first source answered_so writes same =
-    let answers : AnswersTo limits (last_state start served.turns) asked answered out engine' =
-    subst (λ (given : Limits). AnswersTo given (last_state start served.turns) asked answered out engine') served.within answered_so in
+served_next limits start left l l' taken t t' input input' engine engine' request asked answered out reads reads' served gives first source answered_so writes same =
+    let answers : Answers (last_state start served.turns) (step limits (last_state start served.turns) asked) answered out engine'.mapping engine'.index =
+    (subst (λ (given : Limits). AnswersTo given (last_state start served.turns) asked answered out reads reads' engine') served.within answered_so).answers in
     let turn : Turn = record { request = request; reply = answers.reply; after = answers.after } in
     let may : MayStep limits (last_state start served.turns) request answers.reply answers.after = may_alike limits (last_state start served.turns) answers.after asked request answers.reply first source answers.may in
     record {
@@ -97,13 +93,13 @@ served_stop Fault limits start left l l' taken t input input' engine request ser
     record { requests = requests_of served.turns; turns = served.turns; run = record { chain = served.chain; asked = refl }; reads = gives; writes = served.written }
 
 -- writing the reply failed
-pub served_part : (limits : Limits) (start : State) (left l l' taken t t' : Option (List ℕ)) (input input' : InputState) (engine engine' : EngineState) (request asked : Request) (answered : Answered) (out : List ℕ) →
+pub served_part : (limits : Limits) (start : State) (left l l' taken t t' : Option (List ℕ)) (input input' : InputState) (engine engine' : EngineState) (request asked : Request) (answered : Answered) (out : List ℕ) (reads reads' : ℕ) →
     (served : Served limits start left l taken t input engine) → Gives None limits.session_bytes left l' input' (requests_of served.turns) request →
-    asked.first ≡ request.first → asked.source ≡ request.source → AnswersTo engine.limits (last_state start served.turns) asked answered out engine' → TakesPart t t' (reply_bytes answered out) →
+    asked.first ≡ request.first → asked.source ≡ request.source → AnswersTo engine.limits (last_state start served.turns) asked answered out reads reads' engine' → TakesPart t t' (reply_bytes answered out) →
     Serves WriteFault limits start left l' taken t'
-served_part limits start left l l' taken t t' input input' engine engine' request asked answered out served gives first source answered_so takes =
-    let answers : AnswersTo limits (last_state start served.turns) asked answered out engine' =
-    subst (λ (given : Limits). AnswersTo given (last_state start served.turns) asked answered out engine') served.within answered_so in
+served_part limits start left l l' taken t t' input input' engine engine' request asked answered out reads reads' served gives first source answered_so takes =
+    let answers : Answers (last_state start served.turns) (step limits (last_state start served.turns) asked) answered out engine'.mapping engine'.index =
+    (subst (λ (given : Limits). AnswersTo given (last_state start served.turns) asked answered out reads reads' engine') served.within answered_so).answers in
     let turn : Turn = record { request = request; reply = answers.reply; after = answers.after } in
     let may : MayStep limits (last_state start served.turns) request answers.reply answers.after = may_alike limits (last_state start served.turns) answers.after asked request answers.reply first source answers.may in
     record {
@@ -125,12 +121,20 @@ served_part limits start left l l' taken t t' input input' engine engine' reques
 
 -- at the start nothing is given, and nothing answered
 pub served_start : (limits : Limits) (left taken : Option (List ℕ)) (input : InputState) (engine : EngineState) → HasGiven limits.session_bytes left left input [] →
-    engine ≡ record { limits = limits; live = []; next = 0; calls = 0 } → Served limits empty_state left left taken taken input engine
+    engine ≡ new_engine limits → Served limits empty_state left left taken taken input engine
 served_start limits left taken input engine given new = record {
   turns = [];
   given = given;
   chain = tt;
-  stands = sym (ap state_of new);
+  stands = subst (λ (kept : EngineState). IsFaithful kept empty_state) (sym new) (record {
+    mapped = refl;
+    next = refl;
+    stands = refl;
+    laid = refl;
+    numbered = record { live = tt; below = tt };
+    points = refl;
+    stored = refl;
+  });
   written = appends_none taken;
   within = ap (λ (it : EngineState). it.limits) new;
 }

@@ -1,31 +1,16 @@
 -- What the program may do: runs of the machine, and what a call of `serve` leaves read and written.
-use Rattle.std.specs.Prelude.{◌≡◌, ◌<◌, ℕ, ◌⊎◌, List, [], ◌∷◌, ◌++◌, length, map, Option, ⊤}
+use Rattle.std.specs.Prelude.{◌≡◌, ◌<◌, ℕ, List, [], ◌∷◌, ◌++◌, length, map, Option, ⊤}
 use Rattle.std.specs.Io.KnownBytes.{Appends, Keeps}
 use Rattle.io_edges.specs.Faults.{Rose}
 use Rattle.line_reader.specs.Request.{Request}
 use Rattle.line_reader.specs.Given.{ReadsAll, ReadsWhole, ReadsToLimit, ReadsFirst}
 use Rattle.reply_text.specs.Text.{reply_text}
 use Rattle.reply_text.specs.declared.reply.Reply.{Reply}
-use Rattle.reply_text.specs.declared.reply.Reply.TheVariants.{OutOfMemory}
-use Rattle.line_engine.specs.State.{State}
-use Rattle.line_engine.specs.Machine.{step}
-use Rattle.line_engine.specs.declared.limits.Limits.{Limits}
+use Rattle.machine.specs.May.{MayStep}
+use Rattle.machine.specs.State.{State}
+use Rattle.machine.specs.declared.limits.Limits.{Limits}
 use Rattle.line_engine.specs.declared.status.Status.{Status}
 use Rattle.line_engine.specs.declared.status.Status.TheVariants.{Done, BadWords, ReadFault, WriteFault, DiskFault, NotAStore, Damaged, SessionLimit, NoMemory}
-
--- the reply and the state of the machine's step
-pub record Stepped (limits : Limits) (before : State) (request : Request) (reply : Reply) (after : State) : Type 0 where
-  pub reply_is : reply ≡ (step limits before request).reply
-  pub state_is : after ≡ (step limits before request).state
-
--- there was no memory, and the state is as it was
-pub record WantsMemory (before : State) (reply : Reply) (after : State) : Type 0 where
-  pub reply_is : reply ≡ OutOfMemory
-  pub state_is : after ≡ before
-
--- what a request may be answered, and the state that this may leave
-abbrev pub MayStep : Limits → State → Request → Reply → State → Type 0
-MayStep limits before request reply after = Stepped limits before request reply after ⊎ WantsMemory before reply after
 
 -- a request, its reply and the state afterwards
 pub record Turn : Type 0 where

@@ -1,13 +1,22 @@
 -- A session that goes on: what was read, answered and written so far. It serves private calls and the proofs alone.
-use Rattle.std.specs.Prelude.{◌≡◌, ℕ, List, ◌++◌, ◌<◌, length, Option}
+use Rattle.std.specs.Prelude.{◌≡◌, ℕ, List, [], ◌++◌, ◌<◌, length, Option, None}
 use Rattle.std.specs.Io.KnownBytes.{Appends}
 use Rattle.line_reader.specs.Given.{HasGiven}
 use Rattle.line_reader.specs.Seen.{InputState}
-use Rattle.line_engine.specs.State.{State}
-use Rattle.line_engine.specs.Faithful.{IsFaithful}
+use Rattle.engine.specs.Faithful.{IsFaithful}
+use Rattle.engine.specs.Kept.{EngineState}
+use Rattle.machine.specs.State.{State}
+use Rattle.machine.specs.declared.limits.Limits.{Limits}
 use Rattle.line_engine.specs.Run.{Turn, IsChain, last_state, requests_of, text_of}
-use Rattle.line_engine.specs.Seen.{EngineState}
-use Rattle.line_engine.specs.declared.limits.Limits.{Limits}
+
+-- an engine that was asked nothing yet
+abbrev pub new_engine : Limits → EngineState
+new_engine limits = record {
+  limits = limits;
+  mapping = None;
+  index = record { entries = []; buffer = []; made = 0; next = 0; objects = limits.objects };
+  calls = 0;
+}
 
 -- The requests that were given are answered, and the engine is faithful to the state that this leads to.
 pub record Served (limits : Limits) (start : State) (left left' taken taken' : Option (List ℕ)) (input : InputState) (engine : EngineState) : Type 0 where

@@ -29,3 +29,9 @@ impl From<io_edges::NoMemory> for NoMemory {
         NoMemory
     }
 }
+
+impl From<engine::NoMemory> for NoMemory {
+    fn from(_error: engine::NoMemory) -> NoMemory {
+        NoMemory
+    }
+}

@@ -1,15 +1,15 @@
 //! The program's call.
 
 ghost use Rattle.std.specs.Prelude.{◌≡◌, ◌↔◌, false, true};
-ghost use Rattle.line_engine.specs.Limit.{standard_limits};
 ghost use Rattle.line_engine.specs.Run.{Serves, IsCaused};
-ghost use Rattle.line_engine.specs.State.{empty_state};
+ghost use Rattle.machine.specs.Limit.{standard_limits};
+ghost use Rattle.machine.specs.State.{empty_state};
 ghost use Rattle.line_engine.specs.Word.{is_serve};
 
-use crate::limits::Limits;
 use crate::session::serve;
 use crate::status::Status;
 use io_edges::{Disk, Sink, Source, Word};
+use machine::Limits;
 use std::alloc::Global;
 
 /// Does what the words of the command line ask for: `serve STORE` answers the requests of the source.

@@ -6,21 +6,21 @@ ghost use Rattle.io_edges.specs.Faults.{HasCause};
 ghost use Rattle.line_reader.specs.Given.{HasGiven};
 ghost use Rattle.line_reader.specs.Seen.{KnowsEnd, ahead};
 ghost use Rattle.tree_json.specs.Output.{room_of};
-ghost use Rattle.line_engine.specs.Faithful.{reply_bytes};
-ghost use Rattle.line_engine.specs.Limit.{AreLimits};
+ghost use Rattle.engine.specs.Answers.{reply_bytes};
+ghost use Rattle.machine.specs.Limit.{AreLimits};
 ghost use Rattle.reply_text.specs.Text.{reply_text};
 ghost use Rattle.reply_text.specs.declared.reply.Reply.TheVariants.{OutOfMemory};
 ghost use Rattle.line_engine.specs.Run.{Serves, IsCaused};
-ghost use Rattle.line_engine.specs.Served.{Served, TakesPart};
-ghost use Rattle.line_engine.specs.State.{State, empty_state};
-ghost use Rattle.line_engine.specs.declared.limits.Limits.{Limits};
+ghost use Rattle.line_engine.specs.Served.{Served, TakesPart, new_engine};
+ghost use Rattle.machine.specs.State.{State, empty_state};
+ghost use Rattle.machine.specs.declared.limits.Limits.{Limits};
 
-use crate::engine::{Answered, Engine};
-use crate::limits::Limits;
 use crate::no_memory::NoMemory;
 use crate::status::Status;
+use engine::{Answered, Engine};
 use io_edges::{Disk, Failed, Sink, Source};
 use line_reader::LineReader;
+use machine::Limits;
 use source_steps::Steps;
 use std::alloc::Global;
 use std::marker::Brand;
@@ -86,7 +86,7 @@ fn serve_counted<S: Source, K: Sink, D: Disk, L: Ledger>(
 // Takes all the memory that reading a request and the usual reply need.
 fn open(alloc: Global, limits: &Limits) -> Result<Session, NoMemory>
     requires { AreLimits limits.now }
-    ensures engine { IfOk result (λ session. session.engine ≡ record { limits = limits.now; live = []; next = 0; calls = 0 }) }
+    ensures engine { IfOk result (λ session. session.engine ≡ new_engine limits.now) }
     ensures input { IfOk result (λ session. session.reader.input ≡ record { unread = []; allowance = limits.now.session_bytes; ended = false }) }
     ensures given { IfOk result (λ session. (start : Option (List ℕ)) → HasGiven limits.now.session_bytes start start session.reader.input []) }
     ensures room { IfOk result (λ session. 4096 ≤ room_of session.out) }
@@ -174,6 +174,7 @@ fn write_reply<K: Sink>(sink: &mut K, answered: Answered, out: &OutText) -> Resu
 {
     match answered {
         Answered::Written => write_whole(sink, out.as_slice()),
+        Answered::Refused => write_whole(sink, out.as_slice()),
         Answered::NoMemory => write_whole(sink, out_of_memory()),
     }
 }

@@ -1,7 +1,7 @@
 //! Runs of a case, and what differs from what the case says.
 
 ghost use Rattle.std.specs.Prelude.{IsTrue};
-ghost use Rattle.line_engine.specs.Limit.{AreLimits};
+ghost use Rattle.machine.specs.Limit.{AreLimits};
 
 use crate::bodies;
 use crate::case::Case;

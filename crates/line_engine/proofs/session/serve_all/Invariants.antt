@@ -1,8 +1,8 @@
 use Rattle.std.proofs.Common.{◌≡◌, ◌≤◌, ◌+◌, ◌^◌, List, ℕ, Option}
 use Rattle.line_reader.specs.Seen.{KnowsEnd, ahead}
 use Rattle.line_engine.specs.Served.{Served}
-use Rattle.line_engine.specs.State.{State}
-use Rattle.line_engine.specs.declared.limits.Limits.{Limits}
+use Rattle.machine.specs.State.{State}
+use Rattle.machine.specs.declared.limits.Limits.{Limits}
 use Rattle.line_engine.proofs.session.serve_all.Given as goal
 
 abbrev pub invariant-requests : goal.invariant-requests

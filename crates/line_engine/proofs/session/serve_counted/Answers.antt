@@ -1,4 +1,4 @@
-use Rattle.line_engine.specs.State.{empty_state}
+use Rattle.machine.specs.State.{empty_state}
 use Rattle.line_engine.proofs.Serving.{served_start}
 use Rattle.line_engine.proofs.session.serve_counted.Goals as goal
 

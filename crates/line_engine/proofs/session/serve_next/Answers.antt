@@ -2,7 +2,7 @@ use Rattle.std.proofs.Common.{◌≡◌, Err, ap, ◌∙◌}
 use Rattle.std.proofs.lemmas.Result.{err_from_is_err_and}
 use Rattle.line_engine.specs.Exit.{status_of}
 use Rattle.line_engine.specs.Run.{last_state, requests_of}
-use Rattle.line_engine.specs.View.{request_of}
+use Rattle.engine.specs.View.{request_of}
 use Rattle.line_engine.proofs.Serving.{served_next, served_stop, served_part}
 use Rattle.line_engine.proofs.session.serve_next.Goals as goal
 
@@ -19,14 +19,14 @@ pub returns-in-Ok-clause-served : goal.returns-in-Ok-clause-served
 returns-in-Ok-clause-served g c = λ limits start left taken served.
     served_next limits start left (g.S.Source.left c.args.source.now) (g.S.Source.left c.next_request.new.source) taken (g.K.Sink.taken c.args.sink.now) (g.K.Sink.taken c.write_reply.new.sink)
     c.args.session.now.reader.input c.next_request.new.self.input c.args.session.now.engine c.answer-answered.new.self c.next_request.new.self.request
-    (request_of c.first_line.result c.source_line.result) c.answer-answered.result c.answer-answered.new.out.bytes served
+    (request_of c.first_line.result c.source_line.result) c.answer-answered.result c.answer-answered.new.out.bytes c.args.steps.now c.answer-answered.new.steps served
     (c.in_ok-next_request.ensures.gives limits.session_bytes left (requests_of served.turns) served.given)
-    c.first_line.ensures c.source_line.ensures (c.answer-answered.ensures.may (last_state start served.turns) served.stands) c.in-Ok.ensures.bytes c.answer-answered.ensures.limits
+    c.first_line.ensures c.source_line.ensures (c.answer-answered.ensures.answers (last_state start served.turns) served.stands) c.in-Ok.ensures.bytes c.answer-answered.ensures.limits
 
 pub returns-in-Err-clause-serves : goal.returns-in-Err-clause-serves
 returns-in-Err-clause-serves g c = λ limits start left taken served.
     served_part limits start left (g.S.Source.left c.args.source.now) (g.S.Source.left c.next_request.new.source) taken (g.K.Sink.taken c.args.sink.now) (g.K.Sink.taken c.write_reply.new.sink)
     c.args.session.now.reader.input c.next_request.new.self.input c.args.session.now.engine c.answer-answered.new.self c.next_request.new.self.request
-    (request_of c.first_line.result c.source_line.result) c.answer-answered.result c.answer-answered.new.out.bytes served
+    (request_of c.first_line.result c.source_line.result) c.answer-answered.result c.answer-answered.new.out.bytes c.args.steps.now c.answer-answered.new.steps served
     (c.in_ok-next_request.ensures.gives limits.session_bytes left (requests_of served.turns) served.given)
-    c.first_line.ensures c.source_line.ensures (c.answer-answered.ensures.may (last_state start served.turns) served.stands) c.in-Err.ensures.part
+    c.first_line.ensures c.source_line.ensures (c.answer-answered.ensures.answers (last_state start served.turns) served.stands) c.in-Err.ensures.part

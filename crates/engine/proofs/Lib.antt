@@ -1,0 +1,12 @@
+-- Blocks stand for trees; replies and want of memory; writes; mapping lines; searches; what holds whatever the state; and what
+-- is asked for.
+pub mod Standing
+pub mod Answering
+pub mod Writing
+pub mod Taking
+pub mod Lines
+pub mod Finding
+pub mod Leaving
+pub mod Ending
+pub mod Pages
+pub mod Asking

@@ -1,0 +1,44 @@
+-- What an engine keeps.
+use Rattle.std.specs.Prelude.{◌≡◌, ◌⊎◌, ℕ, Option, Some, None}
+use Rattle.std.specs.List.{All}
+use Rattle.flattener.specs.Block.{BlockState}
+use Rattle.index_core.specs.Kept.{IndexState, IndexFits, layout_kept, live_kept}
+use Rattle.layout.specs.Layout.{empty_layout, sealed}
+use Rattle.machine.specs.Limit.{AreLimits}
+use Rattle.machine.specs.declared.limits.Limits.{Limits}
+use Rattle.mapping.specs.Mapping.{Mapping}
+use Rattle.tree_json.specs.Value.{JsonValue}
+use Rattle.write_plan.specs.Update.{IsTextOf}
+
+-- the limits, the mapping, where there is one, the index, and how many requests it was handed
+pub record EngineState : Type 0 where
+  pub limits : Limits
+  pub mapping : Option Mapping
+  pub index : IndexState
+  pub calls : ℕ
+
+-- the source of a block is the compact text of a value, and is read as that
+abbrev pub HasValue : BlockState → Type 0
+HasValue block = (v : JsonValue) × IsTextOf block.root.source v
+
+-- the index is one that the mapping can have made, and each live source is read back
+pub record IsIndexOf (m : Mapping) (index : IndexState) : Type 0 where
+  pub fits : IndexFits m index
+  pub values : All HasValue (live_kept index)
+
+-- without a mapping nothing is kept
+abbrev pub IsUnder : Option Mapping → IndexState → Type 0
+IsUnder None index = layout_kept index ≡ empty_layout
+IsUnder (Some m) index = IsIndexOf m index
+
+-- what holds of every engine
+pub record IsEngine (kept : EngineState) : Type 0 where
+  pub limits : AreLimits kept.limits
+  pub objects : kept.index.objects ≡ kept.limits.objects
+  pub under : IsUnder kept.mapping kept.index
+
+-- what is kept is as it was, or the buffer is sealed
+pub record StaysOrSeals (mapping mapping' : Option Mapping) (index index' : IndexState) : Type 0 where
+  pub same : mapping' ≡ mapping
+  pub next : index'.next ≡ index.next
+  pub layout : (layout_kept index' ≡ layout_kept index) ⊎ (layout_kept index' ≡ sealed (layout_kept index))

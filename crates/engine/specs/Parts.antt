@@ -1,0 +1,114 @@
+-- How commands end. It serves contracts of private calls alone.
+use Rattle.std.specs.Prelude.{◌≡◌, ◌⊎◌, ℕ, true, false, List, Result, Ok, Err, Some, None, Option, unwrap_or}
+use Rattle.index_core.specs.Kept.{IndexFits, IndexState, layout_kept}
+use Rattle.index_core.specs.Write.{is_refused, next_after, written}
+use Rattle.index_core.specs.declared.op.WriteOp.{WriteOp}
+use Rattle.layout.specs.Layout.{with_room}
+use Rattle.machine.specs.Answer.{Answer}
+use Rattle.machine.specs.State.{State}
+use Rattle.machine.specs.Write.{change_or_nothing, live_tree}
+use Rattle.machine.specs.declared.limits.Limits.{Limits}
+use Rattle.mapping.specs.IsMapping.{IsMapping}
+use Rattle.mapping.specs.Mapping.{Mapping}
+use Rattle.reply_text.specs.Text.{reply_text}
+use Rattle.reply_text.specs.declared.refusal.Refusal.{Refusal}
+use Rattle.reply_text.specs.declared.refusal.Refusal.TheVariants.{IndexFull}
+use Rattle.reply_text.specs.declared.reply.Reply.{Reply}
+use Rattle.reply_text.specs.declared.reply.Reply.TheVariants as reply
+use Rattle.request_form.specs.Command.{Changes, Operation, update, delete, Action, map_body, write, search, refresh, segments, open_pit, close_pit, force_merge, start_merge, advance_merge, finish_merge, abort_merge, commit, automerge}
+use Rattle.request_form.specs.Formed.{IsFormed}
+use Rattle.search_form.specs.Form.{is_search_body}
+use Rattle.engine.specs.Answers.{IfNotDone}
+use Rattle.engine.specs.Kept.{IsIndexOf, StaysOrSeals}
+use Rattle.engine.specs.declared.engine.Answered.{Answered}
+use Rattle.engine.specs.declared.engine.Answered.TheVariants as answered
+use Rattle.engine.specs.declared.no_memory.NoMemory as memory
+use Rattle.engine.specs.declared.reply.Ended.{Ended}
+use Rattle.engine.specs.declared.reply.Ended.TheVariants.{Accepted, Refused}
+
+abbrev pub answered_of : Result Ended memory.NoMemory → Answered
+answered_of (Ok Accepted) = answered.Written
+answered_of (Ok Refused) = answered.Refused
+answered_of (Err none) = answered.NoMemory
+
+-- the index stays one of the mapping, and where the command wasn't done all is as it was, or sealed
+pub record Leaves (answered : Answered) (mapping mapping' : Option Mapping) (m' : Mapping) (index index' : IndexState) : Type 0 where
+  pub kept : IsIndexOf m' index'
+  pub objects : index'.objects ≡ index.objects
+  pub stays : IfNotDone answered (StaysOrSeals mapping mapping' index index')
+
+-- a refusal was written, or there was no memory
+abbrev pub IsRefusal : Refusal → Result Ended memory.NoMemory → List ℕ → Type 0
+IsRefusal refusal (Ok Accepted) out = ⊥
+IsRefusal refusal (Ok Refused) out = out ≡ reply_text (reply.Refused refusal)
+IsRefusal refusal (Err none) out = Unit {0}
+
+-- a reply to what was done was written, or there was no memory
+abbrev pub IsAcceptance : Reply → Result Ended memory.NoMemory → List ℕ → Type 0
+IsAcceptance given (Ok Accepted) out = out ≡ reply_text given
+IsAcceptance given (Ok Refused) out = ⊥
+IsAcceptance given (Err none) out = Unit {0}
+
+-- a change was made
+pub record IsMade (op : WriteOp) (index index' : IndexState) : Type 0 where
+  pub taken : is_refused op index ≡ false
+  pub layout : layout_kept index' ≡ written op index
+  pub next : index'.next ≡ next_after op index
+
+-- or it wasn't, as the index is full
+pub record IsFull (op : WriteOp) (index index' : IndexState) (out' : List ℕ) : Type 0 where
+  pub full : is_refused op index ≡ true
+  pub same : index' ≡ index
+  pub text : out' ≡ reply_text (reply.Refused IndexFull)
+
+-- or there was no memory: a full buffer may be sealed, and what is kept fits each mapping that it has fitted
+pub record IsLacking (index index' : IndexState) : Type 0 where
+  pub next : index'.next ≡ index.next
+  pub layout : (layout_kept index' ≡ layout_kept index) ⊎ (layout_kept index' ≡ with_room (layout_kept index))
+  pub fits : (m : Mapping) → IsMapping m → IndexFits m index → IndexFits m index'
+
+-- what became of a change, and of the reply that was written before it
+abbrev pub IsChanged : Result Ended memory.NoMemory → WriteOp → IndexState → IndexState → List ℕ → List ℕ → Type 0
+IsChanged (Ok Accepted) op index index' out out' = IsMade op index index' × (out' ≡ out)
+IsChanged (Ok Refused) op index index' out out' = IsFull op index index' out'
+IsChanged (Err none) op index index' out out' = IsLacking index index'
+
+-- the mapping afterwards, which grows where the change was made
+abbrev pub mapping_put : Result Ended memory.NoMemory → Mapping → Option Mapping → Mapping
+mapping_put (Ok Accepted) m grown = unwrap_or grown m
+mapping_put (Ok Refused) m grown = m
+mapping_put (Err none) m grown = m
+
+-- what an update and a delete do of which nothing is refused early
+abbrev pub later_step : Limits → Mapping → List ℕ → Operation → State → Answer
+later_step limits m id operation state =
+    change_or_nothing limits m (record { target = record { id = id; index = None; if_seq_no = None }; operation = operation }) (live_tree id state.content.live) state
+
+abbrev pub update_step : Limits → Mapping → List ℕ → Changes → State → Answer
+update_step limits m id changes state = later_step limits m id (update changes) state
+
+abbrev pub delete_step : Limits → Mapping → List ℕ → State → Answer
+delete_step limits m id state = later_step limits m id delete state
+
+-- where memory didn't run out, it is refused so
+abbrev pub IsRefusedAs : Option Refusal → Result Ended memory.NoMemory → List ℕ → Type 0
+IsRefusedAs why (Ok Accepted) out = ⊥
+IsRefusedAs why (Ok Refused) out = (refusal : Refusal) × (why ≡ Some refusal) × (out ≡ reply_text (reply.Refused refusal))
+IsRefusedAs why (Err none) out = Unit {0}
+
+-- what holds of everything that is asked for
+abbrev pub IsActionFormed : Action → Type 0
+IsActionFormed (map_body body) = Unit {0}
+IsActionFormed (write it) = IsFormed it
+IsActionFormed (search body) = is_search_body body ≡ true
+IsActionFormed refresh = Unit {0}
+IsActionFormed segments = Unit {0}
+IsActionFormed open_pit = Unit {0}
+IsActionFormed (close_pit id) = Unit {0}
+IsActionFormed (force_merge most) = Unit {0}
+IsActionFormed (start_merge from count) = Unit {0}
+IsActionFormed (advance_merge id roots) = Unit {0}
+IsActionFormed (finish_merge id) = Unit {0}
+IsActionFormed (abort_merge id) = Unit {0}
+IsActionFormed commit = Unit {0}
+IsActionFormed (automerge factor) = Unit {0}

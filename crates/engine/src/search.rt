@@ -1,0 +1,192 @@
+//! Searches.
+
+ghost use Rattle.std.specs.Prelude.{◌≡◌, ◌≤◌, ◌+◌, [], true, length, Option, Some, IfErr, OnOk, IfOk};
+ghost use Rattle.machine.specs.Answer.{outcome_of};
+ghost use Rattle.machine.specs.Searching.{boost_in, boost_of_all, is_by_score, is_last, is_plain, is_score, refusal_of, search_by, search_step, within};
+ghost use Rattle.machine.specs.State.{State, sealed_state};
+ghost use Rattle.query_ast.specs.Search.{hit_page};
+ghost use Rattle.query_parser.specs.Search.{search_of};
+ghost use Rattle.reply_text.specs.Text.{reply_text};
+ghost use Rattle.search_form.specs.Form.{is_search_body};
+ghost use Rattle.tree_json.specs.Output.{room_of};
+ghost use Rattle.tree_json.specs.View.{view};
+ghost use Rattle.engine.specs.Answers.{Answers, answered_by};
+ghost use Rattle.engine.specs.Faithful.{AreFaithful};
+ghost use Rattle.engine.specs.Kept.{IsIndexOf};
+ghost use Rattle.engine.specs.Parts.{Leaves, IsRefusedAs, answered_of};
+
+use crate::engine::Answered;
+use crate::everything::everything;
+use crate::no_memory::NoMemory;
+use crate::reply::{Ended, refuse};
+use index_core::IndexCore;
+use machine::Limits;
+use mapping::Mapping;
+use query_ast::{
+    Missing, Query, QueryBox, SearchBody, Sort, SortKey, everything_is_found_in_order,
+};
+use query_parser::{SearchRefusal, resolved};
+use reply_text::{Refusal, Reply, TextRefusal, text};
+use search_form::ShapeRefusal;
+use source_steps::Steps;
+use std::alloc::Global;
+use std::sync::ledger::Ledger;
+use tree_json::{Json, OutText};
+
+/// Answers a search.
+pub(crate) fn search<L: Ledger>(
+    alloc: Global,
+    limits: &Limits,
+    mapping: &Mapping,
+    index: &mut IndexCore,
+    body: &Json,
+    out: &mut OutText,
+    steps: &mut Steps<L>,
+) -> Result<Ended, NoMemory>
+    requires index { IsIndexOf mapping.now index.old }
+    requires form { is_search_body (view body.now) ≡ true }
+    requires empty { out.old.bytes ≡ [] }
+    ensures answers { (state : State) → AreFaithful (Some mapping.now) index.old state
+        → Answers state (outcome_of state (search_step limits.now (view body.now) mapping.now (sealed_state state))) (answered_of result) out.new.bytes (Some mapping.now) index.new }
+    ensures leaves { Leaves (answered_of result) (Some mapping.now) (Some mapping.now) mapping.now index.old index.new }
+    ensures reads { (state : State) → AreFaithful (Some mapping.now) index.old state
+        → steps.new ≤ steps.old + length (hit_page mapping.now state.content.live (search_of mapping.now (view body.now))).hits }
+    ensures room { room_of out.old ≤ room_of out.new }
+{
+    match search_form::search(body) {
+        Ok(shape) => match resolved(alloc, shape, mapping) {
+            Ok(search) => search_over(alloc, limits, mapping, index, &search, out, steps),
+            Err(why) => refuse_search(why, out),
+        },
+        Err(ShapeRefusal::BadRequest) => unreachable!(),
+    }
+}
+
+/// Writes why a search body is refused.
+fn refuse_search(why: SearchRefusal, out: &mut OutText) -> Result<Ended, NoMemory>
+    requires { out.old.bytes ≡ [] }
+    ensures refused { IsRefusedAs (refusal_of why) result out.new.bytes }
+    ensures room { room_of out.old ≤ room_of out.new }
+{
+    match why {
+        SearchRefusal::UnknownPath => refuse(Refusal::UnknownPath, out),
+        SearchRefusal::PathOutOfScope => refuse(Refusal::PathOutOfScope, out),
+        SearchRefusal::UnknownRelation => refuse(Refusal::UnknownRelation, out),
+        SearchRefusal::BadValue => refuse(Refusal::BadValue, out),
+        SearchRefusal::SortFieldUnmapped => refuse(Refusal::SortFieldUnmapped, out),
+        SearchRefusal::BadSort => refuse(Refusal::BadSort, out),
+        SearchRefusal::DuplicateInnerName => refuse(Refusal::DuplicateInnerName, out),
+        SearchRefusal::WindowTooLarge => refuse(Refusal::WindowTooLarge, out),
+        SearchRefusal::InnerWindowTooLarge => refuse(Refusal::InnerWindowTooLarge, out),
+        SearchRefusal::TooManyClauses => refuse(Refusal::TooManyClauses, out),
+        SearchRefusal::QueryTooDeep => refuse(Refusal::QueryTooDeep, out),
+        SearchRefusal::TooManyTerms => refuse(Refusal::TooManyTerms, out),
+        SearchRefusal::NoMemory => Err(NoMemory),
+    }
+}
+
+/// Answers a search whose body isn't refused. Searches for everything are all that is answered until queries are evaluated.
+fn search_over<L: Ledger>(
+    alloc: Global,
+    limits: &Limits,
+    mapping: &Mapping,
+    index: &mut IndexCore,
+    search: &SearchBody,
+    out: &mut OutText,
+    steps: &mut Steps<L>,
+) -> Result<Ended, NoMemory>
+    requires index { IsIndexOf mapping.now index.old }
+    requires empty { out.old.bytes ≡ [] }
+    ensures answers { (state : State) → AreFaithful (Some mapping.now) index.old state
+        → Answers state (outcome_of state (search_by limits.now mapping.now search.now (sealed_state state))) (answered_of result) out.new.bytes (Some mapping.now) index.new }
+    ensures leaves { Leaves (answered_of result) (Some mapping.now) (Some mapping.now) mapping.now index.old index.new }
+    ensures reads { (state : State) → AreFaithful (Some mapping.now) index.old state → steps.new ≤ steps.old + length (hit_page mapping.now state.content.live search.now).hits }
+    ensures room { room_of out.old ≤ room_of out.new }
+{
+    everything_is_found_in_order();
+    if search.pit.is_some() {
+        return refuse(Refusal::UnknownPit, out);
+    }
+    let Some(boost) = boost_of_all(search) else {
+        return refuse(Refusal::BadRequest, out);
+    };
+    index.seal(mapping)?;
+    let entries = index.view().entries();
+    let found = everything(alloc, entries, boost, search.size, search.source, steps)?;
+    write_within(limits, &found, out)
+}
+
+/// Writes a reply, or that its line is longer than the limit.
+#[tactic(auto, using(crate::proofs::Pages::within_fits, crate::proofs::Pages::within_not))]
+fn write_within(limits: &Limits, reply: &Reply, out: &mut OutText) -> Result<Ended, NoMemory>
+    requires empty { out.old.bytes ≡ [] }
+    requires done { answered_by reply.now ≡ Answered.Written }
+    ensures text { OnOk result (out.new.bytes ≡ reply_text (within limits.now reply.now)) }
+    ensures told { IfOk result (λ ended. answered_of (Ok ended) ≡ answered_by (within limits.now reply.now)) }
+    ensures room { room_of out.old ≤ room_of out.new }
+{
+    match text(reply, limits.reply_bytes, out) {
+        Ok(()) => Ok(Ended::Accepted),
+        Err(TextRefusal::TooLarge) => refuse(Refusal::ReplyTooLarge, out),
+        Err(TextRefusal::NoMemory) => Err(NoMemory),
+    }
+}
+
+/// The boost of a search for everything, which asks for hits alone, from the first one on.
+fn boost_of_all(search: &SearchBody) -> Option<u32>
+    ensures { result ≡ boost_of_all search.now }
+{
+    if is_plain(search) {
+        boost_in(&search.query)
+    } else {
+        None
+    }
+}
+
+fn boost_in(query: &QueryBox) -> Option<u32>
+    ensures { result ≡ boost_in query.now }
+{
+    match query.get() {
+        Query::MatchAll { boost } => Some(*boost),
+        _ => None,
+    }
+}
+
+fn is_plain(search: &SearchBody) -> bool
+    ensures { result ≡ is_plain search.now }
+{
+    is_by_score(search.sort.as_slice())
+        && search.after.is_none()
+        && search.from == 0
+        && search.aggs.as_slice().is_empty()
+        && search.inner.as_slice().is_empty()
+        && search.pit.is_none()
+}
+
+fn is_by_score(sorts: &[Sort]) -> bool
+    ensures { result ≡ is_by_score sorts.now }
+{
+    match sorts {
+        [sort] => is_score(&sort.key) && sort.descending && is_last(&sort.missing),
+        _ => false,
+    }
+}
+
+fn is_score(key: &SortKey) -> bool
+    ensures { result ≡ is_score key.now }
+{
+    match key {
+        SortKey::Score => true,
+        SortKey::Field { .. } => false,
+    }
+}
+
+fn is_last(missing: &Missing) -> bool
+    ensures { result ≡ is_last missing.now }
+{
+    match missing {
+        Missing::Last => true,
+        Missing::First => false,
+        Missing::Given(_) => false,
+    }
+}
