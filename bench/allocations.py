@@ -4,7 +4,7 @@
 A preloaded library counts the calls of malloc and realloc and refuses one of them. Then the program may end with status 9 and
 no output, or answer one request with out_of_memory and the others as if that request hadn't come; anything else is wrong.
 The replies that are expected come from the plain machine below, and not from the program. Wants gcc; run
-`./run examples/shop.ndjson` once before: it builds the program.
+`./run --prove examples/shop.ndjson` once before: it builds the program.
 """
 import json
 import os

@@ -2,7 +2,7 @@
 """How many lines a second the built program answers, beside a Python loop over the same lines.
 
 The loop reads each line as JSON, puts it into a dict and prints it as JSON. Both read the same file and write to one, and
-the best of three runs counts. Run `./run examples/shop.ndjson` once before: it builds the program.
+the best of three runs counts. Run `./run --prove examples/shop.ndjson` once before: it builds the program.
 """
 import os
 import random

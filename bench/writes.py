@@ -1,0 +1,139 @@
+#!/usr/bin/env python3
+"""How many trees a second the built program writes, and in how much memory, beside `sqlite3` and beside its input.
+
+The lines are made from a number, the same on each machine: a mapping, then products with up to three nested offers, each with
+up to two nested stocks, and every tenth line or so a delete. `sqlite3` (Python's module) has the sources ready in memory and
+inserts them as JSON texts with their ids in one transaction into a file. Each runs three times by turns, and the best counts.
+The replies are compared with those of a dict of ids. Run `./run --prove examples/shop.ndjson` once before: it builds the program.
+
+    python3 bench/writes.py [TREES [PROGRAM]]       # 100,000 trees
+"""
+import os
+import sqlite3
+import subprocess
+import sys
+import tempfile
+import time
+
+TOP = os.path.dirname(os.path.dirname(os.path.abspath(__file__)))
+MAPPING = ('{"mapping":{"properties":{"name":{"type":"text"},"offers":{"type":"nested","properties":'
+           '{"color":{"type":"keyword"},"price":{"type":"long"},"stock":{"type":"nested","properties":'
+           '{"n":{"type":"long"},"site":{"type":"keyword"}}}}},"rel":{"type":"join","relations":'
+           '{"question":"answer"}}}}}')
+
+
+class Draws:
+    """Numbers that are the same on each machine."""
+
+    def __init__(self, number):
+        self.state = number
+
+    def draw(self, below):
+        self.state = (self.state * 6364136223846793005 + 1442695040888963407) % 2**64
+        return self.state // 2**33 % below
+
+
+def stock(draws):
+    count = draws.draw(10)
+    return '{"n":%d,"site":"%s"}' % (count, "ab"[draws.draw(2)])
+
+
+def offer(draws):
+    color = ("red", "blue", "green")[draws.draw(3)]
+    price = draws.draw(100)
+    stocks = ",".join(stock(draws) for _ in range(draws.draw(3)))
+    return '{"color":"%s","price":%d,"stock":[%s]}' % (color, price, stocks)
+
+
+def writes(count):
+    """The id of each write, with its source, or with None where the tree is deleted."""
+    draws = Draws(7)
+    for number in range(count):
+        if draws.draw(10) == 0 and number > 0:
+            yield str(draws.draw(number)), None
+        else:
+            offers = ",".join(offer(draws) for _ in range(draws.draw(4)))
+            yield str(number), '{"name":"item %d","offers":[%s]}' % (number, offers)
+
+
+def lines_of(made):
+    yield MAPPING
+    for id, source in made:
+        if source is None:
+            yield '{"delete":{"_id":"%s"}}' % id
+        else:
+            yield '{"index":{"_id":"%s"}}' % id
+            yield source
+
+
+def replies_to(made):
+    yield '{"result":"mapped"}'
+    live, number = set(), 0
+    for id, source in made:
+        if source is None and id not in live:
+            yield '{"_id":"%s","result":"not_found"}' % id
+            continue
+        result = "deleted" if source is None else "updated" if id in live else "created"
+        yield '{"_id":"%s","_seq_no":%d,"result":"%s"}' % (id, number, result)
+        number += 1
+        live.discard(id) if source is None else live.add(id)
+
+
+def run_program(program, path, folder):
+    """Seconds, the peak of memory in bytes, and the replies."""
+    with open(path, "rb") as lines, open(os.path.join(folder, "replies"), "w+b") as replies:
+        start = time.perf_counter()
+        child = subprocess.Popen([program, "serve", os.path.join(folder, "store")], stdin=lines, stdout=replies)
+        _, status, used = os.wait4(child.pid, 0)
+        seconds = time.perf_counter() - start
+        child.returncode = os.waitstatus_to_exitcode(status)
+        if child.returncode != 0:
+            sys.exit("the program ended with status %d" % child.returncode)
+        replies.seek(0)
+        return seconds, used.ru_maxrss * 1024, replies.read().decode()
+
+
+def run_sqlite(sources, folder):
+    """Seconds for the transaction, its end on the disk included."""
+    path = os.path.join(folder, "trees.db")
+    if os.path.exists(path):
+        os.remove(path)
+    database = sqlite3.connect(path, isolation_level=None)
+    database.execute("create table trees (id text primary key, source text not null)")
+    start = time.perf_counter()
+    database.execute("begin")
+    database.executemany("insert into trees values (?, ?)", sources)
+    database.execute("commit")
+    seconds = time.perf_counter() - start
+    database.close()
+    return seconds
+
+
+def main():
+    count = int(sys.argv[1]) if len(sys.argv) > 1 else 100_000
+    program = os.path.abspath(sys.argv[2]) if len(sys.argv) > 2 else os.path.join(TOP, "crates/nestsearch/out/nestsearch")
+    if not os.path.exists(program):
+        sys.exit("there is no program at %s" % program)
+    made = list(writes(count))
+    sources = [write for write in made if write[1] is not None]
+    text = "".join(line + "\n" for line in lines_of(made))
+    expected = "".join(reply + "\n" for reply in replies_to(made))
+    ours, theirs, peak = [], [], 0
+    with tempfile.TemporaryDirectory() as folder:
+        path = os.path.join(folder, "lines")
+        with open(path, "w") as lines:
+            lines.write(text)
+        for _ in range(3):
+            seconds, memory, replies = run_program(program, path, folder)
+            if replies != expected:
+                sys.exit("the program's replies are not those of a dict")
+            ours.append(seconds)
+            peak = max(peak, memory)
+            theirs.append(run_sqlite(sources, folder))
+    print("%d trees and %d deletes, %d bytes" % (len(sources), len(made) - len(sources), len(text)))
+    print("program: %.0f trees a second; sqlite3: %.0f; ratio %.2f" % (
+        len(sources) / min(ours), len(sources) / min(theirs), min(theirs) / min(ours)))
+    print("peak of memory: %d bytes, %.2f times the input" % (peak, peak / len(text)))
+
+
+main()
