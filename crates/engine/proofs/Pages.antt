@@ -1,7 +1,7 @@
 -- The page of a search for everything, root by root, and a reply that is held to a limit.
 use Rattle.std.proofs.Common.{◌≡◌, ◌≤◌, ℕ, ◌+◌, ◌-◌, ◌<◌, zero, suc, Bool, true, false, cond, nat_lt, get_or, List, [], ◌∷◌, ◌++◌, length, map, take, drop, filter, Some, None, refl, sym, ap, ◌∙◌, append_assoc, append-nil, arith, length-append, add-one, drop-cons, min}
 use Rattle.std.proofs.lemmas.Bool.Decides.{nat_tests}
-use Rattle.std.proofs.lemmas.List.{length-map, length-take, map-append}
+use Rattle.std.proofs.lemmas.List.{at_drop_more, get_or-map, length-map, length-take, map-append}
 use Rattle.std.proofs.lemmas.List.Sums.{sum_by-cons}
 use Rattle.std.specs.List.{count_by, flat_map}
 use Rattle.block_bits.specs.Flags.{is_marked}
@@ -12,11 +12,14 @@ use Rattle.reply_text.specs.Text.{line_of}
 use Rattle.reply_text.specs.declared.refusal.Refusal.TheVariants.{ReplyTooLarge}
 use Rattle.reply_text.specs.declared.reply.Reply.{Reply}
 use Rattle.reply_text.specs.declared.reply.Reply.TheVariants.{Refused}
-use Rattle.segment.specs.Flat.{FlatRoot}
+use Rattle.segment.specs.Flat.{FlatRoot, flat_root, roots_of}
+use Rattle.segment.specs.Live.{EntryState}
 use Rattle.segment_builder.specs.Blocks.{blocks_of, marked_by}
+use Rattle.segment_parts.specs.declared.columns.Columns.{Columns}
+use Rattle.stored_sources.specs.Roots.{no_root, root_of}
 use Rattle.machine.specs.Searching.{within}
 use Rattle.machine.specs.declared.limits.Limits.{Limits}
-use Rattle.engine.specs.Hits.{marked_roots, root_hit, root_in}
+use Rattle.engine.specs.Hits.{live_roots, marked_roots, root_hit, root_in, roots_in}
 
 -- ---- the roots of live blocks
 
@@ -37,6 +40,19 @@ marks_counted (root ∷ roots) (mark ∷ marks) same =
     by true more = omega (arith, more)
     by false more = omega (arith, more)
 
+-- the roots of the live blocks of an entry are the marked ones of its segment
+pub roots_kept : (entry : EntryState) → map root_in (blocks_of entry.columns) ≡ roots_of entry.columns → roots_in entry ≡ marked_roots (roots_of entry.columns) entry.live.roots
+roots_kept entry law = roots_marked (blocks_of entry.columns) entry.live.roots ∙ ap (λ (roots : List FlatRoot). marked_roots roots entry.live.roots) law
+
+-- there are as many marks as roots
+pub marks_match : (columns : Columns) (marks : List Bool) → length marks ≡ length columns.roots → length marks ≡ length (roots_of columns)
+marks_match columns marks same = same ∙ sym (length-map columns.roots flat_root)
+
+pub roots_counted : (entry : EntryState) → map root_in (blocks_of entry.columns) ≡ roots_of entry.columns → length entry.live.roots ≡ length entry.columns.roots
+    → length (roots_in entry) ≡ count_by is_marked entry.live.roots
+roots_counted entry law same =
+    ap length (roots_kept entry law) ∙ marks_counted (roots_of entry.columns) entry.live.roots (marks_match entry.columns entry.live.roots same)
+
 -- ---- root by root
 
 from_on : {A : Type 0} (xs : List A) (i : ℕ) (d : A) → i < length xs → drop i xs ≡ get_or xs i d ∷ drop (i + 1) xs
@@ -49,6 +65,26 @@ pub marked_at : (roots : List FlatRoot) (marks : List Bool) (i : ℕ) (root : Fl
 marked_at roots marks i root within same =
     let here : i < length marks = omega arith in
     rw (from_on roots i root within, from_on marks i false here) refl
+
+-- where it is marked
+pub marked_root : (columns : Columns) (marks : List Bool) (i : ℕ) → i < length columns.roots → length marks ≡ length (roots_of columns) → get_or marks i false ≡ true
+    → marked_roots (drop i (roots_of columns)) (drop i marks) ≡ flat_root (root_of columns.roots i) ∷ marked_roots (drop (i + 1) (roots_of columns)) (drop (i + 1) marks)
+marked_root columns marks i within same is =
+    let roots = roots_of columns in
+    let root = flat_root (root_of columns.roots i) in
+    let later = marked_roots (drop (i + 1) roots) (drop (i + 1) marks) in
+    marked_at roots marks i root (omega (arith, within, length-map columns.roots flat_root)) same
+    ∙ ap (λ (b : Bool). cond b (get_or roots i root ∷ later) later) is
+    ∙ ap (λ (own : FlatRoot). own ∷ later) (get_or-map flat_root columns.roots i no_root root within)
+
+-- and where it isn't
+pub unmarked_root : (columns : Columns) (marks : List Bool) (i : ℕ) → i < length columns.roots → length marks ≡ length (roots_of columns) → get_or marks i false ≡ false
+    → marked_roots (drop i (roots_of columns)) (drop i marks) ≡ marked_roots (drop (i + 1) (roots_of columns)) (drop (i + 1) marks)
+unmarked_root columns marks i within same isnt =
+    let roots = roots_of columns in
+    let root = flat_root (root_of columns.roots i) in
+    let later = marked_roots (drop (i + 1) roots) (drop (i + 1) marks) in
+    marked_at roots marks i root (omega (arith, within, length-map columns.roots flat_root)) same ∙ ap (λ (b : Bool). cond b (get_or roots i root ∷ later) later) isnt
 
 -- the hits so far, and those that come: of so many roots there are no more hits than the page has
 pub record IsPage (score : ℕ) (source : Bool) (size : ℕ) (done : List Hit) (roots : List FlatRoot) (all : List Hit) : Type 0 where
@@ -68,6 +104,22 @@ page_more score source size done all root roots few page =
       is = append_assoc done (root_hit score source root ∷ []) (map (root_hit score source) (take (size - length (done ++ root_hit score source root ∷ [])) roots)) ∙ (rw left at page.is);
     }
 
+-- one root is taken before the others
+pub taken_one : (k : ℕ) (root : FlatRoot) (roots : List FlatRoot) → 0 < k → length (take k (root ∷ roots)) ≡ length (take (k - 1) roots) + 1
+taken_one zero root roots some = absurd (omega (arith, some))
+taken_one (suc k) root roots some =
+    let less : suc k - 1 ≡ k = omega arith in
+    omega (arith, ap (λ n. length (take n roots)) less)
+
+-- one more source may be read for a root that is taken
+pub reads_root : (size long : ℕ) (root : FlatRoot) (later roots : List FlatRoot) (steps most : ℕ) → long < size → roots ≡ root ∷ later → steps + length (take (size - long) roots) ≤ most
+    → (steps + 1) + length (take (size - (long + 1)) later) ≤ most
+reads_root size long root later roots steps most few is before =
+    let one : length (take (size - long) roots) ≡ length (take ((size - long) - 1) later) + 1 =
+    ap (λ (all : List FlatRoot). length (take (size - long) all)) is ∙ taken_one (size - long) root later (omega (arith, few)) in
+    let less : size - (long + 1) ≡ (size - long) - 1 = omega arith in
+    omega (arith, one, ap (λ n. length (take n later)) less, before)
+
 take_two : {A : Type 0} (k : ℕ) (xs ys : List A) → take k (xs ++ ys) ≡ take k xs ++ take (k - length xs) ys
 take_two zero xs ys = let none : 0 - length xs ≡ 0 = omega arith in ap (λ n. take n ys) (sym none)
 take_two (suc k) [] ys = let all : suc k - 0 ≡ suc k = omega arith in ap (λ n. take n ys) (sym all)
@@ -75,15 +127,23 @@ take_two (suc k) (x ∷ xs) ys =
     let less : suc k - length (x ∷ xs) ≡ k - length xs = omega arith in
     ap (λ rest. x ∷ rest) (take_two k xs ys) ∙ ap (λ n. x ∷ (take k xs ++ take n ys)) (sym less)
 
+-- how many hits the page still takes, after those of an entry
+pub page_left : (score : ℕ) (source : Bool) (size : ℕ) (done now : List Hit) (here : List FlatRoot) → now ≡ done ++ map (root_hit score source) (take (size - length done) here)
+    → size - length now ≡ (size - length done) - length here
+page_left score source size done now here added =
+    let k = size - length done in
+    let hits = map (root_hit score source) in
+    let long : length now ≡ length done + min k (length here) =
+    ap length added ∙ length-append done (hits (take k here)) ∙ ap (λ n. length done + n) (length-map (take k here) (root_hit score source) ∙ length-take k here) in
+    omega (arith, long)
+
 -- the roots of an entry, and those behind them
 pub page_entry : (score : ℕ) (source : Bool) (size : ℕ) (done now all : List Hit) (here later : List FlatRoot) → now ≡ done ++ map (root_hit score source) (take (size - length done) here)
     → IsPage score source size done (here ++ later) all → IsPage score source size now later all
 page_entry score source size done now all here later added page =
     let k = size - length done in
     let hits = map (root_hit score source) in
-    let long : length now ≡ length done + min k (length here) =
-    ap length added ∙ length-append done (hits (take k here)) ∙ ap (λ n. length done + n) (length-map (take k here) (root_hit score source) ∙ length-take k here) in
-    let left : size - length now ≡ k - length here = omega (arith, long) in
+    let left = page_left score source size done now here added in
     record {
       is = ap (λ (front : List Hit). front ++ hits (take (size - length now) later)) added
           ∙ ap (λ n. (done ++ hits (take k here)) ++ hits (take n later)) left
@@ -91,6 +151,36 @@ page_entry score source size done now all here later added page =
           ∙ ap (λ (rest : List Hit). done ++ rest) (sym (map-append (root_hit score source) (take k here) (take (k - length here) later)) ∙ ap hits (sym (take_two k here later)))
           ∙ page.is;
     }
+
+-- how many roots of an entry and of those behind it are taken
+pub taken_two : (k : ℕ) (here later : List FlatRoot) → length (take k (here ++ later)) ≡ length (take k here) + length (take (k - length here) later)
+taken_two k here later = ap length (take_two k here later) ∙ length-append (take k here) (take (k - length here) later)
+
+-- no more sources were read than roots of an entry are taken, so no more will have been than are taken of all
+pub reads_entry : (size long long' : ℕ) (here later roots : List FlatRoot) (steps steps' most : ℕ) → roots ≡ here ++ later → size - long' ≡ (size - long) - length here
+    → steps + length (take (size - long) roots) ≤ most → steps' ≤ steps + length (take (size - long) here) → steps' + length (take (size - long') later) ≤ most
+reads_entry size long long' here later roots steps steps' most is left before more =
+    let two : length (take (size - long) roots) ≡ length (take (size - long) here) + length (take (size - long') later) =
+    ap (λ (all : List FlatRoot). length (take (size - long) all)) is ∙ taken_two (size - long) here later ∙ ap (λ n. length (take (size - long) here) + length (take n later)) (sym left) in
+    omega (arith, two, before, more)
+
+-- the live roots from an entry on
+pub live_more : (entries : List EntryState) (i : ℕ) (entry : EntryState) → i < length entries → entry ≡ get_or entries i entry → live_roots (drop i entries) ≡ roots_in entry ++ live_roots (drop (i + 1) entries)
+live_more entries i entry within is =
+    at_drop_more live_roots entries i entry within ∙ ap (λ (own : EntryState). roots_in own ++ live_roots (drop (i + 1) entries)) (sym is)
+
+pub page_begun : (score : ℕ) (source : Bool) (size : ℕ) (roots : List FlatRoot) → IsPage score source size [] roots (map (root_hit score source) (take size roots))
+page_begun score source size roots =
+    let all : size - 0 ≡ size = omega arith in
+    record { is = ap (λ n. map (root_hit score source) (take n roots)) all }
+
+none_taken : (k : ℕ) → take {A = FlatRoot} k [] ≡ []
+none_taken zero = refl
+none_taken (suc k) = refl
+
+pub page_ended : (score : ℕ) (source : Bool) (size : ℕ) (done all : List Hit) → IsPage score source size done [] all → done ≡ all
+page_ended score source size done all page =
+    sym (append-nil done) ∙ ap (λ (roots : List FlatRoot). done ++ map (root_hit score source) roots) (sym (none_taken (size - length done))) ∙ page.is
 
 -- ---- a line that isn't too long, and one that is
 

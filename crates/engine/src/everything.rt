@@ -1,8 +1,7 @@
 //! The search for everything: the live trees by their numbers.
 
-ghost use Rattle.std.specs.Prelude.{◌≡◌, ◌≤◌, ◌+◌, ◌-◌, ◌++◌, ◌<◌, [], length, map, take, vec_len, true, IfOk, OnOk};
-ghost use Rattle.index_core.specs.Kept.{segment_kept};
-ghost use Rattle.segment.specs.Flat.{roots_of};
+ghost use Rattle.std.specs.Prelude.{◌≡◌, ◌≤◌, ◌+◌, ◌-◌, ◌++◌, ◌<◌, if◌then◌else◌, [], Some, None, length, map, take, vec_len, IfOk, OnOk};
+ghost use Rattle.segment.specs.Flat.{flat_root, roots_of};
 ghost use Rattle.stored_sources.specs.Roots.{root_of};
 ghost use Rattle.engine.specs.Hits.{live_roots, marked_roots, root_hit, roots_in};
 
@@ -95,7 +94,6 @@ fn add_roots<L: Ledger>(
     ensures hits { OnOk result (hits.new.items ≡ hits.old.items ++ map (root_hit boost source) (take (size - vec_len hits.old) (marked_roots (roots_of segment.now) live.now))) }
     ensures reads { steps.new ≤ steps.old + length (take (size - vec_len hits.old) (marked_roots (roots_of segment.now) live.now)) }
 {
-    let sources = segment.sources();
     'roots: for root in 0..segment.roots() {
         if hits.len() >= size {
             break;
@@ -122,7 +120,7 @@ fn hit_at<L: Ledger>(
 {
     let sources = segment.sources();
     Ok(Hit {
-        id: Bytes::of(sources.id(root).to_vec(alloc)?),
+        id: Bytes::of(Vec::from_slice(alloc, sources.id(root))?),
         number: sources.number(root),
         score: score as u64,
         keys: KeyList::of(vec![in alloc; Key::Number(score as i64)]?),
