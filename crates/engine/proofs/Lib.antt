@@ -1,9 +1,10 @@
--- Blocks stand for trees; replies and want of memory; writes; mapping lines; searches; what holds whatever the state; and what
--- is asked for.
+-- Blocks stand for trees; replies and want of memory; writes, and the sources of updates; mapping lines; searches; what holds
+-- whatever the state; and what is asked for.
 pub mod Standing
 pub mod Answering
 pub mod Writing
 pub mod Taking
+pub mod Updating
 pub mod Lines
 pub mod Finding
 pub mod Leaving
