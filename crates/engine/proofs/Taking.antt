@@ -9,7 +9,7 @@ use Rattle.json_merge.specs.Same.{is_same}
 use Rattle.layout.specs.Layout.{Layout, with_change}
 use Rattle.machine.specs.Answer.{Answer, answers, first_of, outcome_of, refused_if}
 use Rattle.machine.specs.State.{State}
-use Rattle.machine.specs.Write.{added_body, changed, changed_state, full, live_number, live_tree, object_count, put_source, take_out, updated_source, with_put}
+use Rattle.machine.specs.Write.{added_body, answered_or, change, change_or_nothing, changed, changed_state, full, live_number, live_tree, nothing_to_do, object_count, put_source, take_out, updated_source, with_put}
 use Rattle.machine.specs.declared.limits.Limits.{Limits}
 use Rattle.machine.proofs.Laid.{change_laid}
 use Rattle.machine.proofs.Numbered.{taken_numbered}
@@ -18,13 +18,14 @@ use Rattle.reply_text.specs.Text.{reply_text}
 use Rattle.reply_text.specs.declared.refusal.Refusal.TheVariants.{IndexFull}
 use Rattle.reply_text.specs.declared.reply.Reply.TheVariants as reply
 use Rattle.reply_text.specs.declared.reply.WriteResult.TheVariants.{Deleted, Noop}
-use Rattle.request_form.specs.Command.{Changes}
+use Rattle.request_form.specs.Command.{Changes, update}
 use Rattle.segment_builder.specs.Blocks.{objects_of}
 use Rattle.tree_json.specs.Reading.{reading}
 use Rattle.tree_json.specs.Text.{compact}
 use Rattle.tree_json.specs.Value.{JsonValue}
+use Rattle.tree_json.specs.declared.value.Json.{Json}
 use Rattle.tree_objects.specs.Tree.{Tree, has_id, without}
-use Rattle.write_plan.specs.Update.{IsTextOf}
+use Rattle.write_plan.specs.Update.{IsTextOf, IsUpdated}
 use Rattle.engine.specs.Answers.{Answers}
 use Rattle.engine.specs.Faithful.{AreFaithful, Indexed, block_in, tree_in}
 use Rattle.engine.specs.Parts.{IsMade, delete_step, later_step, update_step}
@@ -138,27 +139,44 @@ take_made limits m id index index' state number out most f some made text =
 
 -- ---- updates
 
+-- an update, by the live tree
+abbrev by_live : Limits → Mapping → List ℕ → Changes → State → Option Tree → Answer
+by_live limits m id changes state live = change_or_nothing limits m (record { target = record { id = id; index = None; if_seq_no = None }; operation = update changes }) live state
+
 pub updated_anew : (limits : Limits) (m : Mapping) (id : List ℕ) (changes : Changes) (index : IndexState) (state : State) → AreFaithful (Some m) index state → None ≡ option_map block_number (live_block id index)
     → update_step limits m id changes state ≡ put_source limits m id (updated_source changes None) (added_body m (updated_source changes None)) None state
-updated_anew limits m id changes index state f none = rw (no_tree m id index state f none) refl
+updated_anew limits m id changes index state f none = ap (by_live limits m id changes state) (no_tree m id index state f none)
 
 source_same : (m : Mapping) (tree : Tree) → (block_of m tree).root.source ≡ compact tree.source
 unfolding root_of_tree
 source_same m tree = refl
 
 -- the source of the live block is that of the live tree
-pub live_text : (m : Mapping) (id : List ℕ) (index : IndexState) (state : State) (number : ℕ) (live : IsLive m id index state number) → IsTextOf (block_of m live.it.tree).root.source live.it.tree.source
+live_text : (m : Mapping) (id : List ℕ) (index : IndexState) (state : State) (number : ℕ) (live : IsLive m id index state number) → IsTextOf (block_of m live.it.tree).root.source live.it.tree.source
 live_text m id index state number live = record { text = source_same m live.it.tree; reads = ap reading (source_same m live.it.tree) ∙ live.it.reads }
 
-pub updated_noop : (limits : Limits) (m : Mapping) (id : List ℕ) (changes : Changes) (index : IndexState) (state : State) (number : ℕ) (out : List ℕ) → AreFaithful (Some m) index state
-    → (live : IsLive m id index state number) → is_same (merged changes.doc live.it.tree.source) live.it.tree.source ≡ true → out ≡ reply_text (reply.Written id number Noop)
-    → Answers state (outcome_of state (update_step limits m id changes state)) answered.Written out (Some m) index
-updated_noop limits m id changes index state number out f live same text =
-    let e : update_step limits m id changes state ≡ answers (reply.Written id live.it.tree.number Noop) state = rw (live.tree, same) refl in
-    let said : out ≡ reply_text (reply.Written id live.it.tree.number Noop) = text ∙ ap (λ k. reply_text (reply.Written id k Noop)) (sym live.same) in
-    subst (λ answer. Answers state (outcome_of state answer) answered.Written out (Some m) index) (sym e) (accepted (Some m) index state state (reply.Written id live.it.tree.number Noop) out f refl said)
+-- what an update makes of the source of the live block, it makes of that of the live tree
+pub live_changed : (m : Mapping) (id own : List ℕ) (index : IndexState) (state : State) (number : ℕ) (doc : JsonValue) (source : Option Json) (live : IsLive m id index state number) → own ≡ id
+    → ((block : BlockState) (v : JsonValue) → live_block own index ≡ Some block → IsTextOf block.root.source v → IsUpdated doc v source) → IsUpdated doc live.it.tree.source source
+live_changed m id own index state number doc source live same makes =
+    makes (block_of m live.it.tree) live.it.tree.source (ap (λ (key : List ℕ). live_block key index) same ∙ live.block) (live_text m id index state number live)
 
-pub updated_live : (limits : Limits) (m : Mapping) (id : List ℕ) (changes : Changes) (index : IndexState) (state : State) (number : ℕ) (source : JsonValue)
-    → (live : IsLive m id index state number) → is_same (merged changes.doc live.it.tree.source) live.it.tree.source ≡ false → source ≡ merged changes.doc live.it.tree.source
+-- by whether the source stays as it is
+abbrev by_same : Limits → Mapping → List ℕ → Changes → State → Tree → Bool → Answer
+by_same limits m id changes state tree same =
+    answered_or (nothing_to_do same id (update changes) (Some tree)) state (change limits m id (Some (merged changes.doc tree.source)) (Some tree) state)
+
+pub updated_noop : (limits : Limits) (m : Mapping) (id : List ℕ) (changes : Changes) (index : IndexState) (state : State) (number : ℕ) (live : IsLive m id index state number)
+    → is_same (merged changes.doc live.it.tree.source) live.it.tree.source ≡ true → update_step limits m id changes state ≡ answers (reply.Written id number Noop) state
+updated_noop limits m id changes index state number live same =
+    ap (by_live limits m id changes state) live.tree
+    ∙ ap (by_same limits m id changes state live.it.tree) same
+    ∙ ap (λ (k : ℕ). answers (reply.Written id k Noop) state) live.same
+
+pub updated_live : (limits : Limits) (m : Mapping) (id : List ℕ) (changes : Changes) (index : IndexState) (state : State) (number : ℕ) (source : JsonValue) (live : IsLive m id index state number)
+    → is_same (merged changes.doc live.it.tree.source) live.it.tree.source ≡ false → source ≡ merged changes.doc live.it.tree.source
     → update_step limits m id changes state ≡ put_source limits m id source (added_body m source) (Some live.it.tree) state
-updated_live limits m id changes index state number source live other is = rw (live.tree, other, is) refl
+updated_live limits m id changes index state number source live other is =
+    ap (by_live limits m id changes state) live.tree
+    ∙ ap (by_same limits m id changes state live.it.tree) other
+    ∙ ap (λ (v : JsonValue). put_source limits m id v (added_body m v) (Some live.it.tree) state) (sym is)
