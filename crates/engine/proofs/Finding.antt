@@ -1,14 +1,14 @@
 -- Searches: what the machine finds among trees, as the engine finds it among blocks.
-use Rattle.std.proofs.Common.{◌≡◌, ◌≤◌, ◌+◌, ℕ, zero, suc, Bool, true, false, not, ◌&&◌, cond, ◌==◌, pos, List, [], ◌∷◌, ◌++◌, length, map, take, Option, Some, None, is_some, option_map, Result, Ok, Err, IfOk, OnOk, refl, sym, ap, subst, ◌∙◌, append-nil, arith}
+use Rattle.std.proofs.Common.{◌≡◌, ◌≤◌, ◌+◌, ℕ, zero, suc, Bool, true, false, not, ◌&&◌, cond, ◌==◌, List, [], ◌∷◌, ◌++◌, length, map, take, Option, Some, None, is_some, Result, Ok, Err, IsErr, IfOk, OnOk, refl, sym, ap, subst, ◌∙◌, append-nil, arith}
 use Rattle.std.proofs.lemmas.Bool.{and_parts}
 use Rattle.std.proofs.lemmas.List.{length-map, map-append}
 use Rattle.std.specs.List.{flat_map}
 use Rattle.flattener.specs.Block.{BlockState, block_of, root_of_tree}
 use Rattle.index_core.specs.Kept.{IndexState, laid, layout_kept, segment_kept, segments_kept}
 use Rattle.layout.specs.Layout.{Layout, live_in, live_items, sealed}
-use Rattle.machine.specs.Answer.{Answer, answers, outcome_of, refused_if, refuses}
+use Rattle.machine.specs.Answer.{answers, outcome_of, refused_if, refuses}
 use Rattle.machine.specs.Searching.{refusal_of, body_refusal, boost_at, boost_in, boost_of_all, found_by, is_by_score, is_last, is_none, is_plain, is_score, search_all, search_by, search_over, search_step, searched, within}
-use Rattle.machine.specs.State.{State, no_points, sealed_state}
+use Rattle.machine.specs.State.{State, sealed_state}
 use Rattle.machine.specs.declared.limits.Limits.{Limits}
 use Rattle.mapping.specs.Mapping.{Mapping}
 use Rattle.query_ast.specs.Clause.{Clause, Leaf, leaf, match_all, match_none, ids, on_field, parent_id, bool, constant_score, dis_max, nested, to_child, has_child, has_parent}
@@ -34,17 +34,16 @@ use Rattle.segment.specs.Live.{EntryState}
 use Rattle.tree_json.specs.Value.{JsonValue}
 use Rattle.tree_objects.specs.Tree.{IsLiveList, Tree}
 use Rattle.engine.specs.Answers.{Answers, answered_by}
-use Rattle.engine.specs.Faithful.{AreFaithful, Indexed, StandsFor, block_in, tree_in}
+use Rattle.engine.specs.Faithful.{AreFaithful, Indexed, block_in, tree_in}
 use Rattle.engine.specs.Hits.{live_roots, root_hit, root_in, roots_in}
-use Rattle.engine.specs.declared.engine.Answered.{Answered}
 use Rattle.engine.specs.declared.engine.Answered.TheVariants as answered
 use Rattle.engine.specs.Parts.{IsRefusedAs, answered_of}
 use Rattle.engine.specs.declared.no_memory.NoMemory as memory
 use Rattle.engine.specs.declared.reply.Ended.{Ended}
 use Rattle.engine.specs.declared.reply.Ended.TheVariants.{Accepted}
 use Rattle.engine.specs.declared.reply.Ended.TheVariants as ended
-use Rattle.engine.proofs.Answering.{lacking, lacking_sealed, refusal_ends, told}
-use Rattle.engine.proofs.Standing.{live_blocks, live_trees, map-map}
+use Rattle.engine.proofs.Answering.{lacking, lacking_sealed, refusal_ends, sealed_faithful, told}
+use Rattle.engine.proofs.Standing.{live_blocks, live_trees}
 
 -- ---- a search for everything
 
@@ -96,7 +95,7 @@ if_some : (b : Bool) (o : Option ℕ) (n : ℕ) → cond b o None ≡ Some n →
 if_some true o n e = (refl, e)
 if_some false o n e = absurd (cc)
 
-pub everything_is : (search : SearchBody) (boost : ℕ) → boost_of_all search ≡ Some boost → search ≡ everything boost search.size search.source
+everything_is : (search : SearchBody) (boost : ℕ) → boost_of_all search ≡ Some boost → search ≡ everything boost search.size search.source
 everything_is search boost e =
     let both = if_some (is_plain search) (boost_in search.query) boost e in
     let query = query_is search.query boost both.1 in
@@ -138,7 +137,7 @@ roots_are m index state its buffer e =
     roots_joined index.entries
     ∙ ap (map root_in) (sym (append-nil (flat_map live_in (segments_kept index.entries))) ∙ ap (λ (rest : List BlockState). flat_map live_in (segments_kept index.entries) ++ rest) (sym buffer) ∙ e)
 
-abbrev pub InOrder : Type 0
+abbrev InOrder : Type 0
 InOrder = (m : Mapping) (live : List Tree) (boost size : ℕ) (source : Bool) → IsLiveList live
     → hit_page m live (everything boost size source) ≡ record { hits = map (whole_hit boost source) (take size live); total = length live }
 
@@ -149,7 +148,7 @@ no_buckets m live boost size source = refl
 abbrev pub reply_found : ℕ → ℕ → Bool → List FlatRoot → Reply
 reply_found boost size source roots = reply.Found (record { hits = map (root_hit boost source) (take size roots); total = length roots }) []
 
-pub found_same : InOrder → (m : Mapping) (index : IndexState) (state : State) (search : SearchBody) (boost : ℕ) → AreFaithful (Some m) index state → index.buffer ≡ [] → boost_of_all search ≡ Some boost
+found_same : InOrder → (m : Mapping) (index : IndexState) (state : State) (search : SearchBody) (boost : ℕ) → AreFaithful (Some m) index state → index.buffer ≡ [] → boost_of_all search ≡ Some boost
     → reply_found boost search.size search.source (live_roots index.entries) ≡ found_by m state.content.live search
 found_same law m index state search boost f buffer all =
     let its = live_items f.stands.indexed in
@@ -170,7 +169,7 @@ hits_on (reply.Found page buckets) = page.hits
 hits_on other = []
 
 -- as many hits are on the page
-pub hits_counted : InOrder → (m : Mapping) (index : IndexState) (state : State) (search : SearchBody) (boost : ℕ) → AreFaithful (Some m) index state → index.buffer ≡ [] → boost_of_all search ≡ Some boost
+hits_counted : InOrder → (m : Mapping) (index : IndexState) (state : State) (search : SearchBody) (boost : ℕ) → AreFaithful (Some m) index state → index.buffer ≡ [] → boost_of_all search ≡ Some boost
     → length (take search.size (live_roots index.entries)) ≡ length (hit_page m state.content.live search).hits
 unfolding hits_on
 hits_counted law m index state search boost f buffer all =
@@ -179,7 +178,7 @@ hits_counted law m index state search boost f buffer all =
 
 -- ---- what the machine answers
 
-pub body_refused : (limits : Limits) (body : JsonValue) (m : Mapping) (state : State) (why : Refusal) → body_refusal (first_refusal m body) ≡ Some why
+body_refused : (limits : Limits) (body : JsonValue) (m : Mapping) (state : State) (why : Refusal) → body_refusal (first_refusal m body) ≡ Some why
     → search_step limits body m (sealed_state state) ≡ refuses why
 unfolding search_step
 body_refused limits body m state why first = ap (λ o. refused_if o (search_by limits m (search_of m body) (sealed_state state))) first
@@ -206,40 +205,40 @@ pub not_built : (limits : Limits) (m : Mapping) (search : SearchBody) (state : S
     → search_by limits m search (sealed_state state) ≡ refuses why.BadRequest
 not_built limits m search state none all = over_live limits m search state None (no_option search.pit (rw none refl)) all
 
--- the index' is sealed
-pub found_all : InOrder → (limits : Limits) (m : Mapping) (search : SearchBody) (index : IndexState) (state : State) (boost : ℕ) (ends : Answered) (out : List ℕ) → AreFaithful (Some m) index (sealed_state state)
-    → index.buffer ≡ [] → is_some search.pit ≡ false → boost_of_all search ≡ Some boost → (ends ≡ answered.NoMemory → ⊥)
-    → ends ≡ answered_by (within limits (reply_found boost search.size search.source (live_roots index.entries)))
-    → out ≡ reply_text (within limits (reply_found boost search.size search.source (live_roots index.entries)))
-    → Answers state (outcome_of state (search_by limits m search (sealed_state state))) ends out (Some m) index
-found_all law limits m search index state boost ends out f buffer none all some told_so text =
-    let e = over_live limits m search state (Some boost) (no_option search.pit (rw none refl)) all in
-    let found = found_same law m index (sealed_state state) search boost f buffer all in
-    subst (λ answer. Answers state (outcome_of state answer) ends out (Some m) index) (sym e)
-    (told (Some m) index state (sealed_state state) ends (within limits (found_by m state.content.live search)) out f some
-    (told_so ∙ ap (λ (given : Reply). answered_by (within limits given)) found) (text ∙ ap (λ (given : Reply). reply_text (within limits given)) found))
-
--- ---- by what the writing of the reply came to
+-- ---- a search for everything, of an index that was sealed
 
 sealed_buffer : (entries : List EntryState) (buffer : List BlockState) (made : ℕ) → (sealed (laid entries buffer made)).buffer ≡ []
 unfolding sealed
 sealed_buffer entries buffer made = refl
 
-pub buffer_sealed : (index index' : IndexState) → layout_kept index' ≡ sealed (layout_kept index) → index'.buffer ≡ []
+buffer_sealed : (index index' : IndexState) → layout_kept index' ≡ sealed (layout_kept index) → index'.buffer ≡ []
 buffer_sealed index index' e = ap (λ (layout : Layout BlockState). layout.buffer) e ∙ sealed_buffer index.entries index.buffer index.made
 
 some_answer : (ends : Ended) → answered_of (Ok ends) ≡ answered.NoMemory → ⊥
 some_answer Accepted e = cc
 some_answer ended.Refused e = cc
 
-pub found_ends : InOrder → (limits : Limits) (m : Mapping) (search : SearchBody) (index : IndexState) (state : State) (boost : ℕ) (given : Reply) (result : Result Ended memory.NoMemory) (out : List ℕ)
-    → AreFaithful (Some m) index (sealed_state state) → index.buffer ≡ [] → is_some search.pit ≡ false → boost_of_all search ≡ Some boost
-    → given ≡ reply_found boost search.size search.source (live_roots index.entries) → IfOk result (λ ends. answered_of (Ok ends) ≡ answered_by (within limits given)) → OnOk result (out ≡ reply_text (within limits given))
-    → Answers state (outcome_of state (search_by limits m search (sealed_state state))) (answered_of result) out (Some m) index
-found_ends law limits m search index state boost given (Ok ends) out f buffer none all is told_so text =
-    found_all law limits m search index state boost (answered_of (Ok ends)) out f buffer none all (some_answer ends) (told_so ∙ ap (λ (it : Reply). answered_by (within limits it)) is)
-    (text ∙ ap (λ (it : Reply). reply_text (within limits it)) is)
-found_ends law limits m search index state boost given (Err none) out f buffer no_pit all is told_so text = lacking_sealed m index state _ out f
+pub found_ends : InOrder → (limits : Limits) (m : Mapping) (search : SearchBody) (index index' : IndexState) (state : State) (boost : ℕ) (given : Reply) (result : Result Ended memory.NoMemory) (out : List ℕ)
+    → AreFaithful (Some m) index state → index'.next ≡ index.next → layout_kept index' ≡ sealed (layout_kept index) → is_some search.pit ≡ false → boost_of_all search ≡ Some boost
+    → given ≡ reply_found boost search.size search.source (live_roots index'.entries) → IfOk result (λ ends. answered_of (Ok ends) ≡ answered_by (within limits given)) → OnOk result (out ≡ reply_text (within limits given))
+    → Answers state (outcome_of state (search_by limits m search (sealed_state state))) (answered_of result) out (Some m) index'
+found_ends law limits m search index index' state boost given (Ok ends) out f next seals no_pit all is told_so text =
+    let f' = sealed_faithful m index index' state f next seals in
+    let e = over_live limits m search state (Some boost) (no_option search.pit (rw no_pit refl)) all in
+    let found = is ∙ found_same law m index' (sealed_state state) search boost f' (buffer_sealed index index' seals) all in
+    subst (λ answer. Answers state (outcome_of state answer) (answered_of (Ok ends)) out (Some m) index') (sym e)
+    (told (Some m) index' state (sealed_state state) (answered_of (Ok ends)) (within limits (found_by m state.content.live search)) out f' (some_answer ends)
+    (told_so ∙ ap (λ (it : Reply). answered_by (within limits it)) found) (text ∙ ap (λ (it : Reply). reply_text (within limits it)) found))
+found_ends law limits m search index index' state boost given (Err none) out f next seals no_pit all is told_so text =
+    lacking_sealed m index' state _ out (sealed_faithful m index index' state f next seals)
+
+-- no more sources are read than there are hits on the page
+pub few_reads : InOrder → (m : Mapping) (search : SearchBody) (index index' : IndexState) (state : State) (boost steps steps' : ℕ) → AreFaithful (Some m) index state → index'.next ≡ index.next
+    → layout_kept index' ≡ sealed (layout_kept index) → boost_of_all search ≡ Some boost → steps' ≤ steps + length (take search.size (live_roots index'.entries))
+    → steps' ≤ steps + length (hit_page m state.content.live search).hits
+few_reads law m search index index' state boost steps steps' f next seals all few =
+    let count = hits_counted law m index' (sealed_state state) search boost (sealed_faithful m index index' state f next seals) (buffer_sealed index index' seals) all in
+    omega (arith, count, few)
 
 -- ---- by what the writing of a body's refusal came to
 
@@ -254,7 +253,12 @@ first_said first other refusal is said = ap body_refusal is ∙ said
 
 pub body_ends : (limits : Limits) (json : JsonValue) (m : Mapping) (index : IndexState) (state : State) (given : SearchRefusal) (result : Result Ended memory.NoMemory) (out : List ℕ) → AreFaithful (Some m) index state
     → FirstIs (first_refusal m json) given → IsRefusedAs (refusal_of given) result out → Answers state (outcome_of state (search_step limits json m (sealed_state state))) (answered_of result) out (Some m) index
-body_ends limits json m index state given (Ok Accepted) out f first said = absurd said
-body_ends limits json m index state given (Ok ended.Refused) out f first said =
-    refusal_ends (Some m) index state (search_step limits json m (sealed_state state)) said.0 (Ok ended.Refused) out f (body_refused limits json m state said.0 (first_said (first_refusal m json) given said.0 first said.1)) said.2
-body_ends limits json m index state given (Err none) out f first said = lacking (Some m) index state _ out f
+body_ends limits json m index state given result out f first said = by (refusal_of given) refl said
+  where
+    at_err : (r : Result Ended memory.NoMemory) → IsErr r → Answers state (outcome_of state (search_step limits json m (sealed_state state))) (answered_of r) out (Some m) index
+    at_err (Ok ends) none = absurd (cc)
+    at_err (Err none) is = lacking (Some m) index state _ out f
+    by : (why : Option Refusal) → refusal_of given ≡ why → IsRefusedAs why result out → Answers state (outcome_of state (search_step limits json m (sealed_state state))) (answered_of result) out (Some m) index
+    by None e is = at_err result is
+    by (Some refusal) e is =
+        refusal_ends (Some m) index state (search_step limits json m (sealed_state state)) refusal result out f (body_refused limits json m state refusal (first_said (first_refusal m json) given refusal first e)) is

@@ -1,6 +1,6 @@
 -- What holds whatever the state: the index stays one of its mapping, and what isn't done leaves all as it was, or sealed.
-use Rattle.std.proofs.Common.{◌≡◌, ◌⊎◌, Result, Err, ◌++◌, Bool, ℕ, List, [], ◌∷◌, filter, Option, Some, None, refl, sym, ap, subst, inl, inr, ◌∙◌}
-use Rattle.std.proofs.lemmas.List.Elements.{All-append, All-cons, All-filter, All-nil, All-same, All-weaker}
+use Rattle.std.proofs.Common.{◌≡◌, ◌⊎◌, ◌++◌, Bool, List, [], ◌∷◌, filter, Option, Some, refl, ap, inl, inr, ◌∙◌}
+use Rattle.std.proofs.lemmas.List.Elements.{All-append, All-filter, All-nil, All-same, All-weaker}
 use Rattle.std.specs.List.{All}
 use Rattle.flattener.specs.Block.{BlockState}
 use Rattle.flattener.specs.Fits.{BlockFits, SegmentFits}
@@ -14,11 +14,9 @@ use Rattle.segment.specs.Live.{EntryState}
 use Rattle.segment_parts.specs.declared.columns.Columns.{Columns}
 use Rattle.engine.specs.Answers.{IfNotDone}
 use Rattle.engine.specs.Kept.{HasValue, IsIndexOf, StaysOrSeals}
-use Rattle.engine.specs.Parts.{Leaves, answered_of}
+use Rattle.engine.specs.Parts.{Leaves}
 use Rattle.engine.specs.declared.engine.Answered.{Answered}
 use Rattle.engine.specs.declared.engine.Answered.TheVariants.{Written, Refused, NoMemory}
-use Rattle.engine.specs.declared.no_memory.NoMemory as memory
-use Rattle.engine.specs.declared.reply.Ended.{Ended}
 
 -- ---- the values of sources
 
@@ -53,10 +51,6 @@ leaves_sealed answered m index index' is fits next objects layout = record {
   stays = if_not_done answered (StaysOrSeals (Some m) (Some m) index index') (record { same = refl; next = next; layout = layout });
 }
 
-pub leaves_err : (m m' : Mapping) (index index' : IndexState) (result : Result Ended memory.NoMemory) (err : memory.NoMemory) → result ≡ Err err → Leaves NoMemory (Some m) (Some m') m' index index'
-    → Leaves (answered_of result) (Some m) (Some m') m' index index'
-leaves_err m m' index index' result err e leaves = subst (λ (it : Result Ended memory.NoMemory). Leaves (answered_of it) (Some m) (Some m') m' index index') (sym e) leaves
-
 -- ---- a mapping that has grown
 
 abbrev pub SegmentsFit : Type 0
@@ -65,10 +59,18 @@ SegmentsFit = (m m2 : Mapping) (columns : Columns) → IsMapping m → HasFurthe
 abbrev pub BlocksFit : Type 0
 BlocksFit = (m m2 : Mapping) (block : BlockState) → IsMapping m → IsMapping m2 → HasFurtherBodies m m2 → BlockFits m block → BlockFits m2 block
 
-pub index_grown : SegmentsFit → BlocksFit → (m m2 : Mapping) → IsMapping m → IsMapping m2 → HasFurtherBodies m m2 → (index : IndexState) → IndexFits m index → IndexFits m2 index
+index_grown : SegmentsFit → BlocksFit → (m m2 : Mapping) → IsMapping m → IsMapping m2 → HasFurtherBodies m m2 → (index : IndexState) → IndexFits m index → IndexFits m2 index
 index_grown segments blocks m m2 is is2 further index fits = record {
   entries = All-weaker (λ (entry : EntryState). SegmentFits m entry.columns) (λ (entry : EntryState). SegmentFits m2 entry.columns) (λ entry. segments m m2 entry.columns is further) index.entries fits.entries;
   buffer = All-weaker (BlockFits m) (BlockFits m2) (λ block. blocks m m2 block is is2 further) index.buffer fits.buffer;
+}
+
+pub leaves_grown : SegmentsFit → BlocksFit → (m m2 : Mapping) (index index' : IndexState) → IsMapping m → IsMapping m2 → HasFurtherBodies m m2 → IsIndexOf m index → IndexFits m index'
+    → index'.objects ≡ index.objects → layout_kept index' ≡ sealed (layout_kept index) → Leaves Written (Some m) (Some m2) m2 index index'
+leaves_grown segments blocks m m2 index index' is is2 further index_of fits objects seals = record {
+  kept = record { fits = index_grown segments blocks m m2 is is2 further index' fits; values = values_left (layout_kept index) (layout_kept index') index_of.values (inr seals) };
+  objects = objects;
+  stays = tt;
 }
 
 -- ---- an index in which nothing is kept

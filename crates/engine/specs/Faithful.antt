@@ -1,5 +1,5 @@
 -- The states of the machine that an engine may stand for.
-use Rattle.std.specs.Prelude.{◌≡◌, ℕ, Option, Some, None}
+use Rattle.std.specs.Prelude.{◌≡◌, Option, Some, None}
 use Rattle.flattener.specs.Block.{BlockState, block_of}
 use Rattle.flattener.specs.Fits.{IsGiven}
 use Rattle.index_core.specs.Kept.{IndexState, layout_kept}

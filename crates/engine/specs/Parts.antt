@@ -1,5 +1,5 @@
 -- How commands end. It serves contracts of private calls alone.
-use Rattle.std.specs.Prelude.{◌≡◌, ◌⊎◌, ℕ, true, false, List, Result, Ok, Err, Some, None, Option, unwrap_or}
+use Rattle.std.specs.Prelude.{◌≡◌, ◌⊎◌, ℕ, true, false, List, Result, Ok, Err, IsErr, Some, None, Option, unwrap_or}
 use Rattle.index_core.specs.Kept.{IndexFits, IndexState, layout_kept}
 use Rattle.index_core.specs.Write.{is_refused, next_after, written}
 use Rattle.index_core.specs.declared.op.WriteOp.{WriteOp}
@@ -15,9 +15,10 @@ use Rattle.reply_text.specs.declared.refusal.Refusal.{Refusal}
 use Rattle.reply_text.specs.declared.refusal.Refusal.TheVariants.{IndexFull}
 use Rattle.reply_text.specs.declared.reply.Reply.{Reply}
 use Rattle.reply_text.specs.declared.reply.Reply.TheVariants as reply
-use Rattle.request_form.specs.Command.{Changes, Operation, update, delete, Action, map_body, write, search, refresh, segments, open_pit, close_pit, force_merge, start_merge, advance_merge, finish_merge, abort_merge, commit, automerge}
+use Rattle.request_form.specs.Command.{Changes, Operation, update, delete, Action, Write, search, write}
 use Rattle.request_form.specs.Formed.{IsFormed}
 use Rattle.search_form.specs.Form.{is_search_body}
+use Rattle.tree_json.specs.Value.{JsonValue}
 use Rattle.engine.specs.Answers.{IfNotDone}
 use Rattle.engine.specs.Kept.{IsIndexOf, StaysOrSeals}
 use Rattle.engine.specs.declared.engine.Answered.{Answered}
@@ -90,25 +91,12 @@ update_step limits m id changes state = later_step limits m id (update changes) 
 abbrev pub delete_step : Limits → Mapping → List ℕ → State → Answer
 delete_step limits m id state = later_step limits m id delete state
 
--- where memory didn't run out, it is refused so
+-- this refusal was written, where there is one, or there was no memory
 abbrev pub IsRefusedAs : Option Refusal → Result Ended memory.NoMemory → List ℕ → Type 0
-IsRefusedAs why (Ok Accepted) out = ⊥
-IsRefusedAs why (Ok Refused) out = (refusal : Refusal) × (why ≡ Some refusal) × (out ≡ reply_text (reply.Refused refusal))
-IsRefusedAs why (Err none) out = Unit {0}
+IsRefusedAs None result out = IsErr result
+IsRefusedAs (Some refusal) result out = IsRefusal refusal result out
 
 -- what holds of everything that is asked for
-abbrev pub IsActionFormed : Action → Type 0
-IsActionFormed (map_body body) = Unit {0}
-IsActionFormed (write it) = IsFormed it
-IsActionFormed (search body) = is_search_body body ≡ true
-IsActionFormed refresh = Unit {0}
-IsActionFormed segments = Unit {0}
-IsActionFormed open_pit = Unit {0}
-IsActionFormed (close_pit id) = Unit {0}
-IsActionFormed (force_merge most) = Unit {0}
-IsActionFormed (start_merge from count) = Unit {0}
-IsActionFormed (advance_merge id roots) = Unit {0}
-IsActionFormed (finish_merge id) = Unit {0}
-IsActionFormed (abort_merge id) = Unit {0}
-IsActionFormed commit = Unit {0}
-IsActionFormed (automerge factor) = Unit {0}
+pub record IsActionFormed (action : Action) : Type 0 where
+  pub writes : (it : Write) → action ≡ write it → IsFormed it
+  pub searches : (body : JsonValue) → action ≡ search body → is_search_body body ≡ true

@@ -129,6 +129,7 @@ impl Engine {
         requires empty { out.old.bytes ≡ [] }
         ensures answers { (state : State) → IsFaithful self.old state →
             AnswersTo self.old.limits state (request_of first.entry second.entry) result out.new.bytes steps.old steps.new self.new }
+        ensures nothing { result ≡ Answered.NoMemory → out.new.bytes ≡ [] }
         ensures stays { IfNotDone result (StaysOrSeals self.old.mapping self.new.mapping self.old.index self.new.index) }
         ensures limits { self.new.limits ≡ self.old.limits }
         ensures calls { self.new.calls ≡ self.old.calls + 1 }
@@ -145,6 +146,7 @@ impl Engine {
             }
         }
     }
+
     /// Writes the reply to a request. Where there is no memory, a part of one may stand in `out`.
     fn reply<L: Ledger>(
         &mut self,

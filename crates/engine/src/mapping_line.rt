@@ -57,7 +57,7 @@ fn first_line(
     requires none { mapping.old ≡ None }
     requires nothing { layout_kept index.now ≡ empty_layout }
     requires empty { out.old.bytes ≡ [] }
-    ensures answers { (state : State) → AreFaithful None index.now state
+    ensures answers { (state : State) → AreFaithful mapping.old index.now state
         → Answers state (outcome_of state (mapping_step (view body.now) (sealed_state state))) (answered_of result) out.new.bytes mapping.new index.now }
     ensures under { IsUnder mapping.new index.now }
     ensures stays { IfNotDone (answered_of result) (mapping.new ≡ None) }

@@ -1,6 +1,6 @@
 //! Searches.
 
-ghost use Rattle.std.specs.Prelude.{◌≡◌, ◌≤◌, ◌+◌, [], true, length, Option, Some, IfErr, OnOk, IfOk};
+ghost use Rattle.std.specs.Prelude.{◌≡◌, ◌≤◌, ◌+◌, [], true, length, Option, Some, OnOk, IfOk};
 ghost use Rattle.machine.specs.Answer.{outcome_of};
 ghost use Rattle.machine.specs.Searching.{boost_in, boost_of_all, is_by_score, is_last, is_plain, is_score, refusal_of, search_by, search_step, within};
 ghost use Rattle.machine.specs.State.{State, sealed_state};

@@ -1,16 +1,13 @@
-use Rattle.std.proofs.Common.{◌≡◌, ◌≤◌, ◌+◌, true, false, length, take, Some, None, is_some, ap, inr, refl, sym, ◌∙◌, rules, arith}
-use Rattle.std.proofs.lemmas.Result.{err_from_is_err_and}
+use Rattle.std.proofs.Common.{◌≡◌, true, false, Some, None, is_some, ap, inr, ◌∙◌, rules, arith}
 use Rattle.index_core.specs.Kept.{layout_kept}
 use Rattle.machine.specs.Searching.{boost_of_all, search_by}
 use Rattle.machine.specs.State.{sealed_state}
-use Rattle.query_ast.specs.Search.{hit_page}
 use Rattle.reply_text.specs.declared.refusal.Refusal.TheVariants.{BadRequest, UnknownPit}
 use Rattle.engine.specs.Hits.{live_roots}
 use Rattle.engine.specs.Parts.{answered_of}
-use Rattle.engine.specs.declared.engine.Answered.TheVariants.{NoMemory}
-use Rattle.engine.proofs.Answering.{if_lacking, lacking, lacking_sealed, refusal_ends, same_faithful, sealed_faithful}
-use Rattle.engine.proofs.Finding.{buffer_sealed, found_ends, hits_counted, no_pit, not_built, reply_found}
-use Rattle.engine.proofs.Leaving.{leaves_err, leaves_sealed}
+use Rattle.engine.proofs.Answering.{left, left_sealed, refusal_ends, same_faithful}
+use Rattle.engine.proofs.Finding.{few_reads, found_ends, no_pit, not_built, reply_found}
+use Rattle.engine.proofs.Leaving.{leaves_sealed}
 use Rattle.engine.proofs.search.search_over.Goals as goal
 
 pub returns-then-is_some-clause-answers : goal.returns-then-is_some-clause-answers
@@ -28,40 +25,31 @@ returns-in_default-clause-answers g c = λ state f.
 
 pub returns-in_err-seal-clause-answers : goal.returns-in_err-seal-clause-answers
 returns-in_err-seal-clause-answers g c = λ state f.
-    let e = err_from_is_err_and c.from_residual.result c.from_residual.ensures.1 in
-    if_lacking (Some c.args.mapping.now) c.seal.new.self state _ c.args.out.now.bytes c.from_residual.result e.0 e.1
-    (lacking (Some c.args.mapping.now) c.seal.new.self state _ c.args.out.now.bytes
-    (same_faithful (Some c.args.mapping.now) c.args.index.now c.seal.new.self state f c.in_err-seal.ensures.next (ap layout_kept c.in_err-seal.ensures.same)))
+    left (Some c.args.mapping.now) c.seal.new.self state _ c.args.out.now.bytes c.from_residual.result c.from_residual.ensures.1
+    (same_faithful (Some c.args.mapping.now) c.args.index.now c.seal.new.self state f c.in_err-seal.ensures.next (ap layout_kept c.in_err-seal.ensures.same))
 
 pub returns-in_err-found-clause-answers : goal.returns-in_err-found-clause-answers
 returns-in_err-found-clause-answers g c = λ state f.
-    let e = err_from_is_err_and c.from_residual-in_err-found.result c.from_residual-in_err-found.ensures.1 in
-    if_lacking (Some c.args.mapping.now) c.seal.new.self state _ c.args.out.now.bytes c.from_residual-in_err-found.result e.0 e.1
-    (lacking_sealed c.args.mapping.now c.seal.new.self state _ c.args.out.now.bytes
-    (sealed_faithful c.args.mapping.now c.args.index.now c.seal.new.self state f c.in_ok-seal.ensures.next c.in_ok-seal.ensures.sealed))
+    left_sealed c.args.mapping.now c.args.index.now c.seal.new.self state _ c.args.out.now.bytes c.from_residual-in_err-found.result c.from_residual-in_err-found.ensures.1 f c.in_ok-seal.ensures.next c.in_ok-seal.ensures.sealed
 
 pub returns-in_err-found-clause-leaves : goal.returns-in_err-found-clause-leaves
 returns-in_err-found-clause-leaves g c =
-    let e = err_from_is_err_and c.from_residual-in_err-found.result c.from_residual-in_err-found.ensures.1 in
-    leaves_err c.args.mapping.now c.args.mapping.now c.args.index.now c.seal.new.self c.from_residual-in_err-found.result e.0 e.1
-    (leaves_sealed NoMemory c.args.mapping.now c.args.index.now c.seal.new.self c.requires.index c.in_ok-seal.ensures.fits c.in_ok-seal.ensures.next c.in_ok-seal.ensures.objects (inr c.in_ok-seal.ensures.sealed))
+    leaves_sealed (answered_of c.from_residual-in_err-found.result) c.args.mapping.now c.args.index.now c.seal.new.self c.requires.index c.in_ok-seal.ensures.fits c.in_ok-seal.ensures.next
+    c.in_ok-seal.ensures.objects (inr c.in_ok-seal.ensures.sealed)
 
 pub returns-in_err-found-clause-reads : goal.returns-in_err-found-clause-reads
 returns-in_err-found-clause-reads g c = λ state f.
-    let entries : c.entries-entries.result.now ≡ c.seal.new.self.entries = c.entries-entries.ensures.entries ∙ c.view.ensures.view in
     let all : boost_of_all c.args.search.now ≡ Some c.in-Some.boost = first_of (cc, search rules) in
-    let count = ap (λ them. length (take c.args.search.now.size (live_roots them))) entries
-    ∙ hits_counted c.everything_is_found_in_order.ensures c.args.mapping.now c.seal.new.self (sealed_state state) c.args.search.now c.in-Some.boost
-    (sealed_faithful c.args.mapping.now c.args.index.now c.seal.new.self state f c.in_ok-seal.ensures.next c.in_ok-seal.ensures.sealed) (buffer_sealed c.args.index.now c.seal.new.self c.in_ok-seal.ensures.sealed) all in
-    omega (arith, c.in_err-found.ensures.reads, count)
+    few_reads c.everything_is_found_in_order.ensures c.args.mapping.now c.args.search.now c.args.index.now c.seal.new.self state c.in-Some.boost _ _ f c.in_ok-seal.ensures.next c.in_ok-seal.ensures.sealed all
+    (rw (c.entries-entries.ensures.entries, c.view.ensures.view) at c.in_err-found.ensures.reads)
 
 pub returns-clause-answers : goal.returns-clause-answers
 returns-clause-answers g c = λ state f.
     let entries : c.entries-entries.result.now ≡ c.seal.new.self.entries = c.entries-entries.ensures.entries ∙ c.view.ensures.view in
     let none : is_some c.args.search.now.pit ≡ false = first_of (cc, search rules, grind arith) in
     let all : boost_of_all c.args.search.now ≡ Some c.in-Some.boost = first_of (cc, search rules) in
-    found_ends c.everything_is_found_in_order.ensures c.args.limits.now c.args.mapping.now c.args.search.now c.seal.new.self state c.in-Some.boost c.in_ok-found.found c.write_within.result c.write_within.new.out.bytes
-    (sealed_faithful c.args.mapping.now c.args.index.now c.seal.new.self state f c.in_ok-seal.ensures.next c.in_ok-seal.ensures.sealed) (buffer_sealed c.args.index.now c.seal.new.self c.in_ok-seal.ensures.sealed) none all
+    found_ends c.everything_is_found_in_order.ensures c.args.limits.now c.args.mapping.now c.args.search.now c.args.index.now c.seal.new.self state c.in-Some.boost c.in_ok-found.found c.write_within.result
+    c.write_within.new.out.bytes f c.in_ok-seal.ensures.next c.in_ok-seal.ensures.sealed none all
     (c.in_ok-found.ensures.found ∙ ap (λ them. reply_found c.in-Some.boost c.args.search.now.size c.args.search.now.source (live_roots them)) entries) c.write_within.ensures.told c.write_within.ensures.text
 
 pub returns-clause-leaves : goal.returns-clause-leaves
@@ -71,9 +59,6 @@ returns-clause-leaves g c =
 
 pub returns-clause-reads : goal.returns-clause-reads
 returns-clause-reads g c = λ state f.
-    let entries : c.entries-entries.result.now ≡ c.seal.new.self.entries = c.entries-entries.ensures.entries ∙ c.view.ensures.view in
     let all : boost_of_all c.args.search.now ≡ Some c.in-Some.boost = first_of (cc, search rules) in
-    let count = ap (λ them. length (take c.args.search.now.size (live_roots them))) entries
-    ∙ hits_counted c.everything_is_found_in_order.ensures c.args.mapping.now c.seal.new.self (sealed_state state) c.args.search.now c.in-Some.boost
-    (sealed_faithful c.args.mapping.now c.args.index.now c.seal.new.self state f c.in_ok-seal.ensures.next c.in_ok-seal.ensures.sealed) (buffer_sealed c.args.index.now c.seal.new.self c.in_ok-seal.ensures.sealed) all in
-    omega (arith, c.in_ok-found.ensures.reads, count)
+    few_reads c.everything_is_found_in_order.ensures c.args.mapping.now c.args.search.now c.args.index.now c.seal.new.self state c.in-Some.boost _ _ f c.in_ok-seal.ensures.next c.in_ok-seal.ensures.sealed all
+    (rw (c.entries-entries.ensures.entries, c.view.ensures.view) at c.in_ok-found.ensures.reads)

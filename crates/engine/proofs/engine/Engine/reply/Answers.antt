@@ -1,21 +1,21 @@
-use Rattle.std.proofs.Common.{◌≡◌, Err, ap, subst, sym, ◌∙◌}
+use Rattle.std.proofs.Common.{ap, subst, sym, ◌∙◌}
 use Rattle.line_reader.specs.View.{first_line_of, source_line_of}
-use Rattle.machine.specs.State.{State}
 use Rattle.machine.specs.Step.{asked_step, refusal_formed}
 use Rattle.reply_text.specs.declared.refusal.Refusal.{Refusal}
 use Rattle.machine.specs.Answer.{refuses}
-use Rattle.request_form.specs.Asked.{Asked, asked_of}
-use Rattle.request_form.specs.Seen.{IsRefused, action_view}
+use Rattle.request_form.specs.Asked.{Asked, asked_of, asks}
+use Rattle.request_form.specs.Seen.{IsRefused}
 use Rattle.request_form.specs.declared.request.NoAction.{NoAction}
 use Rattle.engine.specs.Faithful.{AreFaithful}
 use Rattle.engine.specs.Kept.{EngineState}
 use Rattle.engine.proofs.Answering.{lacking, refusal_ends}
-use Rattle.engine.proofs.Asking.{action_formed}
 use Rattle.engine.proofs.engine.Engine.reply.Goals as goal
 
 pub perform-requires-clause-formed : goal.perform-requires-clause-formed
-perform-requires-clause-formed g c =
-    action_formed c.writes_are_formed.ensures c.searches_are_formed.ensures (first_line_of c.args.first) (source_line_of c.args.second) (action_view c.in-Ok.action) c.in-Ok.ensures.ok
+perform-requires-clause-formed g c = record {
+  writes = λ it e. c.writes_are_formed.ensures (first_line_of c.args.first) (source_line_of c.args.second) it (c.in-Ok.ensures.ok ∙ ap asks e);
+  searches = λ body e. c.searches_are_formed.ensures (first_line_of c.args.first) (source_line_of c.args.second) body (c.in-Ok.ensures.ok ∙ ap asks e);
+}
 
 pub returns-in-Err-Refused-clause-answers : goal.returns-in-Err-Refused-clause-answers
 returns-in-Err-Refused-clause-answers g c = λ state f.
