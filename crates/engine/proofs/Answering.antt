@@ -72,20 +72,15 @@ accepted mapping index state after given out f told text = record {
   text = text;
 }
 
-text_told : (answered : Answered) (given : Reply) (out : List ℕ) → answered ≡ answered_by given → out ≡ reply_text given → (answered ≡ NoMemory → ⊥) → reply_bytes answered out ≡ reply_text given
-text_told Written given out told text some = text
-text_told Refused given out told text some = text
-text_told NoMemory given out told text some = absurd (some refl)
-
-pub told : (mapping : Option Mapping) (index : IndexState) (state after : State) (answered : Answered) (given : Reply) (out : List ℕ) → AreFaithful mapping index after → (answered ≡ NoMemory → ⊥)
+pub told : (mapping : Option Mapping) (index : IndexState) (state after : State) (answered : Answered) (given : Reply) (out : List ℕ) → AreFaithful mapping index after → reply_bytes answered out ≡ out
     → answered ≡ answered_by given → out ≡ reply_text given → Answers state (outcome_of state (answers given after)) answered out mapping index
-told mapping index state after answered given out f some told_so text = record {
+told mapping index state after answered given out f written told_so text = record {
   reply = given;
   after = after;
   may = inl (record { reply_is = refl; state_is = refl });
   faithful = f;
   told = told_so;
-  text = text_told answered given out told_so text some;
+  text = written ∙ text;
 }
 
 -- ---- want of memory

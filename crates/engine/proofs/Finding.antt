@@ -33,10 +33,9 @@ use Rattle.segment.specs.Flat.{FlatRoot}
 use Rattle.segment.specs.Live.{EntryState}
 use Rattle.tree_json.specs.Value.{JsonValue}
 use Rattle.tree_objects.specs.Tree.{IsLiveList, Tree}
-use Rattle.engine.specs.Answers.{Answers, answered_by}
+use Rattle.engine.specs.Answers.{Answers, answered_by, reply_bytes}
 use Rattle.engine.specs.Faithful.{AreFaithful, Indexed, block_in, tree_in}
 use Rattle.engine.specs.Hits.{live_roots, root_hit, root_in, roots_in}
-use Rattle.engine.specs.declared.engine.Answered.TheVariants as answered
 use Rattle.engine.specs.Parts.{IsRefusedAs, answered_of}
 use Rattle.engine.specs.declared.no_memory.NoMemory as memory
 use Rattle.engine.specs.declared.reply.Ended.{Ended}
@@ -214,9 +213,9 @@ sealed_buffer entries buffer made = refl
 buffer_sealed : (index index' : IndexState) → layout_kept index' ≡ sealed (layout_kept index) → index'.buffer ≡ []
 buffer_sealed index index' e = ap (λ (layout : Layout BlockState). layout.buffer) e ∙ sealed_buffer index.entries index.buffer index.made
 
-some_answer : (ends : Ended) → answered_of (Ok ends) ≡ answered.NoMemory → ⊥
-some_answer Accepted e = cc
-some_answer ended.Refused e = cc
+its_bytes : (ends : Ended) (out : List ℕ) → reply_bytes (answered_of (Ok ends)) out ≡ out
+its_bytes Accepted out = refl
+its_bytes ended.Refused out = refl
 
 pub found_ends : InOrder → (limits : Limits) (m : Mapping) (search : SearchBody) (index index' : IndexState) (state : State) (boost : ℕ) (given : Reply) (result : Result Ended memory.NoMemory) (out : List ℕ)
     → AreFaithful (Some m) index state → index'.next ≡ index.next → layout_kept index' ≡ sealed (layout_kept index) → is_some search.pit ≡ false → boost_of_all search ≡ Some boost
@@ -227,7 +226,7 @@ found_ends law limits m search index index' state boost given (Ok ends) out f ne
     let e = over_live limits m search state (Some boost) (no_option search.pit (rw no_pit refl)) all in
     let found = is ∙ found_same law m index' (sealed_state state) search boost f' (buffer_sealed index index' seals) all in
     subst (λ answer. Answers state (outcome_of state answer) (answered_of (Ok ends)) out (Some m) index') (sym e)
-    (told (Some m) index' state (sealed_state state) (answered_of (Ok ends)) (within limits (found_by m state.content.live search)) out f' (some_answer ends)
+    (told (Some m) index' state (sealed_state state) (answered_of (Ok ends)) (within limits (found_by m state.content.live search)) out f' (its_bytes ends out)
     (told_so ∙ ap (λ (it : Reply). answered_by (within limits it)) found) (text ∙ ap (λ (it : Reply). reply_text (within limits it)) found))
 found_ends law limits m search index index' state boost given (Err none) out f next seals no_pit all is told_so text =
     lacking_sealed m index' state _ out (sealed_faithful m index index' state f next seals)

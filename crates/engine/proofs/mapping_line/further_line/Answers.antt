@@ -16,7 +16,7 @@ returns-in_err-write-in-Ok-clause-answers c = λ state f. left (Some c.args.mapp
 
 pub returns-in_err-seal-in-Ok-clause-answers : goal.returns-in_err-seal-in-Ok-clause-answers
 returns-in_err-seal-in-Ok-clause-answers c = λ state f.
-    left (Some c.args.mapping.now) c.seal.new.self state _ c.write.new.out.bytes c.from_residual-in_err-seal.result c.from_residual-in_err-seal.ensures.1
+    left (Some c.args.mapping.now) c.seal.new.self state _ c.write.new.out.bytes c.from_residual-in_err-seal-in-Ok.result c.from_residual-in_err-seal-in-Ok.ensures.1
     (same_faithful (Some c.args.mapping.now) c.args.index.now c.seal.new.self state f c.in_err-seal-in-Ok.ensures.next (ap layout_kept c.in_err-seal-in-Ok.ensures.same))
 
 pub returns-in_ok-seal-in-Ok-clause-answers : goal.returns-in_ok-seal-in-Ok-clause-answers
