@@ -107,15 +107,15 @@ lacking_sealed m index state outcome out f = record {
 
 -- ---- what a `?` returns where there was no memory
 
-pub left : {Q : memory.NoMemory → Type 0} (mapping : Option Mapping) (index : IndexState) (state : State) (outcome : Outcome) (out : List ℕ) (result : Result Ended memory.NoMemory) → IsErrAnd result Q
+pub left : (Q : memory.NoMemory → Type 0) (mapping : Option Mapping) (index : IndexState) (state : State) (outcome : Outcome) (out : List ℕ) (result : Result Ended memory.NoMemory) → IsErrAnd result Q
     → AreFaithful mapping index state → Answers state outcome (answered_of result) out mapping index
-left mapping index state outcome out (Ok ends) none f = absurd none
-left mapping index state outcome out (Err none) is f = lacking mapping index state outcome out f
+left Q mapping index state outcome out (Ok ends) none f = absurd none
+left Q mapping index state outcome out (Err none) is f = lacking mapping index state outcome out f
 
-pub left_sealed : {Q : memory.NoMemory → Type 0} (m : Mapping) (index index' : IndexState) (state : State) (outcome : Outcome) (out : List ℕ) (result : Result Ended memory.NoMemory) → IsErrAnd result Q
+pub left_sealed : (Q : memory.NoMemory → Type 0) (m : Mapping) (index index' : IndexState) (state : State) (outcome : Outcome) (out : List ℕ) (result : Result Ended memory.NoMemory) → IsErrAnd result Q
     → AreFaithful (Some m) index state → index'.next ≡ index.next → layout_kept index' ≡ sealed (layout_kept index) → Answers state outcome (answered_of result) out (Some m) index'
-left_sealed m index index' state outcome out (Ok ends) none f next seals = absurd none
-left_sealed m index index' state outcome out (Err none) is f next seals = lacking_sealed m index' state outcome out (sealed_faithful m index index' state f next seals)
+left_sealed Q m index index' state outcome out (Ok ends) none f next seals = absurd none
+left_sealed Q m index index' state outcome out (Err none) is f next seals = lacking_sealed m index' state outcome out (sealed_faithful m index index' state f next seals)
 
 -- a full buffer is sealed, or nothing is
 pub room : (layout : Layout BlockState) → (with_room layout ≡ layout) ⊎ (with_room layout ≡ sealed layout)

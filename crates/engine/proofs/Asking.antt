@@ -1,7 +1,8 @@
 -- What is asked for: commands where there is no mapping, and the answer to a request.
-use Rattle.std.proofs.Common.{◌≡◌, ◌≤◌, ◌+◌, ℕ, List, None, refl, sym, subst}
+use Rattle.std.proofs.Common.{◌≡◌, ◌≤◌, ◌+◌, ℕ, List, Option, None, refl, sym, subst}
+use Rattle.index_core.specs.Kept.{IndexState}
 use Rattle.line_reader.specs.Request.{Request}
-use Rattle.machine.specs.Answer.{Answer, mapped, outcome_of, refuses, sealing}
+use Rattle.machine.specs.Answer.{Answer, Outcome, mapped, outcome_of, refuses, sealing}
 use Rattle.machine.specs.State.{State}
 use Rattle.machine.specs.Step.{asked_step, step}
 use Rattle.mapping.specs.Mapping.{Mapping}
@@ -12,6 +13,7 @@ use Rattle.engine.specs.Faithful.{IsFaithful}
 use Rattle.engine.specs.Kept.{EngineState}
 use Rattle.engine.specs.Reads.{reads_asked}
 use Rattle.engine.specs.declared.engine.Answered.{Answered}
+use Rattle.engine.specs.declared.engine.Answered.TheVariants.{NoMemory}
 
 pub unmapped : (state : State) (command : Mapping → State → Answer) → state.content.mapping ≡ None → mapped command state ≡ refuses NoMapping
 unmapped state command none = rw none refl
@@ -26,3 +28,7 @@ unfolding step
 answers_to own before after state request answered out reads reads' same f answers few =
     let f' = subst (λ (it : EngineState). IsFaithful it state) (sym same) f in
     subst (λ (it : EngineState). AnswersTo it.limits state request answered out reads reads' after) same (record { answers = answers f'; few = few f' })
+
+-- where there was no memory, nothing of what stands in the buffer is taken
+pub cleared : (state : State) (outcome : Outcome) (out out' : List ℕ) (mapping : Option Mapping) (index : IndexState) → Answers state outcome NoMemory out mapping index → Answers state outcome NoMemory out' mapping index
+cleared state outcome out out' mapping index a = record { reply = a.reply; after = a.after; may = a.may; faithful = a.faithful; told = a.told; text = a.text }

@@ -10,7 +10,7 @@ use Rattle.engine.proofs.Lines.{first_accepted, first_refused}
 use Rattle.engine.proofs.mapping_line.first_line.Goals as goal
 
 pub returns-in_err-write-in-Ok-clause-answers : goal.returns-in_err-write-in-Ok-clause-answers
-returns-in_err-write-in-Ok-clause-answers c = λ state f. left c.args.mapping.now c.args.index.now state _ c.write.new.out.bytes c.from_residual.result c.from_residual.ensures.1 f
+returns-in_err-write-in-Ok-clause-answers c = λ state f. left _ c.args.mapping.now c.args.index.now state _ c.write.new.out.bytes c.from_residual.result c.from_residual.ensures.1 f
 
 pub returns-in_ok-write-in-Ok-clause-answers : goal.returns-in_ok-write-in-Ok-clause-answers
 returns-in_ok-write-in-Ok-clause-answers c = λ state f.

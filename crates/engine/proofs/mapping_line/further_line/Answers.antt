@@ -12,23 +12,23 @@ use Rattle.engine.proofs.Lines.{further_accepted, further_refused}
 use Rattle.engine.proofs.mapping_line.further_line.Goals as goal
 
 pub returns-in_err-write-in-Ok-clause-answers : goal.returns-in_err-write-in-Ok-clause-answers
-returns-in_err-write-in-Ok-clause-answers c = λ state f. left (Some c.args.mapping.now) c.args.index.now state _ c.write.new.out.bytes c.from_residual.result c.from_residual.ensures.1 f
+returns-in_err-write-in-Ok-clause-answers c = λ state f. left _ (Some c.args.mapping.now) c.args.index.now state _ c.write.new.out.bytes c.from_residual.result c.from_residual.ensures.1 f
 
 pub returns-in_err-seal-in-Ok-clause-answers : goal.returns-in_err-seal-in-Ok-clause-answers
 returns-in_err-seal-in-Ok-clause-answers c = λ state f.
-    left (Some c.args.mapping.now) c.seal.new.self state _ c.write.new.out.bytes c.from_residual-in_err-seal-in-Ok.result c.from_residual-in_err-seal-in-Ok.ensures.1
+    left _ (Some c.args.mapping.now) c.seal.new.self state _ c.write.new.out.bytes c.from_residual-in_err-seal-in-Ok.result c.from_residual-in_err-seal-in-Ok.ensures.1
     (same_faithful (Some c.args.mapping.now) c.args.index.now c.seal.new.self state f c.in_err-seal-in-Ok.ensures.next (ap layout_kept c.in_err-seal-in-Ok.ensures.same))
 
 pub returns-in_ok-seal-in-Ok-clause-answers : goal.returns-in_ok-seal-in-Ok-clause-answers
 returns-in_ok-seal-in-Ok-clause-answers c = λ state f.
     further_accepted c.further_bodies_leave_blocks.ensures.same (view c.args.body.now) c.args.mapping.now c.settle.new.mapping c.args.index.now c.seal.new.self state c.write.new.out.bytes
-    c.scope_count-scopes.ensures.is_mapping c.scope_count-scopes-in_ok-seal-in-Ok.ensures.is_mapping (c.in-Ok.ensures.later refl) f c.in_ok-seal-in-Ok.ensures.next c.in_ok-seal-in-Ok.ensures.sealed
+    c.scope_count-scopes.ensures.is_mapping c.scope_count-scopes-in-Ok.ensures.is_mapping (c.in-Ok.ensures.later refl) f c.in_ok-seal-in-Ok.ensures.next c.in_ok-seal-in-Ok.ensures.sealed
     (c.in-Ok.ensures.accepted refl) (c.settle.ensures ∙ c.in-Ok.ensures.mapping) (c.in_ok-write-in-Ok.ensures.ok ∙ ap (λ (bytes : List ℕ). bytes ++ reply_text Mapped) c.requires.empty)
 
 pub returns-in_ok-seal-in-Ok-clause-leaves : goal.returns-in_ok-seal-in-Ok-clause-leaves
 returns-in_ok-seal-in-Ok-clause-leaves c =
     leaves_grown c.further_bodies_leave_blocks.ensures.segment c.further_bodies_leave_blocks.ensures.block c.args.mapping.now c.settle.new.mapping c.args.index.now c.seal.new.self
-    c.scope_count-scopes.ensures.is_mapping c.scope_count-scopes-in_ok-seal-in-Ok.ensures.is_mapping
+    c.scope_count-scopes.ensures.is_mapping c.scope_count-scopes-in-Ok.ensures.is_mapping
     (subst (HasFurtherBodies c.args.mapping.now) (sym (c.settle.ensures ∙ c.in-Ok.ensures.mapping)) (c.in-Ok.ensures.later refl))
     c.requires.index c.in_ok-seal-in-Ok.ensures.fits c.in_ok-seal-in-Ok.ensures.objects c.in_ok-seal-in-Ok.ensures.sealed
 

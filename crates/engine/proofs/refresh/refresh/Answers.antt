@@ -9,11 +9,11 @@ use Rattle.engine.proofs.Leaving.{leaves_sealed}
 use Rattle.engine.proofs.refresh.refresh.Goals as goal
 
 pub returns-in_err-write-clause-answers : goal.returns-in_err-write-clause-answers
-returns-in_err-write-clause-answers c = λ state f. left (Some c.args.mapping.now) c.args.index.now state _ c.write.new.out.bytes c.from_residual.result c.from_residual.ensures.1 f
+returns-in_err-write-clause-answers c = λ state f. left _ (Some c.args.mapping.now) c.args.index.now state _ c.write.new.out.bytes c.from_residual.result c.from_residual.ensures.1 f
 
 pub returns-in_err-seal-clause-answers : goal.returns-in_err-seal-clause-answers
 returns-in_err-seal-clause-answers c = λ state f.
-    left (Some c.args.mapping.now) c.seal.new.self state _ c.write.new.out.bytes c.from_residual-in_err-seal.result c.from_residual-in_err-seal.ensures.1
+    left _ (Some c.args.mapping.now) c.seal.new.self state _ c.write.new.out.bytes c.from_residual-in_err-seal.result c.from_residual-in_err-seal.ensures.1
     (same_faithful (Some c.args.mapping.now) c.args.index.now c.seal.new.self state f c.in_err-seal.ensures.next (ap layout_kept c.in_err-seal.ensures.same))
 
 pub returns-clause-answers : goal.returns-clause-answers

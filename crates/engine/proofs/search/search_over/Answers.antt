@@ -25,12 +25,12 @@ returns-in_default-clause-answers g c = λ state f.
 
 pub returns-in_err-seal-clause-answers : goal.returns-in_err-seal-clause-answers
 returns-in_err-seal-clause-answers g c = λ state f.
-    left (Some c.args.mapping.now) c.seal.new.self state _ c.args.out.now.bytes c.from_residual.result c.from_residual.ensures.1
+    left _ (Some c.args.mapping.now) c.seal.new.self state _ c.args.out.now.bytes c.from_residual.result c.from_residual.ensures.1
     (same_faithful (Some c.args.mapping.now) c.args.index.now c.seal.new.self state f c.in_err-seal.ensures.next (ap layout_kept c.in_err-seal.ensures.same))
 
 pub returns-in_err-found-clause-answers : goal.returns-in_err-found-clause-answers
 returns-in_err-found-clause-answers g c = λ state f.
-    left_sealed c.args.mapping.now c.args.index.now c.seal.new.self state _ c.args.out.now.bytes c.from_residual-in_err-found.result c.from_residual-in_err-found.ensures.1 f c.in_ok-seal.ensures.next c.in_ok-seal.ensures.sealed
+    left_sealed _ c.args.mapping.now c.args.index.now c.seal.new.self state _ c.args.out.now.bytes c.from_residual-in_err-found.result c.from_residual-in_err-found.ensures.1 f c.in_ok-seal.ensures.next c.in_ok-seal.ensures.sealed
 
 pub returns-in_err-found-clause-leaves : goal.returns-in_err-found-clause-leaves
 returns-in_err-found-clause-leaves g c =

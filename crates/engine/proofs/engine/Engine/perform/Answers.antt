@@ -1,10 +1,13 @@
 use Rattle.std.proofs.Common.{ap}
 use Rattle.machine.specs.Step.{action_step}
 use Rattle.reply_text.specs.declared.refusal.Refusal.TheVariants.{BadRequest}
-use Rattle.request_form.specs.Seen.{action_view}
+use Rattle.request_form.specs.Seen.{action_view, write_view}
 use Rattle.request_form.specs.declared.action.Action.{Action}
 use Rattle.engine.proofs.Answering.{refusal_ends}
 use Rattle.engine.proofs.engine.Engine.perform.Goals as goal
+
+pub write-requires-clause-formed : goal.write-requires-clause-formed
+write-requires-clause-formed g c = c.requires.formed.writes (write_view c.in-Write.it) (ap action_view c.in-Write.is)
 
 pub returns-in-Segments-clause-answers : goal.returns-in-Segments-clause-answers
 returns-in-Segments-clause-answers g c = λ state f.
