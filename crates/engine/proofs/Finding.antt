@@ -257,6 +257,7 @@ body_ends limits json m index state given result out f first said = by (refusal_
     at_err : (r : Result Ended memory.NoMemory) → IsErr r → Answers state (outcome_of state (search_step limits json m (sealed_state state))) (answered_of r) out (Some m) index
     at_err (Ok ends) none = absurd (cc)
     at_err (Err none) is = lacking (Some m) index state _ out f
+
     by : (why : Option Refusal) → refusal_of given ≡ why → IsRefusedAs why result out → Answers state (outcome_of state (search_step limits json m (sealed_state state))) (answered_of result) out (Some m) index
     by None e is = at_err result is
     by (Some refusal) e is =

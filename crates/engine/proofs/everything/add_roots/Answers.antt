@@ -31,35 +31,35 @@ roots-preserved g c =
     let all = c.args.hits.now.items ++ map (root_hit c.args.boost c.args.source) (take (c.args.size - vec_len c.args.hits.now) (marked_roots (roots_of c.args.segment.now) c.args.live.now)) in
     elim c.if-has.branch [
       | then-has+in_ok-hit_at+in_ok-push w ↦
-        let here = marked_root c.args.segment.now c.args.live.now c.roots.root within c.requires (sym c.has.ensures ∙ w.if-has.true) in
-        let pushed : w.push.new.self.items ≡ done ++ w.in_ok-hit_at.field-0 ∷ [] = w.in_ok-push.ensures.items in
-        let items : c.if-has.hits.items ≡ done ++ root_hit c.args.boost c.args.source root ∷ [] =
-        (λ i. (w.hits-is i).items) ∙ pushed ∙ ap (λ (hit : Hit). done ++ hit ∷ []) w.in_ok-hit_at.ensures.hit in
-        let long : vec_len c.if-has.hits ≡ vec_len c.roots.hits + 1 =
-        omega (arith, c.if-has.hits.ok.0, c.roots.hits.ok.0, ap length items, length-append done (root_hit c.args.boost c.args.source root ∷ [])) in
-        let page = page_more c.args.boost c.args.source c.args.size done all root later (omega (arith, few, c.roots.hits.ok.0))
-            (subst (λ (roots : List FlatRoot). IsPage c.args.boost c.args.source c.args.size done roots all) here c.roots.invariant.0) in (
-          subst (λ (hits : List Hit). IsPage c.args.boost c.args.source c.args.size hits later all) (sym items) page,
-          omega (
-            arith,
-            reads_root c.args.size (vec_len c.roots.hits) _ _ _ c.roots.steps _ few here c.roots.invariant.1,
-            ap (λ n. length (take (c.args.size - n) later)) long,
-            w.hit_at.ensures.reads,
-            w.steps-is,
-          ),
-        )
+          let here = marked_root c.args.segment.now c.args.live.now c.roots.root within c.requires (sym c.has.ensures ∙ w.if-has.true) in
+          let pushed : w.push.new.self.items ≡ done ++ w.in_ok-hit_at.field-0 ∷ [] = w.in_ok-push.ensures.items in
+          let items : c.if-has.hits.items ≡ done ++ root_hit c.args.boost c.args.source root ∷ [] =
+          (λ i. (w.hits-is i).items) ∙ pushed ∙ ap (λ (hit : Hit). done ++ hit ∷ []) w.in_ok-hit_at.ensures.hit in
+          let long : vec_len c.if-has.hits ≡ vec_len c.roots.hits + 1 =
+          omega (arith, c.if-has.hits.ok.0, c.roots.hits.ok.0, ap length items, length-append done (root_hit c.args.boost c.args.source root ∷ [])) in
+          let page = page_more c.args.boost c.args.source c.args.size done all root later (omega (arith, few, c.roots.hits.ok.0))
+          (subst (λ (roots : List FlatRoot). IsPage c.args.boost c.args.source c.args.size done roots all) here c.roots.invariant.0) in (
+            subst (λ (hits : List Hit). IsPage c.args.boost c.args.source c.args.size hits later all) (sym items) page,
+            omega (
+              arith,
+              reads_root c.args.size (vec_len c.roots.hits) _ _ _ c.roots.steps _ few here c.roots.invariant.1,
+              ap (λ n. length (take (c.args.size - n) later)) long,
+              w.hit_at.ensures.reads,
+              w.steps-is,
+            ),
+          )
       | else-has w ↦
-        let here = unmarked_root c.args.segment.now c.args.live.now c.roots.root within c.requires (sym c.has.ensures ∙ w.if-has.false) in
-        let items : c.if-has.hits.items ≡ done = λ i. (w.hits-is i).items in
-        let long : vec_len c.if-has.hits ≡ vec_len c.roots.hits = λ i. vec_len (w.hits-is i) in (
-          subst (λ (hits : List Hit). IsPage c.args.boost c.args.source c.args.size hits later all) (sym items)
-          (subst (λ (roots : List FlatRoot). IsPage c.args.boost c.args.source c.args.size done roots all) here c.roots.invariant.0),
-          omega (
-            arith,
-            c.roots.invariant.1,
-            ap (λ (roots : List FlatRoot). length (take (c.args.size - vec_len c.roots.hits) roots)) here,
-            ap (λ n. length (take (c.args.size - n) later)) long,
-            w.steps-is,
-          ),
-        )
+          let here = unmarked_root c.args.segment.now c.args.live.now c.roots.root within c.requires (sym c.has.ensures ∙ w.if-has.false) in
+          let items : c.if-has.hits.items ≡ done = λ i. (w.hits-is i).items in
+          let long : vec_len c.if-has.hits ≡ vec_len c.roots.hits = λ i. vec_len (w.hits-is i) in (
+            subst (λ (hits : List Hit). IsPage c.args.boost c.args.source c.args.size hits later all) (sym items)
+                (subst (λ (roots : List FlatRoot). IsPage c.args.boost c.args.source c.args.size done roots all) here c.roots.invariant.0),
+            omega (
+              arith,
+              c.roots.invariant.1,
+              ap (λ (roots : List FlatRoot). length (take (c.args.size - vec_len c.roots.hits) roots)) here,
+              ap (λ n. length (take (c.args.size - n) later)) long,
+              w.steps-is,
+            ),
+          )
     ]

@@ -25,20 +25,20 @@ pub returns-in-Err-clause-answers : goal.returns-in-Err-clause-answers
 returns-in-Err-clause-answers g c = λ state f.
     let shape = c.in-Ok.ensures.shape in
     let first : FirstIs (first_refusal c.args.mapping.now c.in-Ok.shape) c.in-Err.why =
-        elim c.in-Err.why as (λ w. c.in-Err.why ≡ w → FirstIs (first_refusal c.args.mapping.now c.in-Ok.shape) w) [
-          | UnknownPath ↦ λ e. c.in-Err.ensures.unknown_path (ap Err e)
-          | PathOutOfScope ↦ λ e. c.in-Err.ensures.path_out_of_scope (ap Err e)
-          | UnknownRelation ↦ λ e. c.in-Err.ensures.unknown_relation (ap Err e)
-          | BadValue ↦ λ e. c.in-Err.ensures.bad_value (ap Err e)
-          | SortFieldUnmapped ↦ λ e. c.in-Err.ensures.sort_field_unmapped (ap Err e)
-          | BadSort ↦ λ e. c.in-Err.ensures.bad_sort (ap Err e)
-          | DuplicateInnerName ↦ λ e. c.in-Err.ensures.duplicate_inner_name (ap Err e)
-          | WindowTooLarge ↦ λ e. c.in-Err.ensures.window_too_large (ap Err e)
-          | InnerWindowTooLarge ↦ λ e. c.in-Err.ensures.inner_window_too_large (ap Err e)
-          | TooManyClauses ↦ λ e. c.in-Err.ensures.too_many_clauses (ap Err e)
-          | QueryTooDeep ↦ λ e. c.in-Err.ensures.query_too_deep (ap Err e)
-          | TooManyTerms ↦ λ e. c.in-Err.ensures.too_many_terms (ap Err e)
-          | NoMemory ↦ λ e. tt
-        ] refl in
+    elim c.in-Err.why as (λ w. c.in-Err.why ≡ w → FirstIs (first_refusal c.args.mapping.now c.in-Ok.shape) w) [
+      | UnknownPath ↦ λ e. c.in-Err.ensures.unknown_path (ap Err e)
+      | PathOutOfScope ↦ λ e. c.in-Err.ensures.path_out_of_scope (ap Err e)
+      | UnknownRelation ↦ λ e. c.in-Err.ensures.unknown_relation (ap Err e)
+      | BadValue ↦ λ e. c.in-Err.ensures.bad_value (ap Err e)
+      | SortFieldUnmapped ↦ λ e. c.in-Err.ensures.sort_field_unmapped (ap Err e)
+      | BadSort ↦ λ e. c.in-Err.ensures.bad_sort (ap Err e)
+      | DuplicateInnerName ↦ λ e. c.in-Err.ensures.duplicate_inner_name (ap Err e)
+      | WindowTooLarge ↦ λ e. c.in-Err.ensures.window_too_large (ap Err e)
+      | InnerWindowTooLarge ↦ λ e. c.in-Err.ensures.inner_window_too_large (ap Err e)
+      | TooManyClauses ↦ λ e. c.in-Err.ensures.too_many_clauses (ap Err e)
+      | QueryTooDeep ↦ λ e. c.in-Err.ensures.query_too_deep (ap Err e)
+      | TooManyTerms ↦ λ e. c.in-Err.ensures.too_many_terms (ap Err e)
+      | NoMemory ↦ λ e. tt
+    ] refl in
     body_ends c.args.limits.now (view c.args.body.now) c.args.mapping.now c.args.index.now state c.in-Err.why c.refuse_search.result c.refuse_search.new.out.bytes f
     (subst (λ (json : JsonValue). FirstIs (first_refusal c.args.mapping.now json) c.in-Err.why) shape first) c.refuse_search.ensures.refused

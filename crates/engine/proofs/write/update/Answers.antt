@@ -28,7 +28,7 @@ updated_live-requires-clause-live g c =
 pub returns-in-None-clause-answers : goal.returns-in-None-clause-answers
 returns-in-None-clause-answers g c = λ limits state most f.
     let e = updated_anew limits c.args.mapping.now c.args.id (changes_view c.args.changes) c.args.index.now state f (sym c.in-None.is ∙ c.requires.live)
-        ∙ ap (λ (source : JsonValue). put_source limits c.args.mapping.now c.args.id source (added_body c.args.mapping.now source) None state) (sym c.put_anew.ensures) in
+    ∙ ap (λ (source : JsonValue). put_source limits c.args.mapping.now c.args.id source (added_body c.args.mapping.now source) None state) (sym c.put_anew.ensures) in
     subst (λ (answer : Answer). Answers state (outcome_of state answer) (answered_of c.put.result) c.put.new.out.bytes (Some c.put.new.mapping) c.put.new.index) (sym e)
     (c.put.ensures.answers limits state None most f (sym c.in-None.is))
 
@@ -42,7 +42,7 @@ returns-in-Some-2-clause-answers g c = λ limits state most f.
     let m = c.args.mapping.now in
     let live = live_of m c.args.id c.args.index.now state c.in-Some.number f (sym c.in-Some.is ∙ c.requires.live) in
     let changed = subst (IsUpdated (view c.args.changes.doc) live.it.tree.source) c.in-Some-2.is
-        (live_changed m c.args.id c.as_slice.result.now c.args.index.now state c.in-Some.number (view c.args.changes.doc) c.in_ok-source-in-Some.field-0 live c.as_slice.ensures.bytes c.in_ok-source-in-Some.ensures.updated) in
+    (live_changed m c.args.id c.as_slice.result.now c.args.index.now state c.in-Some.number (view c.args.changes.doc) c.in_ok-source-in-Some.field-0 live c.as_slice.ensures.bytes c.in_ok-source-in-Some.ensures.updated) in
     let e = updated_live limits m c.args.id (changes_view c.args.changes) c.args.index.now state c.in-Some.number (view c.in-Some-2.source) live changed.0 changed.1 in
     subst (λ (answer : Answer). Answers state (outcome_of state answer) (answered_of c.put-in-Some-2.result) c.put-in-Some-2.new.out.bytes (Some c.put-in-Some-2.new.mapping) c.put-in-Some-2.new.index) (sym e)
     (c.put-in-Some-2.ensures.answers limits state (Some live.it.tree) most f (ap Some live.same))
@@ -52,7 +52,7 @@ returns-clause-answers g c = λ limits state most f.
     let m = c.args.mapping.now in
     let live = live_of m c.args.id c.args.index.now state c.in-Some.number f (sym c.in-Some.is ∙ c.requires.live) in
     let same = subst (IsUpdated (view c.args.changes.doc) live.it.tree.source) c.in-None-2.is
-        (live_changed m c.args.id c.as_slice.result.now c.args.index.now state c.in-Some.number (view c.args.changes.doc) c.in_ok-source-in-Some.field-0 live c.as_slice.ensures.bytes c.in_ok-source-in-Some.ensures.updated) in
+    (live_changed m c.args.id c.as_slice.result.now c.args.index.now state c.in-Some.number (view c.args.changes.doc) c.in_ok-source-in-Some.field-0 live c.as_slice.ensures.bytes c.in_ok-source-in-Some.ensures.updated) in
     acceptance_ends (Some m) c.args.index.now state (update_step limits m c.args.id (changes_view c.args.changes) state) (Written c.args.id c.in-Some.number Noop) c.accept.result c.accept.new.out.bytes f
     (updated_noop limits m c.args.id (changes_view c.args.changes) c.args.index.now state c.in-Some.number live same) refl
     (subst (λ (given : Reply). IsAcceptance given c.accept.result c.accept.new.out.bytes) c.written.ensures c.accept.ensures.accepted)
