@@ -1,12 +1,12 @@
 -- The page of a search for everything, root by root, and a reply that is held to a limit.
-use Rattle.std.proofs.Common.{◌≡◌, ◌≤◌, ℕ, ◌+◌, ◌-◌, ◌<◌, zero, suc, Bool, true, false, cond, nat_lt, get_or, List, [], ◌∷◌, ◌++◌, length, map, take, drop, filter, Some, None, refl, sym, ap, ◌∙◌, append_assoc, append-nil, arith, length-append, add-one, drop-cons, min}
+use Rattle.std.proofs.Common.{◌≡◌, ◌≤◌, ℕ, ◌+◌, ◌-◌, ◌<◌, zero, suc, Bool, true, false, cond, nat_lt, get_or, List, [], ◌∷◌, ◌++◌, length, map, take, drop, filter, refl, sym, ap, ◌∙◌, append_assoc, arith, length-append, add-one, drop-cons, min}
 use Rattle.std.proofs.lemmas.Bool.Decides.{nat_tests}
 use Rattle.std.proofs.lemmas.List.{at_drop_more, get_or-map, length-map, length-take, map-append}
 use Rattle.std.proofs.lemmas.List.Sums.{sum_by-cons}
-use Rattle.std.specs.List.{count_by, flat_map}
+use Rattle.std.specs.List.{count_by}
 use Rattle.block_bits.specs.Flags.{is_marked}
 use Rattle.flattener.specs.Block.{BlockState}
-use Rattle.layout.specs.Layout.{Marked, is_live, item_in}
+use Rattle.layout.specs.Layout.{is_live, item_in}
 use Rattle.query_ast.specs.declared.hit.Hit.{Hit}
 use Rattle.reply_text.specs.Text.{line_of}
 use Rattle.reply_text.specs.declared.refusal.Refusal.TheVariants.{ReplyTooLarge}
@@ -23,13 +23,13 @@ use Rattle.engine.specs.Hits.{live_roots, marked_roots, root_hit, root_in, roots
 
 -- ---- the roots of live blocks
 
-pub roots_marked : (blocks : List BlockState) (marks : List Bool) → map root_in (map item_in (filter is_live (marked_by blocks marks))) ≡ marked_roots (map root_in blocks) marks
+roots_marked : (blocks : List BlockState) (marks : List Bool) → map root_in (map item_in (filter is_live (marked_by blocks marks))) ≡ marked_roots (map root_in blocks) marks
 roots_marked [] marks = refl
 roots_marked (block ∷ blocks) [] = refl
 roots_marked (block ∷ blocks) (true ∷ marks) = ap (λ (rest : List FlatRoot). block.root ∷ rest) (roots_marked blocks marks)
 roots_marked (block ∷ blocks) (false ∷ marks) = roots_marked blocks marks
 
-pub marks_counted : (roots : List FlatRoot) (marks : List Bool) → length marks ≡ length roots → length (marked_roots roots marks) ≡ count_by is_marked marks
+marks_counted : (roots : List FlatRoot) (marks : List Bool) → length marks ≡ length roots → length (marked_roots roots marks) ≡ count_by is_marked marks
 marks_counted [] [] same = refl
 marks_counted [] (mark ∷ marks) same = absurd (omega (arith, same))
 marks_counted (root ∷ roots) [] same = absurd (omega (arith, same))
@@ -45,7 +45,7 @@ pub roots_kept : (entry : EntryState) → map root_in (blocks_of entry.columns) 
 roots_kept entry law = roots_marked (blocks_of entry.columns) entry.live.roots ∙ ap (λ (roots : List FlatRoot). marked_roots roots entry.live.roots) law
 
 -- there are as many marks as roots
-pub marks_match : (columns : Columns) (marks : List Bool) → length marks ≡ length columns.roots → length marks ≡ length (roots_of columns)
+marks_match : (columns : Columns) (marks : List Bool) → length marks ≡ length columns.roots → length marks ≡ length (roots_of columns)
 marks_match columns marks same = same ∙ sym (length-map columns.roots flat_root)
 
 pub roots_counted : (entry : EntryState) → map root_in (blocks_of entry.columns) ≡ roots_of entry.columns → length entry.live.roots ≡ length entry.columns.roots
@@ -59,7 +59,7 @@ from_on : {A : Type 0} (xs : List A) (i : ℕ) (d : A) → i < length xs → dro
 from_on xs i d h = rw add-one (drop-cons xs i d h)
 
 -- the marked roots from an index on: the one there, if it is marked, and those behind it
-pub marked_at : (roots : List FlatRoot) (marks : List Bool) (i : ℕ) (root : FlatRoot) → i < length roots → length marks ≡ length roots
+marked_at : (roots : List FlatRoot) (marks : List Bool) (i : ℕ) (root : FlatRoot) → i < length roots → length marks ≡ length roots
     → marked_roots (drop i roots) (drop i marks)
     ≡ cond (get_or marks i false) (get_or roots i root ∷ marked_roots (drop (i + 1) roots) (drop (i + 1) marks)) (marked_roots (drop (i + 1) roots) (drop (i + 1) marks))
 marked_at roots marks i root within same =
@@ -90,11 +90,6 @@ unmarked_root columns marks i within same isnt =
 pub record IsPage (score : ℕ) (source : Bool) (size : ℕ) (done : List Hit) (roots : List FlatRoot) (all : List Hit) : Type 0 where
   pub is : done ++ map (root_hit score source) (take (size - length done) roots) ≡ all
 
-pub page_done : (score : ℕ) (source : Bool) (size : ℕ) (done all : List Hit) (roots : List FlatRoot) → size ≤ length done → IsPage score source size done roots all → done ≡ all
-page_done score source size done all roots full page =
-    let none : size - length done ≡ 0 = omega arith in
-    sym (append-nil done) ∙ (rw none at page.is)
-
 pub page_more : (score : ℕ) (source : Bool) (size : ℕ) (done all : List Hit) (root : FlatRoot) (roots : List FlatRoot) → length done < size
     → IsPage score source size done (root ∷ roots) all → IsPage score source size (done ++ root_hit score source root ∷ []) roots all
 page_more score source size done all root roots few page =
@@ -105,20 +100,23 @@ page_more score source size done all root roots few page =
     }
 
 -- one root is taken before the others
-pub taken_one : (k : ℕ) (root : FlatRoot) (roots : List FlatRoot) → 0 < k → length (take k (root ∷ roots)) ≡ length (take (k - 1) roots) + 1
+taken_one : (k : ℕ) (root : FlatRoot) (roots : List FlatRoot) → 0 < k → length (take k (root ∷ roots)) ≡ length (take (k - 1) roots) + 1
 taken_one zero root roots some = absurd (omega (arith, some))
 taken_one (suc k) root roots some =
     let less : suc k - 1 ≡ k = omega arith in
     omega (arith, ap (λ n. length (take n roots)) less)
 
--- one more source may be read for a root that is taken
-pub reads_root : (size long : ℕ) (root : FlatRoot) (later roots : List FlatRoot) (steps most : ℕ) → long < size → roots ≡ root ∷ later → steps + length (take (size - long) roots) ≤ most
-    → (steps + 1) + length (take (size - (long + 1)) later) ≤ most
-reads_root size long root later roots steps most few is before =
-    let one : length (take (size - long) roots) ≡ length (take ((size - long) - 1) later) + 1 =
-    ap (λ (all : List FlatRoot). length (take (size - long) all)) is ∙ taken_one (size - long) root later (omega (arith, few)) in
+-- one source may be read more for a marked root, which is taken
+pub reads_there : (columns : Columns) (marks : List Bool) (i size long steps steps' most : ℕ) → i < length columns.roots → length marks ≡ length (roots_of columns) → get_or marks i false ≡ true → long < size
+    → steps + length (take (size - long) (marked_roots (drop i (roots_of columns)) (drop i marks))) ≤ most → steps' ≤ steps + 1
+    → steps' + length (take (size - (long + 1)) (marked_roots (drop (i + 1) (roots_of columns)) (drop (i + 1) marks))) ≤ most
+reads_there columns marks i size long steps steps' most within same is few before more =
+    let root = flat_root (root_of columns.roots i) in
+    let later = marked_roots (drop (i + 1) (roots_of columns)) (drop (i + 1) marks) in
+    let one : length (take (size - long) (marked_roots (drop i (roots_of columns)) (drop i marks))) ≡ length (take ((size - long) - 1) later) + 1 =
+    ap (λ (all : List FlatRoot). length (take (size - long) all)) (marked_root columns marks i within same is) ∙ taken_one (size - long) root later (omega (arith, few)) in
     let less : size - (long + 1) ≡ (size - long) - 1 = omega arith in
-    omega (arith, one, ap (λ n. length (take n later)) less, before)
+    omega (arith, one, ap (λ n. length (take n later)) less, before, more)
 
 take_two : {A : Type 0} (k : ℕ) (xs ys : List A) → take k (xs ++ ys) ≡ take k xs ++ take (k - length xs) ys
 take_two zero xs ys = let none : 0 - length xs ≡ 0 = omega arith in ap (λ n. take n ys) (sym none)
@@ -153,7 +151,7 @@ page_entry score source size done now all here later added page =
     }
 
 -- how many roots of an entry and of those behind it are taken
-pub taken_two : (k : ℕ) (here later : List FlatRoot) → length (take k (here ++ later)) ≡ length (take k here) + length (take (k - length here) later)
+taken_two : (k : ℕ) (here later : List FlatRoot) → length (take k (here ++ later)) ≡ length (take k here) + length (take (k - length here) later)
 taken_two k here later = ap length (take_two k here later) ∙ length-append (take k here) (take (k - length here) later)
 
 -- no more sources were read than roots of an entry are taken, so no more will have been than are taken of all
@@ -168,19 +166,6 @@ reads_entry size long long' here later roots steps steps' most is left before mo
 pub live_more : (entries : List EntryState) (i : ℕ) (entry : EntryState) → i < length entries → entry ≡ get_or entries i entry → live_roots (drop i entries) ≡ roots_in entry ++ live_roots (drop (i + 1) entries)
 live_more entries i entry within is =
     at_drop_more live_roots entries i entry within ∙ ap (λ (own : EntryState). roots_in own ++ live_roots (drop (i + 1) entries)) (sym is)
-
-pub page_begun : (score : ℕ) (source : Bool) (size : ℕ) (roots : List FlatRoot) → IsPage score source size [] roots (map (root_hit score source) (take size roots))
-page_begun score source size roots =
-    let all : size - 0 ≡ size = omega arith in
-    record { is = ap (λ n. map (root_hit score source) (take n roots)) all }
-
-none_taken : (k : ℕ) → take {A = FlatRoot} k [] ≡ []
-none_taken zero = refl
-none_taken (suc k) = refl
-
-pub page_ended : (score : ℕ) (source : Bool) (size : ℕ) (done all : List Hit) → IsPage score source size done [] all → done ≡ all
-page_ended score source size done all page =
-    sym (append-nil done) ∙ ap (λ (roots : List FlatRoot). done ++ map (root_hit score source) roots) (sym (none_taken (size - length done))) ∙ page.is
 
 -- ---- a line that isn't too long, and one that is
 

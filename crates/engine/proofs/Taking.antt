@@ -1,15 +1,15 @@
 -- Deletes and updates: what the machine answers, as the index answers it.
-use Rattle.std.proofs.Common.{◌≡◌, ◌+◌, Bool, true, false, not, ◌&&◌, cond, ℕ, List, [], ◌∷◌, ◌++◌, filter, map, Option, Some, None, is_some, option_map, refl, sym, ap, subst, ◌∙◌, append-nil}
+use Rattle.std.proofs.Common.{◌≡◌, ◌+◌, Bool, true, false, not, ◌&&◌, cond, ℕ, List, [], ◌∷◌, Option, Some, None, option_map, refl, sym, ap, subst, ◌∙◌, append-nil}
 use Rattle.flattener.specs.Block.{BlockState, block_of, root_of_tree}
-use Rattle.index_core.specs.Kept.{IndexState, block_number, has_block_id, layout_kept, live_block, live_kept}
-use Rattle.index_core.specs.Write.{has_nothing, id_of, is_full, is_refused, live_after, new_of, next_after, takes_nothing, written}
+use Rattle.index_core.specs.Kept.{IndexState, block_number, has_block_id, layout_kept, live_block}
+use Rattle.index_core.specs.Write.{has_nothing, is_full, is_refused, live_after}
 use Rattle.index_core.specs.declared.op.WriteOp.TheVariants.{Take}
 use Rattle.json_merge.specs.Merged.{merged}
 use Rattle.json_merge.specs.Same.{is_same}
-use Rattle.layout.specs.Layout.{Layout, with_change}
+use Rattle.layout.specs.Layout.{with_change}
 use Rattle.machine.specs.Answer.{Answer, answers, first_of, outcome_of, refused_if}
 use Rattle.machine.specs.State.{State}
-use Rattle.machine.specs.Write.{added_body, answered_or, change, change_or_nothing, changed, changed_state, full, live_number, live_tree, nothing_to_do, object_count, put_source, take_out, updated_source, with_put}
+use Rattle.machine.specs.Write.{added_body, answered_or, change, change_or_nothing, changed, changed_state, full, live_tree, nothing_to_do, object_count, put_source, take_out, updated_source}
 use Rattle.machine.specs.declared.limits.Limits.{Limits}
 use Rattle.machine.proofs.Laid.{change_laid}
 use Rattle.machine.proofs.Numbered.{taken_numbered}
@@ -24,14 +24,14 @@ use Rattle.tree_json.specs.Reading.{reading}
 use Rattle.tree_json.specs.Text.{compact}
 use Rattle.tree_json.specs.Value.{JsonValue}
 use Rattle.tree_json.specs.declared.value.Json.{Json}
-use Rattle.tree_objects.specs.Tree.{Tree, has_id, without}
+use Rattle.tree_objects.specs.Tree.{Tree, without}
 use Rattle.write_plan.specs.Update.{IsTextOf, IsUpdated}
 use Rattle.engine.specs.Answers.{Answers}
 use Rattle.engine.specs.Faithful.{AreFaithful, Indexed, block_in, tree_in}
-use Rattle.engine.specs.Parts.{IsMade, delete_step, later_step, update_step}
+use Rattle.engine.specs.Parts.{IsMade, delete_step, update_step}
 use Rattle.engine.specs.declared.engine.Answered.TheVariants as answered
 use Rattle.engine.proofs.Answering.{accepted, refused}
-use Rattle.engine.proofs.Standing.{IsFound, changed_stands}
+use Rattle.engine.proofs.Standing.{changed_stands}
 use Rattle.engine.proofs.Writing.{found_live, full_by, objects_after}
 
 -- ---- whether a tree is live

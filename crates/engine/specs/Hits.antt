@@ -1,5 +1,5 @@
 -- Roots as hits of the search for everything. It serves contracts of private calls alone.
-use Rattle.std.specs.Prelude.{ℕ, pos, Bool, true, false, if◌then◌else◌, List, [], ◌∷◌, map, Some, None}
+use Rattle.std.specs.Prelude.{ℕ, pos, Bool, if◌then◌else◌, List, [], ◌∷◌, map, Some, None}
 use Rattle.std.specs.List.{flat_map}
 use Rattle.flattener.specs.Block.{BlockState}
 use Rattle.index_core.specs.Kept.{segment_kept}

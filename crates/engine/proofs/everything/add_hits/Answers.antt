@@ -4,7 +4,7 @@ use Rattle.segment.specs.Live.{LiveState}
 use Rattle.segment_builder.specs.Blocks.{blocks_of}
 use Rattle.segment_parts.specs.declared.columns.Columns.{Columns}
 use Rattle.engine.specs.Hits.{marked_roots, root_hit, root_in, roots_in}
-use Rattle.engine.proofs.Pages.{marks_match, roots_kept}
+use Rattle.engine.proofs.Pages.{roots_kept}
 use Rattle.engine.proofs.everything.add_hits.Goals as goal
 
 pub returns-clause-hits : goal.returns-clause-hits

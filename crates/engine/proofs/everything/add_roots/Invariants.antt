@@ -1,4 +1,4 @@
-use Rattle.std.proofs.Common.{◌≡◌, ◌≤◌, ◌+◌, ◌-◌, ◌++◌, length, map, take, drop, vec_len}
+use Rattle.std.proofs.Common.{◌≤◌, ◌+◌, ◌-◌, ◌++◌, length, map, take, drop, vec_len}
 use Rattle.segment.specs.Flat.{roots_of}
 use Rattle.engine.specs.Hits.{marked_roots, root_hit}
 use Rattle.engine.proofs.Pages.{IsPage}

@@ -1,4 +1,4 @@
-use Rattle.std.proofs.Common.{◌≡◌, ◌≤◌, ◌<◌, ◌+◌, ◌-◌, ◌++◌, ℕ, List, length, map, take, drop, vec_len, ap, sym, subst, ◌∙◌, rules, arith, length-append}
+use Rattle.std.proofs.Common.{◌≡◌, ◌+◌, ◌-◌, ◌++◌, ℕ, List, length, map, take, drop, vec_len, ap, subst, ◌∙◌, arith, length-append}
 use Rattle.std.proofs.lemmas.Grind.{common_steps}
 use Rattle.segment.specs.Flat.{FlatRoot}
 use Rattle.engine.specs.Hits.{live_roots, root_hit, roots_in}
@@ -21,7 +21,7 @@ entries-preserved g c =
     omega (arith, page_left c.args.boost c.args.source size done now here added, c.entries.hits.ok.0, c.add_hits.new.hits.ok.0) in
     let page = subst (λ (roots : List FlatRoot). IsPage c.args.boost c.args.source size done roots (map (root_hit c.args.boost c.args.source) (take size (live_roots entries)))) more c.entries.invariant.0 in
     let sum : c.in_ok-total.total ≡ c.entries.total + c.live_count.result = grind (arith, common_steps) in (
-      page_entry c.args.boost c.args.source size done now _ here later added page,
+      page_entry c.args.boost c.args.source size done now (map (root_hit c.args.boost c.args.source) (take size (live_roots entries))) here later added page,
       omega (arith, sum, c.live_count.ensures, ap length more, length-append here later, c.entries.invariant.1),
-      reads_entry size (vec_len c.entries.hits) (vec_len c.add_hits.new.hits) here later (live_roots (drop i entries)) c.entries.steps c.add_hits.new.steps _ more left c.entries.invariant.2 c.add_hits.ensures.reads,
+      reads_entry size (vec_len c.entries.hits) (vec_len c.add_hits.new.hits) here later (live_roots (drop i entries)) c.entries.steps c.add_hits.new.steps (c.args.steps.now + length (take size (live_roots entries))) more left c.entries.invariant.2 c.add_hits.ensures.reads,
     )
