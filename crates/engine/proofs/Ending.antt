@@ -1,15 +1,14 @@
 -- How writes end, by what became of the change.
-use Rattle.std.proofs.Common.{◌≡◌, ◌⊎◌, true, false, ℕ, List, [], ◌∷◌, Option, Some, None, Result, Ok, Err, option_map, unwrap_or, refl, sym, ap, subst, inl, Bool, ◌∙◌}
+use Rattle.std.proofs.Common.{◌≡◌, true, false, ℕ, List, [], ◌∷◌, Option, Some, None, Result, Ok, Err, option_map, unwrap_or, refl, sym, ap, subst, inl, Bool, ◌∙◌}
 use Rattle.std.proofs.lemmas.List.Elements.{All-cons, All-nil}
 use Rattle.std.specs.List.{All}
 use Rattle.flattener.specs.Block.{BlockState, root_of_tree}
 use Rattle.flattener.specs.Fits.{BlockFits}
 use Rattle.flattener.specs.Seen.{block_seen}
 use Rattle.index_core.specs.Kept.{IndexFits, IndexState, block_number, has_block_id, layout_kept, live_block}
-use Rattle.index_core.specs.Write.{IsNext, has_nothing, id_of, new_of, written}
-use Rattle.index_core.specs.declared.op.WriteOp.{WriteOp}
+use Rattle.index_core.specs.Write.{IsNext, has_nothing, written}
 use Rattle.index_core.specs.declared.op.WriteOp.TheVariants.{Put, Take}
-use Rattle.layout.specs.Layout.{live_items, with_change}
+use Rattle.layout.specs.Layout.{live_items}
 use Rattle.machine.specs.Answer.{first_of, outcome_of}
 use Rattle.machine.specs.State.{State}
 use Rattle.machine.specs.Write.{added_body, put_result, put_source}
@@ -21,7 +20,7 @@ use Rattle.reply_text.specs.declared.reply.Reply.TheVariants as reply
 use Rattle.reply_text.specs.declared.reply.WriteResult.TheVariants.{Deleted}
 use Rattle.tree_json.specs.Value.{JsonValue}
 use Rattle.tree_objects.specs.Tree.{Tree}
-use Rattle.write_plan.specs.Planned.{IsPlanned, mapping_after, refusals_of}
+use Rattle.write_plan.specs.Planned.{IsPlanned, refusals_of}
 use Rattle.write_plan.specs.declared.plan.Plan.{Plan}
 use Rattle.engine.specs.Answers.{Answers}
 use Rattle.engine.specs.Faithful.{AreFaithful}

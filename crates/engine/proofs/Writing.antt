@@ -1,32 +1,29 @@
 -- Writes: what the machine answers, as the index answers it.
-use Rattle.std.proofs.Common.{◌≡◌, ◌≤◌, ◌+◌, ◌==◌, ◌||◌, Bool, true, false, not, cond, ℕ, List, [], ◌∷◌, ◌++◌, nat_lt, filter, map, Option, Some, None, is_some, option_map, unwrap_or, refl, sym, ap, subst, ◌∙◌}
-use Rattle.std.specs.List.{All, find}
+use Rattle.std.proofs.Common.{◌≡◌, ◌+◌, ◌==◌, ◌||◌, Bool, true, false, cond, ℕ, List, [], ◌∷◌, ◌++◌, nat_lt, filter, map, Option, Some, None, option_map, unwrap_or, refl, sym, ap, subst, ◌∙◌}
 use Rattle.flattener.specs.Block.{BlockState, block_of, root_of_tree}
 use Rattle.flattener.specs.Seen.{block_seen}
 use Rattle.index_core.specs.Kept.{IndexState, block_number, has_block_id, layout_kept, live_block, live_kept}
-use Rattle.index_core.specs.Write.{id_of, is_full, is_refused, live_after, new_of, next_after, written}
-use Rattle.index_core.specs.declared.op.WriteOp.{WriteOp}
-use Rattle.index_core.specs.declared.op.WriteOp.TheVariants.{Put, Take}
-use Rattle.layout.specs.Layout.{Layout, live_items, sealed, staying, with_change}
+use Rattle.index_core.specs.Write.{is_refused, live_after}
+use Rattle.index_core.specs.declared.op.WriteOp.TheVariants.{Put}
+use Rattle.layout.specs.Layout.{staying, with_change}
 use Rattle.layout.proofs.Keeps.{change_keeps}
-use Rattle.machine.specs.Answer.{Answer, refuses, answers, outcome_of, when, first_of, refused_if, unless}
+use Rattle.machine.specs.Answer.{refuses, answers, outcome_of, when, first_of, refused_if}
 use Rattle.machine.specs.State.{State, IsLaid}
-use Rattle.machine.specs.Write.{added_body, change_or_nothing, changed, changed_state, early_refusals, full, grown_by, last_number, live_number, live_tree, new_tree, object_count, put_refusals, put_result, put_source, source_refusals, take_out, with_put, write_step}
+use Rattle.machine.specs.Write.{added_body, change_or_nothing, changed, changed_state, early_refusals, full, last_number, live_number, live_tree, object_count, put_refusals, put_result, put_source, with_put, write_step}
 use Rattle.machine.specs.declared.limits.Limits.{Limits}
 use Rattle.machine.proofs.Laid.{change_laid}
-use Rattle.machine.proofs.Numbered.{put_numbered, taken_numbered}
+use Rattle.machine.proofs.Numbered.{put_numbered}
 use Rattle.mapping.specs.IsMapping.{IsMapping}
 use Rattle.mapping.specs.Mapping.{Mapping}
 use Rattle.reply_text.specs.Text.{reply_text}
 use Rattle.reply_text.specs.declared.refusal.Refusal.{Refusal}
 use Rattle.reply_text.specs.declared.refusal.Refusal.TheVariants.{IndexFull}
 use Rattle.reply_text.specs.declared.reply.Reply.TheVariants as reply
-use Rattle.reply_text.specs.declared.reply.WriteResult.TheVariants.{Deleted}
-use Rattle.request_form.specs.Command.{Target, Write}
+use Rattle.request_form.specs.Command.{Write}
 use Rattle.segment_builder.specs.Blocks.{objects_of}
 use Rattle.tree_json.specs.Reading.{reading}
 use Rattle.tree_json.specs.Value.{JsonValue}
-use Rattle.tree_objects.specs.Tree.{Tree, has_id, without}
+use Rattle.tree_objects.specs.Tree.{Tree, without}
 use Rattle.write_plan.specs.Planned.{IsPlanned, mapping_after, refusals_of, tree_of}
 use Rattle.write_plan.specs.declared.plan.Plan.{Plan}
 use Rattle.engine.specs.Answers.{Answers}

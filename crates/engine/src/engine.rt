@@ -174,6 +174,7 @@ impl Engine {
     }
 
     /// Does what is asked for, and writes the reply.
+    #[tactic(auto, using(crate::proofs::Answering::refusal_ends))]
     fn perform<L: Ledger>(
         &mut self,
         action: Action,

@@ -1,23 +1,19 @@
-use Rattle.std.proofs.Common.{◌≡◌, ◌++◌, ℕ, List, Err, Some, None, ap, refl, subst, sym, ◌∙◌}
-use Rattle.std.proofs.lemmas.Result.{err_from_is_err_and}
+use Rattle.std.proofs.Common.{◌≡◌, ◌++◌, ℕ, List, Err, Some, None, ap, refl, subst, ◌∙◌}
 use Rattle.tree_json.specs.View.{view}
 use Rattle.machine.specs.Answer.{first_of}
 use Rattle.machine.specs.Write.{added_body, put_result, put_source}
 use Rattle.reply_text.specs.Text.{reply_text}
-use Rattle.reply_text.specs.declared.reply.Reply.{Reply}
 use Rattle.reply_text.specs.declared.reply.Reply.TheVariants.{Written}
 use Rattle.write_plan.specs.Planned.{IsPlanned, refusals_of}
 use Rattle.reply_text.specs.declared.refusal.Refusal.{Refusal}
 use Rattle.engine.specs.Parts.{IsRefusal}
-use Rattle.engine.proofs.Answering.{if_lacking, lacking, refusal_ends}
+use Rattle.engine.proofs.Answering.{lacking, left, refusal_ends}
 use Rattle.engine.proofs.Ending.{planned_next_to, put_ends, put_leaves}
 use Rattle.engine.proofs.Writing.{put_refused}
 use Rattle.engine.proofs.write.put.Goals as goal
 
 pub returns-in_err-write-in-Ok-clause-answers : goal.returns-in_err-write-in-Ok-clause-answers
-returns-in_err-write-in-Ok-clause-answers c = λ limits state tree most f number.
-    let e = err_from_is_err_and c.from_residual.result c.from_residual.ensures.1 in
-    if_lacking (Some c.args.mapping.now) c.args.index.now state _ c.write.new.out.bytes c.from_residual.result e.0 e.1 (lacking (Some c.args.mapping.now) c.args.index.now state _ c.write.new.out.bytes f)
+returns-in_err-write-in-Ok-clause-answers c = λ limits state tree most f number. left _ (Some c.args.mapping.now) c.args.index.now state _ c.write.new.out.bytes c.from_residual.result c.from_residual.ensures.1 f
 
 pub put_planned-requires-clause-next : goal.put_planned-requires-clause-next
 put_planned-requires-clause-next c =
