@@ -215,6 +215,7 @@ impl Engine {
         }
     }
 
+    #[tactic(auto, using(crate::proofs::Answering::refusal_ends, crate::proofs::Asking::unmapped))]
     fn write<L: Ledger>(
         &mut self,
         it: Write,
@@ -237,6 +238,7 @@ impl Engine {
         }
     }
 
+    #[tactic(auto, using(crate::proofs::Answering::refusal_ends, crate::proofs::Asking::unmapped_sealed))]
     fn search<L: Ledger>(
         &mut self,
         body: &Json,
@@ -267,6 +269,7 @@ impl Engine {
         }
     }
 
+    #[tactic(auto, using(crate::proofs::Answering::refusal_ends, crate::proofs::Asking::unmapped_sealed))]
     fn refresh(&mut self, out: &mut OutText) -> Result<Ended, NoMemory>
         requires { out.old.bytes ≡ [] }
         ensures answers { (state : State) → IsFaithful self.old state
