@@ -148,6 +148,7 @@ impl Engine {
     }
 
     /// Writes the reply to a request. Where there is no memory, a part of one may stand in `out`.
+    #[tactic(auto, using(crate::proofs::Answering::refusal_ends, crate::proofs::Answering::lacking))]
     fn reply<L: Ledger>(
         &mut self,
         first: FirstLine<'_>,

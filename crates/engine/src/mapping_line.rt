@@ -47,6 +47,7 @@ pub(crate) fn mapping_line(
 }
 
 /// Answers the first mapping line. There is nothing to be sealed.
+#[tactic(auto, using(crate::proofs::Answering::lacking, crate::proofs::Answering::left, crate::proofs::Leaving::empty_index, crate::proofs::Lines::first_accepted))]
 fn first_line(
     alloc: Global,
     mapping: &mut Option<Mapping>,
@@ -75,6 +76,7 @@ fn first_line(
 }
 
 /// Answers a further mapping line. The buffer is sealed under the mapping that there was.
+#[tactic(auto, using(crate::proofs::Answering::lacking, crate::proofs::Answering::left, crate::proofs::Answering::same_faithful))]
 fn further_line(
     alloc: Global,
     mapping: &mut Mapping,

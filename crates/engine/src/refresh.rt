@@ -18,6 +18,7 @@ use reply_text::Reply;
 use tree_json::OutText;
 
 /// Answers `refresh`.
+#[tactic(auto, using(crate::proofs::Answering::left, crate::proofs::Answering::same_faithful))]
 pub(crate) fn refresh(
     mapping: &Mapping,
     index: &mut IndexCore,

@@ -74,6 +74,7 @@ pub(crate) fn write_tree<L: Ledger>(
 }
 
 /// Puts a source under an id, in place of the live tree of this number, if there is one.
+#[tactic(auto, using(crate::proofs::Answering::lacking, crate::proofs::Answering::left))]
 fn put(
     alloc: Global,
     mapping: &mut Mapping,
@@ -198,6 +199,7 @@ fn updated_live<L: Ledger>(
 }
 
 /// Takes the live tree with an id out, if there is one.
+#[tactic(auto, using(crate::proofs::Answering::left))]
 fn delete(
     alloc: Global,
     mapping: &Mapping,

@@ -1,23 +1,14 @@
 use Rattle.std.proofs.Common.{◌++◌, ℕ, List, Err, Some, ap, refl, subst, sym, ◌∙◌}
-use Rattle.index_core.specs.Kept.{layout_kept}
 use Rattle.machine.specs.MappingLine.{mapping_step}
 use Rattle.machine.specs.State.{sealed_state}
 use Rattle.mapping.specs.Growth.{HasFurtherBodies}
 use Rattle.reply_text.specs.Text.{reply_text}
 use Rattle.reply_text.specs.declared.reply.Reply.TheVariants.{Mapped}
 use Rattle.tree_json.specs.View.{view}
-use Rattle.engine.proofs.Answering.{lacking, left, refusal_ends, same_faithful}
+use Rattle.engine.proofs.Answering.{refusal_ends}
 use Rattle.engine.proofs.Leaving.{leaves_grown}
 use Rattle.engine.proofs.Lines.{further_accepted, further_refused}
 use Rattle.engine.proofs.mapping_line.further_line.Goals as goal
-
-pub returns-in_err-write-in-Ok-clause-answers : goal.returns-in_err-write-in-Ok-clause-answers
-returns-in_err-write-in-Ok-clause-answers c = λ state f. left _ (Some c.args.mapping.now) c.args.index.now state _ c.write.new.out.bytes c.from_residual.result c.from_residual.ensures.1 f
-
-pub returns-in_err-seal-in-Ok-clause-answers : goal.returns-in_err-seal-in-Ok-clause-answers
-returns-in_err-seal-in-Ok-clause-answers c = λ state f.
-    left _ (Some c.args.mapping.now) c.seal.new.self state _ c.write.new.out.bytes c.from_residual-in_err-seal-in-Ok.result c.from_residual-in_err-seal-in-Ok.ensures.1
-    (same_faithful (Some c.args.mapping.now) c.args.index.now c.seal.new.self state f c.in_err-seal-in-Ok.ensures.next (ap layout_kept c.in_err-seal-in-Ok.ensures.same))
 
 pub returns-in_ok-seal-in-Ok-clause-answers : goal.returns-in_ok-seal-in-Ok-clause-answers
 returns-in_ok-seal-in-Ok-clause-answers c = λ state f.
@@ -37,6 +28,3 @@ returns-in-Err-Refused-clause-answers c = λ state f.
     refusal_ends (Some c.args.mapping.now) c.args.index.now state (mapping_step (view c.args.body.now) (sealed_state state)) c.in-Err-Refused.why c.refuse.result c.refuse.new.out.bytes f
     (further_refused (view c.args.body.now) c.args.mapping.now c.args.index.now state c.in-Err-Refused.why f (c.in-Err-Refused.ensures.refused c.in-Err-Refused.why (ap Err c.in-Err-Refused.field-0-is)))
     c.refuse.ensures.refused
-
-pub returns-in-Err-NoMemory-clause-answers : goal.returns-in-Err-NoMemory-clause-answers
-returns-in-Err-NoMemory-clause-answers c = λ state f. lacking (Some c.args.mapping.now) c.args.index.now state _ c.args.out.now.bytes f

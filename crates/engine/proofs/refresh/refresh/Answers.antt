@@ -1,20 +1,11 @@
 use Rattle.std.proofs.Common.{◌++◌, List, ℕ, Some, ap, inr, refl, ◌∙◌}
-use Rattle.index_core.specs.Kept.{layout_kept}
 use Rattle.machine.specs.State.{sealed_state}
 use Rattle.reply_text.specs.Text.{reply_text}
 use Rattle.reply_text.specs.declared.reply.Reply.TheVariants.{Refreshed}
 use Rattle.engine.specs.declared.engine.Answered.TheVariants.{Written}
-use Rattle.engine.proofs.Answering.{accepted, left, same_faithful, sealed_faithful}
+use Rattle.engine.proofs.Answering.{accepted, sealed_faithful}
 use Rattle.engine.proofs.Leaving.{leaves_sealed}
 use Rattle.engine.proofs.refresh.refresh.Goals as goal
-
-pub returns-in_err-write-clause-answers : goal.returns-in_err-write-clause-answers
-returns-in_err-write-clause-answers c = λ state f. left _ (Some c.args.mapping.now) c.args.index.now state _ c.write.new.out.bytes c.from_residual.result c.from_residual.ensures.1 f
-
-pub returns-in_err-seal-clause-answers : goal.returns-in_err-seal-clause-answers
-returns-in_err-seal-clause-answers c = λ state f.
-    left _ (Some c.args.mapping.now) c.seal.new.self state _ c.write.new.out.bytes c.from_residual-in_err-seal.result c.from_residual-in_err-seal.ensures.1
-    (same_faithful (Some c.args.mapping.now) c.args.index.now c.seal.new.self state f c.in_err-seal.ensures.next (ap layout_kept c.in_err-seal.ensures.same))
 
 pub returns-clause-answers : goal.returns-clause-answers
 returns-clause-answers c = λ state f.

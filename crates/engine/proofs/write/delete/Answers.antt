@@ -5,13 +5,10 @@ use Rattle.reply_text.specs.declared.reply.Reply.TheVariants.{NotFound, Written}
 use Rattle.reply_text.specs.declared.reply.WriteResult.TheVariants.{Deleted}
 use Rattle.index_core.specs.declared.op.WriteOp.TheVariants.{Take}
 use Rattle.engine.specs.Parts.{IsChanged, delete_step}
-use Rattle.engine.proofs.Answering.{acceptance_ends, left}
+use Rattle.engine.proofs.Answering.{acceptance_ends}
 use Rattle.engine.proofs.Ending.{take_ends, take_leaves}
 use Rattle.engine.proofs.Taking.{nothing_to_take}
 use Rattle.engine.proofs.write.delete.Goals as goal
-
-pub returns-in_err-to_vec-in-Some-clause-answers : goal.returns-in_err-to_vec-in-Some-clause-answers
-returns-in_err-to_vec-in-Some-clause-answers c = λ limits state most f. left _ (Some c.args.mapping.now) c.args.index.now state _ c.args.out.now.bytes c.from_residual.result c.from_residual.ensures.1 f
 
 pub returns-in-None-clause-answers : goal.returns-in-None-clause-answers
 returns-in-None-clause-answers c = λ limits state most f.
@@ -29,6 +26,3 @@ pub returns-in_ok-write-in-Some-clause-leaves : goal.returns-in_ok-write-in-Some
 returns-in_ok-write-in-Some-clause-leaves c =
     take_leaves c.args.mapping.now c.args.id c.args.index.now c.change.new.index c.change.result c.write.new.out.bytes c.change.new.out.bytes c.requires.index
     (subst (λ (own : List ℕ). IsChanged c.change.result (Take own) c.args.index.now c.change.new.index c.write.new.out.bytes c.change.new.out.bytes) (c.of-taken.ensures ∙ c.in_ok-to_vec-in-Some.ensures.items_if_clones_equal (λ x y same. same) ∙ c.as_slice.ensures.bytes) c.change.ensures.changed) c.change.ensures.fits c.change.ensures.objects
-
-pub returns-in_err-write-in-Some-clause-answers : goal.returns-in_err-write-in-Some-clause-answers
-returns-in_err-write-in-Some-clause-answers c = λ limits state most f. left _ (Some c.args.mapping.now) c.args.index.now state _ c.write.new.out.bytes c.from_residual-in_err-write-in-Some.result c.from_residual-in_err-write-in-Some.ensures.1 f

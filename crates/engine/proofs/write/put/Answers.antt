@@ -7,13 +7,10 @@ use Rattle.reply_text.specs.declared.reply.Reply.TheVariants.{Written}
 use Rattle.write_plan.specs.Planned.{IsPlanned, refusals_of}
 use Rattle.reply_text.specs.declared.refusal.Refusal.{Refusal}
 use Rattle.engine.specs.Parts.{IsRefusal}
-use Rattle.engine.proofs.Answering.{lacking, left, refusal_ends}
+use Rattle.engine.proofs.Answering.{refusal_ends}
 use Rattle.engine.proofs.Ending.{planned_next_to, put_ends, put_leaves}
 use Rattle.engine.proofs.Writing.{put_refused}
 use Rattle.engine.proofs.write.put.Goals as goal
-
-pub returns-in_err-write-in-Ok-clause-answers : goal.returns-in_err-write-in-Ok-clause-answers
-returns-in_err-write-in-Ok-clause-answers c = λ limits state tree most f number. left _ (Some c.args.mapping.now) c.args.index.now state _ c.write.new.out.bytes c.from_residual.result c.from_residual.ensures.1 f
 
 pub put_planned-requires-clause-next : goal.put_planned-requires-clause-next
 put_planned-requires-clause-next c =
@@ -51,6 +48,3 @@ returns-in-Err-Refused-clause-answers c = λ limits state tree most f number.
     refusal_ends (Some c.args.mapping.now) c.args.index.now state (put_source limits c.args.mapping.now c.args.id (view c.args.source.now) (added_body c.args.mapping.now (view c.args.source.now)) tree state)
     c.in-Err-Refused.why c.refuse.result c.refuse.new.out.bytes f (put_refused limits c.args.mapping.now c.args.id (view c.args.source.now) tree c.args.index.now state c.in-Err-Refused.why f first)
     (subst (λ (w : Refusal). IsRefusal w c.refuse.result c.refuse.new.out.bytes) c.in-Err-Refused.why-is c.refuse.ensures.refused)
-
-pub returns-clause-answers : goal.returns-clause-answers
-returns-clause-answers c = λ limits state tree most f number. lacking (Some c.args.mapping.now) c.args.index.now state _ c.args.out.now.bytes f
