@@ -86,7 +86,7 @@ fn refuse_search(why: SearchRefusal, out: &mut OutText) -> Result<Ended, NoMemor
 }
 
 /// Answers a search whose body isn't refused. Searches for everything are all that is answered until queries are evaluated.
-#[tactic(auto, using(crate::proofs::Answering::left, crate::proofs::Answering::left_sealed, crate::proofs::Answering::same_faithful))]
+#[tactic(auto, using(crate::proofs::Answering::left, crate::proofs::Answering::same_faithful))]
 fn search_over<L: Ledger>(
     alloc: Global,
     limits: &Limits,

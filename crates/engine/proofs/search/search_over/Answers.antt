@@ -4,7 +4,7 @@ use Rattle.machine.specs.State.{sealed_state}
 use Rattle.reply_text.specs.declared.refusal.Refusal.TheVariants.{BadRequest, UnknownPit}
 use Rattle.engine.specs.Hits.{live_roots}
 use Rattle.engine.specs.Parts.{answered_of}
-use Rattle.engine.proofs.Answering.{refusal_ends}
+use Rattle.engine.proofs.Answering.{left_sealed, refusal_ends}
 use Rattle.engine.proofs.Finding.{few_reads, found_ends, no_pit, not_built, reply_found}
 use Rattle.engine.proofs.Leaving.{leaves_sealed}
 use Rattle.engine.proofs.search.search_over.Goals as goal
@@ -21,6 +21,10 @@ returns-in_default-clause-answers g c = λ state f.
     let other : boost_of_all c.args.search.now ≡ None = first_of (cc, search rules, grind arith) in
     refusal_ends (Some c.args.mapping.now) c.args.index.now state (search_by c.args.limits.now c.args.mapping.now c.args.search.now (sealed_state state)) BadRequest c.refuse-in_default.result
     c.refuse-in_default.new.out.bytes f (not_built c.args.limits.now c.args.mapping.now c.args.search.now state none other) c.refuse-in_default.ensures.refused
+
+pub returns-in_err-found-clause-answers : goal.returns-in_err-found-clause-answers
+returns-in_err-found-clause-answers g c = λ state f.
+    left_sealed _ c.args.mapping.now c.args.index.now c.seal.new.self state _ c.args.out.now.bytes c.from_residual-in_err-found.result c.from_residual-in_err-found.ensures.1 f c.in_ok-seal.ensures.next c.in_ok-seal.ensures.sealed
 
 pub returns-in_err-found-clause-leaves : goal.returns-in_err-found-clause-leaves
 returns-in_err-found-clause-leaves g c =
