@@ -1,0 +1,53 @@
+-- A step down a chain.
+use Rattle.std.specs.Prelude.{◌≡◌, ℕ, zero, suc, Bool, true, false, List, [], ◌∷◌, ◌++◌, map, get_or, take, drop, Option, Some, None, is_some, refl}
+use Rattle.std.specs.List.{flat_map}
+use Rattle.std.proofs.Common.{ap, sym, ◌∙◌}
+use Rattle.std.proofs.lemmas.Bool.{false≢true}
+use Rattle.std.proofs.lemmas.List.{append-nil}
+use Rattle.block_bits.specs.Blocks.{documents_of}
+use Rattle.query_ast.specs.Clause.{Clause}
+use Rattle.nested_sort.specs.Inside.{filters_left, first_found, later_filters, marked_from, marked_within, passing}
+
+-- with a filter, and without one
+pub passing_found : (at : ℕ) (scopes : List ℕ) (n : ℕ) (filter : Option Clause) (filters : List (List (List (Option ℕ)))) → is_some filter ≡ true → passing at scopes n filter filters ≡ map is_some (first_found at filters)
+passing_found at scopes n None filters e = absurd (false≢true e)
+passing_found at scopes n (Some c) filters e = refl
+
+pub left_found : (filter : Option Clause) (filters : List (List (List (Option ℕ)))) → is_some filter ≡ true → filters_left filter filters ≡ later_filters filters
+left_found None filters e = absurd (false≢true e)
+left_found (Some c) filters e = refl
+
+pub passing_all : (at : ℕ) (scopes : List ℕ) (n : ℕ) (filter : Option Clause) (filters : List (List (List (Option ℕ)))) → is_some filter ≡ false → passing at scopes n filter filters ≡ documents_of scopes n
+passing_all at scopes n None filters e = refl
+passing_all at scopes n (Some c) filters e = absurd (false≢true (sym e))
+
+pub left_all : (filter : Option Clause) (filters : List (List (List (Option ℕ)))) → is_some filter ≡ false → filters_left filter filters ≡ filters
+left_all None filters e = refl
+left_all (Some c) filters e = absurd (false≢true (sym e))
+
+-- ---- no document
+
+none_marked : (at : ℕ) (flags : List Bool) → ((k : ℕ) → get_or flags k false ≡ false) → marked_from at flags ≡ []
+none_marked at [] none = refl
+none_marked at (true ∷ flags) none = absurd (false≢true (sym (none 0)))
+none_marked at (false ∷ flags) none = none_marked (suc at) flags (λ k. none (suc k))
+
+none_dropped : (start : ℕ) (flags : List Bool) → ((k : ℕ) → get_or flags k false ≡ false) → (k : ℕ) → get_or (drop start flags) k false ≡ false
+none_dropped zero flags none k = none k
+none_dropped (suc start) [] none k = refl
+none_dropped (suc start) (flag ∷ flags) none k = none_dropped start flags (λ j. none (suc j)) k
+
+none_taken : (end : ℕ) (flags : List Bool) → ((k : ℕ) → get_or flags k false ≡ false) → (k : ℕ) → get_or (take end flags) k false ≡ false
+none_taken zero flags none k = refl
+none_taken (suc end) [] none k = refl
+none_taken (suc end) (flag ∷ flags) none zero = none 0
+none_taken (suc end) (flag ∷ flags) none (suc k) = none_taken end flags (λ j. none (suc j)) k
+
+pub none_within : (start end : ℕ) (flags : List Bool) → ((k : ℕ) → get_or flags k false ≡ false) → marked_within start end flags ≡ []
+none_within start end flags none = none_marked start (drop start (take end flags)) (none_dropped start (take end flags) (none_taken end flags none))
+
+-- values are added for no document
+pub nothing_added : {T : Type 0} (g : ℕ → List ℕ) (h : ℕ → List T) (values : List T) (docs : List ℕ) → docs ≡ [] → values ≡ values ++ flat_map h (flat_map g docs)
+nothing_added g h values docs none = sym (append-nil values) ∙ ap (λ ds. values ++ flat_map h (flat_map g ds)) (sym none)
+
+pub ruleset ways = (passing_found, left_found, passing_all, left_all)

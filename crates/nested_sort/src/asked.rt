@@ -1,0 +1,17 @@
+//! What a sort clause asks of a field.
+
+use block_join::Matches;
+use query_ast::{Chain, Missing, SortMode};
+
+/// What a sort clause asks of a field.
+#[derive(Drop)]
+pub(crate) struct Asked<'a> {
+    pub(crate) field: u32,
+    pub(crate) mode: SortMode,
+    pub(crate) chain: &'a [Chain],
+    /// What the filters of the chain find, from the outermost in; those of later clauses follow.
+    pub(crate) filters: &'a [Matches],
+    /// The scope of the hits.
+    pub(crate) scope: u32,
+    pub(crate) missing: &'a Missing,
+}

@@ -1,0 +1,180 @@
+//! The documents inside a document, down a chain of scopes.
+ghost use Rattle.std.specs.Prelude.{◌≡◌, ◌++◌, ◌<◌, ℕ, false, get_or, is_some, length, map, IfSome, IfNone, OnOk};
+ghost use Rattle.std.specs.List.{flat_map};
+ghost use Rattle.block_bits.specs.Blocks.{documents_of};
+ghost use Rattle.doc_values.specs.Values.{values_of};
+ghost use Rattle.nested_sort.specs.Inside.{AreAt, chain_docs, first_found, later_filters, marked_within};
+ghost use Rattle.query_eval.specs.Folds.{scopes_in};
+ghost use Rattle.view_objects.specs.Hits.{start_before};
+
+use crate::NoMemory;
+use block_bits::BitSet;
+use block_join::Matches;
+use doc_values::{Column, ColumnValue, Values};
+use query_ast::Chain;
+use segment::{Segment, scopes_are_of_documents};
+
+/// Adds the values of the documents that a chain leads to, from a document of a scope in the entry at a place.
+///
+/// `filters` holds what the filters of the chain find, from the outermost in.
+#[cycle(gather)]
+#[tactic(auto, using(crate::proofs::Ways::ways))]
+pub(crate) fn gather<T: ColumnValue>(
+    column: &Column<'_, T>,
+    segment: &Segment,
+    place: usize,
+    chain: &[Chain],
+    filters: &[Matches],
+    scope: u32,
+    doc: u32,
+    values: &mut Vec<T>,
+) -> Result<(), NoMemory>
+    requires within { doc < segment.now.documents }
+    requires found { AreAt place segment.now.documents filters.now }
+    ensures { OnOk result (values.new.items ≡ values.old.items ++ flat_map (λ inside. values_of inside column.now) (chain_docs place (scopes_in segment.now) chain.now filters.now scope doc)) }
+{
+    match chain {
+        [] => Ok(add(column.values(doc), values)?),
+        [step, rest @ ..] => {
+            let start = start_of(segment, scope, doc);
+            if step.filter.is_some() {
+                Ok(gather_found(
+                    column, segment, place, rest, filters, step.scope, start, doc, values,
+                )?)
+            } else {
+                Ok(gather_all(
+                    column, segment, place, rest, filters, step.scope, start, doc, values,
+                )?)
+            }
+        }
+    }
+}
+
+/// Those from the documents that the first filter finds in a range.
+#[cycle(gather)]
+#[tactic(auto, using(crate::proofs::Ways::ways))]
+fn gather_found<T: ColumnValue>(
+    column: &Column<'_, T>,
+    segment: &Segment,
+    place: usize,
+    rest: &[Chain],
+    filters: &[Matches],
+    scope: u32,
+    start: u32,
+    end: u32,
+    values: &mut Vec<T>,
+) -> Result<(), NoMemory>
+    requires within { end < segment.now.documents }
+    requires found { AreAt place segment.now.documents filters.now }
+    ensures { OnOk result (values.new.items ≡ values.old.items ++ flat_map (λ inside. values_of inside column.now) (flat_map (chain_docs place (scopes_in segment.now) rest.now (later_filters filters.now) scope) (marked_within start end (map is_some (first_found place filters.now))))) }
+{
+    match filters {
+        [] => Ok(()),
+        [first, later @ ..] => Ok(gather_in(
+            column,
+            segment,
+            place,
+            rest,
+            later,
+            scope,
+            first.as_slice()[place].set(),
+            start,
+            end,
+            values,
+        )?),
+    }
+}
+
+/// Those from the documents of a scope in a range.
+#[cycle(gather)]
+#[tactic(auto, using(crate::proofs::Ways::ways))]
+fn gather_all<T: ColumnValue>(
+    column: &Column<'_, T>,
+    segment: &Segment,
+    place: usize,
+    rest: &[Chain],
+    filters: &[Matches],
+    scope: u32,
+    start: u32,
+    end: u32,
+    values: &mut Vec<T>,
+) -> Result<(), NoMemory>
+    requires within { end < segment.now.documents }
+    requires found { AreAt place segment.now.documents filters.now }
+    ensures { OnOk result (values.new.items ≡ values.old.items ++ flat_map (λ inside. values_of inside column.now) (flat_map (chain_docs place (scopes_in segment.now) rest.now filters.now scope) (marked_within start end (documents_of (scopes_in segment.now) scope)))) }
+{
+    match scope_documents(segment, scope) {
+        None => Ok(()),
+        Some(documents) => Ok(gather_in(
+            column, segment, place, rest, filters, scope, documents, start, end, values,
+        )?),
+    }
+}
+
+/// Those from the documents of a set in a range.
+#[cycle(gather)]
+#[tactic(auto, using(crate::proofs::Marked::marked))]
+fn gather_in<T: ColumnValue>(
+    column: &Column<'_, T>,
+    segment: &Segment,
+    place: usize,
+    rest: &[Chain],
+    filters: &[Matches],
+    scope: u32,
+    passing: &BitSet,
+    start: u32,
+    end: u32,
+    values: &mut Vec<T>,
+) -> Result<(), NoMemory>
+    requires within { end < segment.now.documents }
+    requires long { length passing.now ≡ segment.now.documents }
+    requires found { AreAt place segment.now.documents filters.now }
+    ensures { OnOk result (values.new.items ≡ values.old.items ++ flat_map (λ inside. values_of inside column.now) (flat_map (chain_docs place (scopes_in segment.now) rest.now filters.now scope) (marked_within start end passing.now))) }
+{
+    let mut from = start;
+    'inside: while let Some(doc) = passing.next_set_before(from, end) {
+        gather(column, segment, place, rest, filters, scope, doc, values)?;
+        from = doc + 1;
+    }
+    Ok(())
+}
+
+/// The documents of a scope; None where the segment has none of it.
+pub(crate) fn scope_documents(segment: &Segment, scope: u32) -> Option<&BitSet>
+    ensures some { IfSome result (λ set. set.now ≡ documents_of (scopes_in segment.now) scope) }
+    ensures long { IfSome result (λ set. length set.now ≡ segment.now.documents) }
+    ensures none { IfNone result ((doc : ℕ) → get_or (documents_of (scopes_in segment.now) scope) doc false ≡ false) }
+{
+    scopes_are_of_documents(segment);
+    let _documents = segment.docs();
+    let scopes = segment.scopes().as_slice();
+    let place = scope as usize;
+    if place >= scopes.len() {
+        return None;
+    }
+    Some(&scopes[place])
+}
+
+/// Where that begins which lies inside a document of a scope.
+#[tactic(auto, using(crate::proofs::Scopes::starts))]
+fn start_of(segment: &Segment, scope: u32, doc: u32) -> u32
+    ensures { result ≡ start_before scope doc (scopes_in segment.now) }
+{
+    let Some(set) = scope_documents(segment, scope) else {
+        return 0;
+    };
+    match set.prev_set(doc) {
+        Some(before) => before + 1,
+        None => 0,
+    }
+}
+
+/// Adds values behind others.
+fn add<T: ColumnValue>(mut left: Values<'_, T>, values: &mut Vec<T>) -> Result<(), NoMemory>
+    ensures { OnOk result (values.new.items ≡ values.old.items ++ left.entry) }
+{
+    'values: while let Some(value) = left.next() {
+        values.push(value)?;
+    }
+    Ok(())
+}
