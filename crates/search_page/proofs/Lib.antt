@@ -1,7 +1,8 @@
--- Lists that agree, and pages of them; the rows of a view; the page of a search; what filters find; the score of a document.
+-- Lists that agree, and pages of them; the rows of a view; the page of a search; what filters find; roots' documents; what is
+-- given row by row.
 mod Agreeing
 mod Rows
 mod Paged
 mod Found
-mod Scores
+mod Marks
 mod Shown

@@ -1,7 +1,7 @@
 use Rattle.std.proofs.Common.{◌<◌, Bool, List, [], length, ap, ◌∙◌, arith}
 use Rattle.segment.specs.Live.{root_of as block_root}
 use Rattle.segment_parts.specs.Parts.{root_flags}
-use Rattle.search_page.proofs.Scores.{marks_are}
+use Rattle.search_page.proofs.Marks.{marks_are}
 use Rattle.search_page.proofs.hits.root_of.Goals as goal
 
 pub returns-clause-root : goal.returns-clause-root
