@@ -3,3 +3,4 @@ pub mod Blocks
 pub mod Up
 pub mod Down
 pub mod Trees
+pub mod Parted

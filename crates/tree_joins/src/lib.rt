@@ -7,4 +7,4 @@
 
 mod law;
 
-pub use law::joins_are_of_trees;
+pub use law::{joins_are_of_trees, objects_are_parted};
