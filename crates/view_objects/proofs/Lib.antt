@@ -1,2 +1,3 @@
 mod Hits
 mod Inside
+mod Values

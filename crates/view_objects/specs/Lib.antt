@@ -1,2 +1,3 @@
 -- To believe.
 pub mod Hits
+pub mod Values

@@ -1,13 +1,19 @@
 //! Laws of documents and the objects that they stand for, as the contract of a function that does nothing.
-ghost use Rattle.std.specs.Prelude.{◌≡◌, ℕ, List, [], get_or, map, filter_map, Option, Some, None};
+ghost use Rattle.std.specs.Prelude.{◌≡◌, ◌<◌, ℕ, List, [], get_or, length, map, filter_map, Option, Some, None, IsTrue};
+ghost use Rattle.std.specs.List.{AllByRecursion};
+ghost use Rattle.std.specs.List.Sorted.{IsPermutation};
+ghost use Rattle.flattener.specs.Flat.{flat_of};
 ghost use Rattle.flattener.specs.StandsFor.{Marked};
 ghost use Rattle.mapping.specs.IsMapping.{IsMapping};
-ghost use Rattle.mapping.specs.Mapping.{Mapping, IsAbove};
+ghost use Rattle.mapping.specs.Mapping.{Mapping, IsAbove, kind_at};
 ghost use Rattle.query_ast.specs.Joined.{roots};
+ghost use Rattle.query_ast.specs.Uses.{IsValueOf, uses_at};
 ghost use Rattle.tree_joins.specs.Seen.{at_scope, scopes_of, scored, seen};
 ghost use Rattle.tree_objects.specs.Object.{Object, below};
 ghost use Rattle.tree_objects.specs.Tree.{Tree};
+ghost use Rattle.tree_objects.specs.Values.{values};
 ghost use Rattle.view_objects.specs.Hits.{hit_object, hits_between, hits_in, live_objects, live_trees, object_at, start_before};
+ghost use Rattle.view_objects.specs.Values.{values_shown};
 
 use tree_joins::joins_are_of_trees;
 use tree_objects::objects_nest;
@@ -24,3 +30,10 @@ pub fn hits_are_objects()
     objects_nest();
     joins_are_of_trees();
 }
+
+/// The values that an object shows of a field with values that are sorted are those that its document has in the field's
+/// column, in another order; and they are of the field's kind.
+pub fn documents_show_values()
+    ensures shown { (m : Mapping) (f : ℕ) (o : Object) → f < length m.fields → IsTrue (uses_at m f).sorted → IsPermutation (values m f o) (values_shown (kind_at m f) f (flat_of m o)) }
+    ensures kind { (m : Mapping) (f : ℕ) (o : Object) → AllByRecursion (IsValueOf (kind_at m f)) (values m f o) }
+{}

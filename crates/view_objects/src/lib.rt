@@ -7,4 +7,4 @@
 
 mod law;
 
-pub use law::hits_are_objects;
+pub use law::{documents_show_values, hits_are_objects};
