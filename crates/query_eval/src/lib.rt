@@ -15,5 +15,8 @@ mod side;
 mod tally;
 mod trees;
 
-pub use evaluation::matches;
+pub use evaluation::{found, matches};
+pub use merges::merges as merged_hits;
+pub use nests::{downs, ups};
 pub use no_memory::NoMemory;
+pub use trees::{with_children, with_parent_by};
