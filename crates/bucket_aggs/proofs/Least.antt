@@ -38,12 +38,12 @@ module _ (before : ℤ → ℤ → Bool) (beats : FieldValue → FieldValue → 
 
   contains_number : (zs : List ℤ) (z : ℤ) → Contains zs z → Contains (map Number zs) (Number z)
   contains_number [] z is = absurd (omega (arith, is.1))
-  contains_number (x ∷ zs) z is = by is.0 is.1 is.2
+  contains_number (x ∷ zs) z is = by (λ there. contains_number zs z there) is.0 is.1 is.2
     where
-      by : (k : ℕ) → k < length (x ∷ zs) → get_or (x ∷ zs) k z ≡ z → Contains (map Number (x ∷ zs)) (Number z)
-      by zero low at = (0, omega arith, ap Number at)
-      by (suc k) low at =
-          let rest : Contains (map Number zs) (Number z) = contains_number zs z (k, omega (arith, low), at) in
+      by : (Contains zs z → Contains (map Number zs) (Number z)) → (k : ℕ) → k < length (x ∷ zs) → get_or (x ∷ zs) k z ≡ z → Contains (map Number (x ∷ zs)) (Number z)
+      by on zero low at = (0, omega arith, ap Number at)
+      by on (suc k) low at =
+          let rest : Contains (map Number zs) (Number z) = on (k, omega (arith, low), at) in
           (suc rest.0, omega (arith, rest.1), rest.2)
 
   pub first_value : (v : FieldValue) (vs : List FieldValue) (zs : List ℤ) (z : ℤ) → IsPermutation (v ∷ vs) (map Number zs) → IsFirst before zs (Some z) → number_in (best_of beats v vs) ≡ z

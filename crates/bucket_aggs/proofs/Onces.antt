@@ -3,7 +3,9 @@ use Rattle.std.proofs.Common.{◌≡◌, ℕ, zero, suc, ◌+◌, ◌<◌, ◌�
 use Rattle.std.specs.List.{AllByRecursion, list_any}
 use Rattle.std.specs.List.Sorted.{IsSorted, IsSortedBy}
 use Rattle.std.specs.Cmp.{IsStrictWeakOrder, IsTotalOrder}
-use Rattle.std.specs.Ordering.{int_cmp, is_eq, is_lt}
+use Rattle.std.specs.Ordering.{is_eq, is_lt}
+use Rattle.std.specs.declared.cmp.Ordering.{Ordering}
+use Rattle.std.specs.declared.cmp.Ordering.TheVariants.{Equal}
 use Rattle.std.proofs.lemmas.Bool.{false≢true}
 use Rattle.std.proofs.lemmas.Cmp.{int_cmp_total}
 use Rattle.std.proofs.lemmas.Map.Lookups.{exact_signed}
@@ -78,7 +80,7 @@ module _ {K : Type 0} (R : K → K → Ordering) (o : IsTotalOrder R) (exact : (
   once_counts z before (x ∷ xs) up behind =
       by_test (is_again eq before x)
       (λ again. rw again (once_counts z before xs up.1 (behind_rest before x xs behind) ∙ met before again))
-      (λ new. rw new (count_cons (eq z) x (once_after eq (Some x) xs) ∙ fresh before new behind))
+      (λ new. rw new (count_cons (eq z) x (once_after eq (Some x) xs) ∙ fresh (once_counts z (Some x) xs up.1 up.0) before new behind))
     where
       -- equal to the one before
       met : (before : Option K) → is_again eq before x ≡ true → one_new before z xs ≡ one_new before z (x ∷ xs)
@@ -95,11 +97,8 @@ module _ {K : Type 0} (R : K → K → Ordering) (o : IsTotalOrder R) (exact : (
           no_more true = refl
           no_more false = refl
 
-      rest : count_by (eq z) (once_after eq (Some x) xs) ≡ one_new (Some x) z xs
-      rest = once_counts z (Some x) xs up.1 up.0
-
-      fresh : (before : Option K) → is_again eq before x ≡ false → Behind before (x ∷ xs) → cond {A = ℕ} (eq z x) 1 0 + count_by (eq z) (once_after eq (Some x) xs) ≡ one_new before z (x ∷ xs)
-      fresh before new back =
+      fresh : count_by (eq z) (once_after eq (Some x) xs) ≡ one_new (Some x) z xs → (before : Option K) → is_again eq before x ≡ false → Behind before (x ∷ xs) → cond {A = ℕ} (eq z x) 1 0 + count_by (eq z) (once_after eq (Some x) xs) ≡ one_new before z (x ∷ xs)
+      fresh rest before new back =
           by_test (eq z x)
           (λ held.
           let own : eq x z ≡ true = same_back R o exact x z ∙ held in

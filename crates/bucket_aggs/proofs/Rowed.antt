@@ -119,7 +119,7 @@ module _ (test : List ℕ → Bool) (none : test [] ≡ false) (flags : List Boo
       let same : row.0 ≡ doc = eqb-true row.0 doc held in
       let absent : test (values_of doc rows) ≡ false = ap (λ (d : ℕ). test (values_of d rows)) (sym same) ∙ ap test (no_row row.0 rows first) ∙ none in
       rw (held, absent) (omega arith))
-      (λ failed. rw failed refl)
+      (λ failed. rw failed (omega arith))
 
   pub rows_counted : (rows : ColumnRows) → Ascending rows → count_by (λ doc. test (values_of doc rows)) (marked_places 0 flags) ≡ count_by row_counts rows
   rows_counted [] up = count_never (λ doc. test []) (λ doc. none) (marked_places 0 flags)

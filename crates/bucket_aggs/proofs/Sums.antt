@@ -68,11 +68,11 @@ summary_more zs old new z was is =
 
 -- ---- sums have no order
 
-upward : ℤ → ℕ
+abbrev upward : ℤ → ℕ
 upward (pos n) = n
 upward (negsuc n) = 0
 
-downward : ℤ → ℕ
+abbrev downward : ℤ → ℕ
 downward (pos n) = 0
 downward (negsuc n) = suc n
 

@@ -145,7 +145,8 @@ module _ (terms : TermList) (f first n : ℕ) (up : AreAscending terms) (range :
   no_parts v counts at zero none = refl
   no_parts v counts at (suc count) none =
       let other : is_same_value v (key_at at) ≡ false = none at (omega arith) (omega arith) in
-      rw other (no_parts v counts (at + 1) count (λ k from to. none k (omega (arith, from)) (omega (arith, to))))
+      let rest : parts v counts (at + 1) count ≡ 0 = no_parts v counts (at + 1) count (λ k from to. none k (omega (arith, from)) (omega (arith, to))) in
+      rw other (omega (arith, rest))
 
   other_key : (k j : ℕ) → k < n → j < n → (k ≡ j → ⊥) → is_same_value (key_at k) (key_at j) ≡ false
   other_key k j low high apart =
@@ -172,7 +173,8 @@ module _ (terms : TermList) (f first n : ℕ) (up : AreAscending terms) (range :
       (λ failed.
       let apart : k ≡ at → ⊥ = λ equal. false≢true (sym failed ∙ eq-eqb at k (sym equal)) in
       let other : is_same_value (key_at k) (key_at at) ≡ false = other_key k at (omega (arith, to, low)) (omega (arith, low)) apart in
-      rw other (one_part counts k (at + 1) count (grind (arith, from, failed)) (omega (arith, to)) (omega (arith, low))))
+      let rest : parts (key_at k) counts (at + 1) count ≡ get_or counts k 0 = one_part counts k (at + 1) count (grind (arith, from, failed)) (omega (arith, to)) (omega (arith, low)) in
+      rw other (omega (arith, rest)))
 
   -- ---- what documents show
 
@@ -217,12 +219,15 @@ module _ (terms : TermList) (f first n : ℕ) (up : AreAscending terms) (range :
       by (inl found) =
           let k : ℕ = found.0 in
           let from : 0 ≤ k = found.1 in
-          let to : k < n = found.2 in
+          let to : k < 0 + n = found.2 in
           let is : v ≡ key_at k = found.3 in
           let low : k < n = omega (arith, to) in
-          ap (λ (w : FieldValue). parts w counts 0 n) is
-          ∙ one_part counts k 0 n from to (omega arith)
-          ∙ counted.each k (omega (arith, low, long))
-          ∙ ap (λ (old : ℕ). old + count_by (has_ordinal (first + k)) lists) (nothing k)
-          ∙ sym (count_alike (shows_term (key_at k)) (has_ordinal (first + k)) lists (each_as (Each (IsOf terms f)) (λ (ordinals : List ℕ). shows_term (key_at k) ordinals ≡ has_ordinal (first + k) ordinals) (λ ordinals of. shows_one k low ordinals of) lists all))
-          ∙ ap (λ (w : FieldValue). count_by (shows_term w) lists) (sym is)
+          omega (
+            arith,
+            ap (λ (w : FieldValue). parts w counts 0 n) is,
+            one_part counts k 0 n from to (omega arith),
+            counted.each k (omega (arith, low, long)),
+            nothing k,
+            count_alike (shows_term (key_at k)) (has_ordinal (first + k)) lists (each_as (Each (IsOf terms f)) (λ (ordinals : List ℕ). shows_term (key_at k) ordinals ≡ has_ordinal (first + k) ordinals) (λ ordinals of. shows_one k low ordinals of) lists all),
+            ap (λ (w : FieldValue). count_by (shows_term w) lists) is,
+          )

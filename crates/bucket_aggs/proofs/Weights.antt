@@ -6,6 +6,7 @@ use Rattle.std.specs.List.Sorted.{IsPermutation, IsSortedBy}
 use Rattle.std.proofs.lemmas.Bool.{false≢true}
 use Rattle.std.proofs.lemmas.List.Elements.{recursion_from_All, All-from_recursion}
 use Rattle.std.proofs.lemmas.List.Sorted.{All-permutation, IsPermutation-sym, ranks_by, sorted_far, sum_by-IsPermutation}
+use Rattle.std.proofs.lemmas.List.Sums.{sum_by-cons}
 use Rattle.tree_objects.specs.declared.field_value.FieldValue.{FieldValue}
 use Rattle.mapping_body.specs.declared.kind.Kind.{Kind}
 use Rattle.query_ast.specs.Uses.{IsValueOf}
@@ -19,7 +20,7 @@ use Rattle.bucket_aggs.proofs.Values.{value_exact, value_total}
 abbrev pub Rows : Type 0
 Rows = List CountRow
 
-same_key : (a b : FieldValue) → is_same_value a b ≡ true → a ≡ b
+pub same_key : (a b : FieldValue) → is_same_value a b ≡ true → a ≡ b
 same_key a b h = same_is value_cmp value_total value_exact a b h
 
 -- ---- a count more
@@ -35,7 +36,8 @@ weight_added v key count (row ∷ []) =
     (λ own. let here : is_same_value v row.key ≡ true = alike ∙ own in rw (held, here, own) (omega arith))
     (λ other. let here : is_same_value v row.key ≡ false = alike ∙ other in rw (held, here, other) (omega arith)))
     (λ failed. rw failed (omega arith))
-weight_added v key count (row ∷ next ∷ rows) = grind (arith, weight_added v key count (next ∷ rows))
+weight_added v key count (row ∷ next ∷ rows) =
+    omega (arith, sum_by-cons (weight_in v) row (next ∷ rows), sum_by-cons (weight_in v) row (added key count (next ∷ rows)), weight_added v key count (next ∷ rows))
 
 pub each_added : (P : FieldValue → Type 0) (key : FieldValue) (count : ℕ) (rows : Rows) → P key → Each (λ (row : CountRow). P row.key) rows → Each (λ (row : CountRow). P row.key) (added key count rows)
 each_added P key count [] p h = (p, tt)
@@ -130,7 +132,7 @@ merging_more all made new row rest was is =
       ascend = added_ascends row.key row.count made was.ascend was.behind.0;
       behind = each rest was.behind.1 was.rises.0;
       rises = was.rises.1;
-      counts = λ v. omega (arith, weight_added v row.key row.count made, was.counts v);
+      counts = λ v. omega (arith, weight_added v row.key row.count made, was.counts v, sum_by-cons (weight_in v) row rest);
       keys = λ kind are. let old = was.keys kind are in (keys_added kind row.key row.count made old.1.0.0 old.1.0.1 old.0, old.1.1);
     })
   where
