@@ -39,7 +39,8 @@ pub fn with_children(
     requires long { AreLong entries.now hits.now }
     requires joined { AreOrdinals entries.now joins.now }
     requires child { IsChildRelation mapping.now child }
-    ensures { (given : List Tree → Object → Option ℕ) → IsSeen mapping.now entries.now 0 given hits.now → IfOk result (IsSeen mapping.now entries.now 0 (children_by mapping.now child mode least most given)) }
+    ensures long { IfOk result (AreLong entries.now) }
+    ensures seen { (given : List Tree → Object → Option ℕ) → IsSeen mapping.now entries.now 0 given hits.now → IfOk result (IsSeen mapping.now entries.now 0 (children_by mapping.now child mode least most given)) }
 {
     objects_nest();
     let _scopes = mapping.scope_count();
@@ -103,7 +104,8 @@ pub fn with_parent_by(
     requires long { AreLong entries.now hits.now }
     requires joined { AreOrdinals entries.now joins.now }
     requires child { IsChildRelation mapping.now child }
-    ensures { (given : List Tree → Object → Option ℕ) → IsSeen mapping.now entries.now 0 given hits.now → IfOk result (IsSeen mapping.now entries.now 0 (by_relation mapping.now child given)) }
+    ensures long { IfOk result (AreLong entries.now) }
+    ensures seen { (given : List Tree → Object → Option ℕ) → IsSeen mapping.now entries.now 0 given hits.now → IfOk result (IsSeen mapping.now entries.now 0 (by_relation mapping.now child given)) }
 {
     objects_nest();
     let _scopes = mapping.scope_count();
