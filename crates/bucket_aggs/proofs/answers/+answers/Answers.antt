@@ -1,0 +1,78 @@
+use Rattle.std.proofs.Common.{◌≡◌, ℕ, ◌<◌, ◌≤◌, ◌+◌, ◌++◌, List, [], ◌∷◌, Option, Some, None, length, map, take, drop, get_or, refl, sym, ap, subst, ◌∙◌, arith}
+use Rattle.block_join.specs.declared.rule.Rule.TheVariants.{Kept}
+use Rattle.mapping.specs.Mapping.{Mapping}
+use Rattle.query_ast.specs.Clause.{Clause, is_among, leaf, on_field}
+use Rattle.query_ast.specs.Clause.View.{clause_of}
+use Rattle.query_ast.specs.Definition.{definitions_of}
+use Rattle.query_ast.specs.Replies.View.{value_of}
+use Rattle.query_ast.specs.declared.agg.AggForm.TheVariants.{Children, Parent}
+use Rattle.query_eval.specs.Folds.{paired_by}
+use Rattle.query_eval.specs.Found.{IsSeen, score_by}
+use Rattle.query_eval.specs.Nested.{around_by, below_by}
+use Rattle.query_eval.specs.Sides.{by_relation, children_by}
+use Rattle.score_math.specs.Scores.{mode_of}
+use Rattle.score_math.specs.declared.score.ScoreMode.TheVariants.{Max}
+use Rattle.bucket_aggs.specs.Given.{IsAnswer, value_by}
+use Rattle.bucket_aggs.proofs.Formed.{children_is, filter_is, nested_is, parent_is, reverse_is, single_is}
+use Rattle.bucket_aggs.proofs.Handed.{Laws}
+use Rattle.bucket_aggs.proofs.answers.+answers.Goals as goal
+
+pub hitting-returns : goal.hitting-returns
+hitting-returns t c = λ given is.
+    let m = c.args.mapping.now in
+    let q = c.args.query.now in
+    let view = c.args.entries.now in
+    let those = c.in_ok-those.those in
+    let seen : IsSeen m view c.args.scope (paired_by Kept given (score_by m q)) those =
+    subst (λ (x : Clause). IsSeen m view c.args.scope (paired_by Kept given (score_by m x)) those) c.get.ensures (c.in_ok-those.ensures.seen given is) in
+    filter_is m view (definitions_of c.args.inner.now) given (value_of c.in_ok-single.field-0) c.args.scope q (c.in_ok-single.ensures (paired_by Kept given (score_by m q)) seen)
+
+pub inside-returns : goal.inside-returns
+inside-returns t c = λ given is.
+    let m = c.args.mapping.now in
+    let known = c.scope_count-scopes.ensures.is_mapping in
+    let laws : Laws m = record {
+      parted = λ n p tree above. c.objects_are_parted.ensures.parted m n p tree known above;
+      around = λ o p above. c.objects_are_parted.ensures.around m o p known above;
+      tree = λ tree. c.objects_are_parted.ensures.tree m tree known;
+      places = λ tree i j o less low. c.objects_nest.ensures.places m tree i j o known less low;
+    } in
+    nested_is m c.args.entries.now (definitions_of c.args.inner.now) given (value_of c.in_ok-single.field-0) c.args.scope c.args.path laws c.requires.path
+    (c.in_ok-single.ensures (around_by c.args.scope given) (c.in_ok-those.ensures.seen m given c.requires.path is))
+
+pub around-returns : goal.around-returns
+around-returns t c = λ given is.
+    let m = c.args.mapping.now in
+    let known = c.scope_count-scopes.ensures.is_mapping in
+    let laws : Laws m = record {
+      parted = λ n p tree above. c.objects_are_parted.ensures.parted m n p tree known above;
+      around = λ o p above. c.objects_are_parted.ensures.around m o p known above;
+      tree = λ tree. c.objects_are_parted.ensures.tree m tree known;
+      places = λ tree i j o less low. c.objects_nest.ensures.places m tree i j o known less low;
+    } in
+    reverse_is m c.args.entries.now (definitions_of c.args.inner.now) given (value_of c.in_ok-single.field-0) c.args.scope c.args.path laws c.requires.path
+    (c.in_ok-single.ensures (below_by m (mode_of Max) c.args.scope given) (c.in_ok-those.ensures.seen m c.args.scope given c.requires.path is))
+
+pub children-returns : goal.children-returns
+children-returns t c = λ given is.
+    let m = c.args.mapping.now in
+    let view = c.args.entries.now in
+    let r = c.args.relation in
+    let ds = definitions_of c.args.inner.now in
+    let value = value_of c.in_ok-single.field-0 in
+    let at_root : IsSeen m view 0 given c.args.objects.now = subst (λ (s : ℕ). IsSeen m view s given c.args.objects.now) c.requires.root is in
+    subst (λ (s : ℕ). IsAnswer m view s (value_by m (Children r) ds) given value) (sym c.requires.root)
+    (children_is m view ds given value r (λ trees. c.hits_are_objects.ensures.roots m trees c.scope_count-scopes.ensures.is_mapping)
+    (c.in_ok-single.ensures (by_relation m r given) (c.in_ok-those.ensures.seen given at_root)))
+
+pub parents-returns : goal.parents-returns
+parents-returns t c = λ given is.
+    let m = c.args.mapping.now in
+    let view = c.args.entries.now in
+    let r = c.args.relation in
+    let ds = definitions_of c.args.inner.now in
+    let value = value_of c.in_ok-single.field-0 in
+    let at_root : IsSeen m view 0 given c.args.objects.now = subst (λ (s : ℕ). IsSeen m view s given c.args.objects.now) c.requires.root is in
+    subst (λ (s : ℕ). IsAnswer m view s (value_by m (Parent r) ds) given value) (sym c.requires.root)
+    (parent_is m view ds given value r (λ trees. c.hits_are_objects.ensures.roots m trees c.scope_count-scopes.ensures.is_mapping)
+    (c.in_ok-single.ensures (children_by m r Max 1 None given) (c.in_ok-those.ensures.seen given at_root)))
