@@ -152,7 +152,7 @@ if_some : (b : Bool) → is_some (cond b (Some 1) None) ≡ b
 if_some true = refl
 if_some false = refl
 
-no_text : (kind : Kind) → IsTrue (uses_of kind).sorted → is_text kind ≡ false
+pub no_text : (kind : Kind) → IsTrue (uses_of kind).sorted → is_text kind ≡ false
 no_text Text is = absurd (let no : ⊥ = cc in no)
 no_text Keyword is = refl
 no_text Long is = refl
@@ -254,6 +254,17 @@ pub none_count : (m : Mapping) (view : List EntryState) (n : ℕ) (given : Given
 none_count m view n given = record {
   is = λ trees stand own. ap (λ (vs : List FieldValue). pos (length vs)) (sym (nothing_shown m (objects_given m n (live_trees trees) (given (live_trees trees)))));
 }
+
+-- a field with values that are sorted may be asked for one of them
+pub sorted_valued : (kind : Kind) → IsTrue (uses_of kind).sorted → IsTrue (uses_of kind).valued
+sorted_valued Text is = refl
+sorted_valued Keyword is = refl
+sorted_valued Long is = refl
+sorted_valued Boolean is = refl
+sorted_valued Date is = refl
+sorted_valued Plain is = absurd (let no : ⊥ = cc in no)
+sorted_valued NestedKind is = absurd (let no : ⊥ = cc in no)
+sorted_valued Join is = absurd (let no : ⊥ = cc in no)
 
 -- ---- metrics
 
