@@ -1,9 +1,10 @@
 -- Documents that have a score, one after the other, and the objects that they stand for.
-use Rattle.std.proofs.Common.{◌≡◌, ℕ, zero, suc, ◌+◌, ◌==◌, ◌<◌, ◌≤◌, Bool, true, false, cond, List, [], ◌∷◌, ◌++◌, length, map, filter, drop, get_or, count_by, sum_by, Option, Some, None, is_some, refl, sym, ap, subst, ◌∙◌, arith}
+use Rattle.std.proofs.Common.{◌≡◌, ℕ, zero, suc, ◌+◌, ◌==◌, ◌<◌, ◌≤◌, Bool, true, false, cond, List, [], ◌∷◌, ◌++◌, length, map, filter, drop, get_or, count_by, sum_by, Option, Some, None, is_some, refl, sym, ap, subst, ◌∙◌, arith, append_assoc}
 use Rattle.std.specs.List.{flat_map, position_from, range_with_len}
 use Rattle.std.proofs.lemmas.List.{length-append, length-map, map-append}
 use Rattle.std.proofs.lemmas.List.Concat.{flat_map-append}
 use Rattle.std.proofs.lemmas.List.Elements.{filter-append}
+use Rattle.std.proofs.lemmas.List.Sums.{sum_by-cons}
 use Rattle.std.proofs.lemmas.List.FromFn.{length-map-range_with_len}
 use Rattle.std.proofs.lemmas.Option.{same_Some}
 use Rattle.block_bits.specs.Flags.{is_marked}
@@ -54,8 +55,8 @@ next_marked start (false ∷ flags) doc is =
 
 drop_drop : {A : Type 0} (a b : ℕ) (xs : List A) → drop a (drop b xs) ≡ drop (b + a) xs
 drop_drop a zero xs = ap (λ (k : ℕ). drop k xs) (omega arith)
-drop_drop zero (suc b) [] = refl
-drop_drop (suc a) (suc b) [] = refl
+drop_drop zero (suc b) [] = let next : suc b + 0 ≡ suc b = omega arith in rw next refl
+drop_drop (suc a) (suc b) [] = let next : suc b + suc a ≡ suc (b + suc a) = omega arith in rw next refl
 drop_drop a (suc b) (x ∷ xs) = let next : suc b + a ≡ suc (b + a) = omega arith in rw next (drop_drop a b xs)
 
 -- what is left of a walk that stands at a document
@@ -70,6 +71,28 @@ walk_on flags from doc is =
 
 pub walk_end : (flags : List Bool) (from : ℕ) → None ≡ next_place is_marked from flags → left_of flags from ≡ []
 walk_end flags from is = none_left from (drop from flags) (sym is)
+
+-- what is made of the documents, one after the other
+pub sum_on : (f : ℕ → ℕ) (flags : List Bool) (from doc : ℕ) → Some doc ≡ next_place is_marked from flags → sum_by f (left_of flags from) ≡ f doc + sum_by f (left_of flags (doc + 1))
+sum_on f flags from doc is = ap (sum_by f) (walk_on flags from doc is) ∙ sum_by-cons f doc (left_of flags (doc + 1))
+
+pub sum_off : (f : ℕ → ℕ) (flags : List Bool) (from : ℕ) → None ≡ next_place is_marked from flags → sum_by f (left_of flags from) ≡ 0
+sum_off f flags from is = ap (sum_by f) (walk_end flags from is)
+
+nothing_behind : {A : Type 0} (xs : List A) → xs ≡ xs ++ []
+nothing_behind [] = refl
+nothing_behind {A} (x ∷ xs) = ap (λ (l : List A). x ∷ l) (nothing_behind xs)
+
+module _ {A : Type 0} (f : ℕ → List A) (flags : List Bool) (from : ℕ) where
+  pub gathered_on : (doc : ℕ) (done new total : List A) → Some doc ≡ next_place is_marked from flags → done ++ flat_map f (left_of flags from) ≡ total → new ≡ done ++ f doc → new ++ flat_map f (left_of flags (doc + 1)) ≡ total
+  gathered_on doc done new total is was own =
+      ap (λ (l : List A). l ++ flat_map f (left_of flags (doc + 1))) own
+      ∙ append_assoc done (f doc) (flat_map f (left_of flags (doc + 1)))
+      ∙ ap (λ (l : List ℕ). done ++ flat_map f l) (sym (walk_on flags from doc is))
+      ∙ was
+
+  pub gathered_end : (done total : List A) → None ≡ next_place is_marked from flags → done ++ flat_map f (left_of flags from) ≡ total → done ≡ total
+  gathered_end done total is was = nothing_behind done ∙ ap (λ (l : List ℕ). done ++ flat_map f l) (sym (walk_end flags from is)) ∙ was
 
 -- ---- what stands at marked places
 

@@ -46,7 +46,9 @@ flats_step zero (x ∷ view) (y ∷ scores) e s columns flags long low here own 
     ∙ ap (λ (z : Scores). flats_in e.columns z ++ flats_of_view view scores) (sym own)
     ∙ ap (λ (c : Columns). own_flats c (map is_some s) ++ flats_of_view view scores) (sym is)
     ∙ ap (λ (b : List Bool). own_flats columns b ++ flats_of_view view scores) (sym set)
-flats_step (suc at) (x ∷ view) (y ∷ scores) e s columns flags long low here own is set = flats_step at view scores e s columns flags long.1 (omega (arith, low)) here own is set
+flats_step (suc at) (x ∷ view) (y ∷ scores) e s columns flags long low here own is set =
+    let next : suc at + 1 ≡ suc (at + 1) = omega arith in
+    rw next (flats_step at view scores e s columns flags long.1 (omega (arith, low)) here own is set)
 
 pub flats_end : (at : ℕ) (view : View) (scores : List Scores) → length view ≤ at → flats_from at view scores ≡ []
 flats_end zero [] scores past = refl
@@ -68,7 +70,7 @@ module _ (f : FlatDocument → ℕ) (at : ℕ) (view : View) (scores : List Scor
   Adds done = done + sum_by f (flats_from at view scores) ≡ sum_by f (flats_of_view view scores)
 
 pub adds_start : (f : FlatDocument → ℕ) (view : View) (scores : List Scores) → Adds f 0 view scores 0
-adds_start f view scores = refl
+adds_start f view scores = omega arith
 
 pub adds_step : (f : FlatDocument → ℕ) (at : ℕ) (view : View) (scores : List Scores) (own : List FlatDocument) (old new : ℕ) → flats_from at view scores ≡ own ++ flats_from (at + 1) view scores → Adds f at view scores old → new ≡ old + sum_by f own → Adds f (at + 1) view scores new
 adds_step f at view scores own old new step was is = omega (arith, was, is, ap (sum_by f) step, sum_by-append f own (flats_from (at + 1) view scores))
@@ -83,7 +85,7 @@ pub record Counting (kind : Kind) (f at : ℕ) (view : View) (scores : List Scor
   pub keys : AreKeys kind rows
 
 pub counting_start : (kind : Kind) (f : ℕ) (view : View) (scores : List Scores) (rows : List CountRow) → rows ≡ [] → Counting kind f 0 view scores rows
-counting_start kind f view scores rows is = subst (Counting kind f 0 view scores) (sym is) (record { weighs = λ v. refl; keys = tt })
+counting_start kind f view scores rows is = subst (Counting kind f 0 view scores) (sym is) (record { weighs = λ v. omega arith; keys = tt })
 
 pub counting_step : (kind : Kind) (f at : ℕ) (view : View) (scores : List Scores) (own : List FlatDocument) (old new : List CountRow) → flats_from at view scores ≡ own ++ flats_from (at + 1) view scores → Counting kind f at view scores old → Weighed kind f own old new → (AreKeys kind old → AreKeys kind new) → Counting kind f (at + 1) view scores new
 counting_step kind f at view scores own old new step was more keys = record {

@@ -1,5 +1,5 @@
 -- Rows of keys with their counts, put together by key.
-use Rattle.std.proofs.Common.{◌≡◌, ℕ, zero, suc, ◌+◌, ◌<◌, ◌≤◌, Bool, true, false, ◌&&◌, ◌||◌, cond, nat_lt, List, [], ◌∷◌, ◌++◌, length, map, filter, get_or, count_by, sum_by, refl, sym, ap, subst, ◌∙◌, arith}
+use Rattle.std.proofs.Common.{◌≡◌, ℕ, zero, suc, ◌+◌, ◌<◌, ◌≤◌, Bool, true, false, ◌&&◌, ◌||◌, cond, nat_lt, List, [], ◌∷◌, ◌++◌, length, map, filter, get_or, count_by, sum_by, refl, sym, ap, subst, ◌∙◌, arith, append_assoc}
 use Rattle.std.specs.Cmp.{IsStrictWeakOrder}
 use Rattle.std.specs.List.{AllByRecursion, list_any}
 use Rattle.std.specs.List.Sorted.{IsPermutation, IsSortedBy}
@@ -56,6 +56,18 @@ pub added_last : (key : FieldValue) (count : ℕ) (front : Rows) (last : CountRo
 added_last key count [] last = refl
 added_last key count (row ∷ []) last = refl
 added_last key count (row ∷ next ∷ front) last = ap (λ (l : Rows). row ∷ l) (added_last key count (next ∷ front) last)
+
+pub added_same : (key : FieldValue) (count : ℕ) (front : Rows) (last : CountRow) (old new : Rows) → old ≡ front ++ last ∷ [] → is_same_value last.key key ≡ true → new ≡ front ++ record { key = last.key; count = last.count + count } ∷ [] → new ≡ added key count old
+added_same key count front last old new was same is =
+    let own : added key count (last ∷ []) ≡ record { key = last.key; count = last.count + count } ∷ [] = rw same refl in
+    is ∙ sym (ap (added key count) was ∙ added_last key count front last ∙ ap (λ (l : Rows). front ++ l) own)
+
+pub added_other : (key : FieldValue) (count : ℕ) (front : Rows) (last : CountRow) (old new : Rows) → old ≡ front ++ last ∷ [] → is_same_value last.key key ≡ false → new ≡ (front ++ last ∷ []) ++ record { key = key; count = count } ∷ [] → new ≡ added key count old
+added_other key count front last old new was other is =
+    let own : added key count (last ∷ []) ≡ last ∷ record { key = key; count = count } ∷ [] = rw other refl in
+    is
+    ∙ append_assoc front (last ∷ []) (record { key = key; count = count } ∷ [])
+    ∙ sym (ap (added key count) was ∙ added_last key count front last ∙ ap (λ (l : Rows). front ++ l) own)
 
 -- no key of the rows is greater than this one
 abbrev pub UpTo : FieldValue → Rows → Type 0

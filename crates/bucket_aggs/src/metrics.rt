@@ -113,7 +113,8 @@ fn add_numbers(
     let Some(column) = segment.numbers(field) else {
         return Ok(());
     };
-    add_documents(set, &column, sums)
+    add_documents(set, &column, sums)?;
+    Ok(())
 }
 
 /// Adds the numbers that the documents of a set have in a column.
@@ -167,12 +168,12 @@ fn own_count(segment: &Segment, kind: Kind, field: u32, set: &BitSet) -> Result<
     values_are_of_documents(segment);
     match kind {
         Kind::Text | Kind::Keyword => match segment.ordinals(field) {
-            Some(column) => column_count(set, &column),
+            Some(column) => Ok(column_count(set, &column)?),
             None => Ok(0),
         },
         Kind::Long | Kind::Boolean | Kind::Date | Kind::Object | Kind::Nested | Kind::Join => {
             match segment.numbers(field) {
-                Some(column) => column_count(set, &column),
+                Some(column) => Ok(column_count(set, &column)?),
                 None => Ok(0),
             }
         }

@@ -45,7 +45,7 @@ pub(crate) fn counted(
             &mut rows,
         )?;
     }
-    merged(alloc, rows)
+    Ok(merged(alloc, rows)?)
 }
 
 /// Adds the values that the documents of a set show.
@@ -95,7 +95,8 @@ fn add_texts(
     let (first, end) = terms.field_range(field);
     let mut counts = no_counts(alloc, (end - first) as usize)?;
     count_ordinals(set, &column, first, &mut counts)?;
-    put_terms(alloc, &terms, first, counts.as_slice(), rows)
+    put_terms(alloc, &terms, first, counts.as_slice(), rows)?;
+    Ok(())
 }
 
 /// So many counts of nothing.
@@ -142,7 +143,8 @@ fn put_term(
     }
     let (_, bytes) = terms.term(ordinal);
     let key = FieldValue::Written(Bytes::of(Vec::from_slice(alloc, bytes)?));
-    add(rows, key, count)
+    add(rows, key, count)?;
+    Ok(())
 }
 
 /// Those of a field of numbers: each document's different numbers, in order.
@@ -165,7 +167,8 @@ fn add_numbers(
     let _ascending = column.values(0);
     let mut numbers = gather_numbers(alloc, set, &column)?;
     numbers.sort_unstable();
-    put_numbers(numbers.as_slice(), rows)
+    put_numbers(numbers.as_slice(), rows)?;
+    Ok(())
 }
 
 /// Adds one to the count of each of these numbers.

@@ -72,7 +72,10 @@ module _ (m : Mapping) (r p : ℕ) (parent : (relation_at m r).parent ≡ Some p
 
       by : (here : Bool) (name : Option (List ℕ)) → (own.relation == r) ≡ here → own.parent ≡ name → (has_relation (Some own) r && (is_parent_relation m other (Some own) && names_parent (Some own) id)) ≡ false
       by false name on names = rw on refl
-      by true None on names = rw (on, names) (and_no (is_parent_relation m other (Some own)))
+      by true None on names =
+          ap (λ (b : Bool). b && (is_parent_relation m other (Some own) && is_id own.parent id)) on
+          ∙ ap (λ (x : Option (List ℕ)). is_parent_relation m other (Some own) && is_id x id) names
+          ∙ and_no (is_parent_relation m other (Some own))
       by true (Some k) on names = absurd (let some : Some k ≡ None = sym names ∙ sym (ap (λ (b : Bool). cond b own.parent None) on) ∙ is in let no : ⊥ = cc in no)
 
   -- what a root that takes part as a child is given

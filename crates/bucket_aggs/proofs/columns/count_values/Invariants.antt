@@ -1,4 +1,4 @@
-use Rattle.std.proofs.Common.{◌≡◌, ◌+◌, ◌<◌, ℕ, get_or, length}
+use Rattle.std.proofs.Common.{◌≡◌, ◌+◌, ◌<◌, ℕ, None, get_or, length}
 use Rattle.bucket_aggs.proofs.Ordinals.{one_left}
 use Rattle.bucket_aggs.proofs.columns.count_values.Given as goal
 

@@ -1,0 +1,18 @@
+use Rattle.std.proofs.Common.{rules, ◌≡◌, ◌<◌, ◌≤◌, ◌+◌, ℕ, List, true, false, count_by, length, map, replicate, IfOk, OnOk, ◌-◌, ◌*◌, ◌/◌, ◌%◌, Bool, nat_eq, nat_lt, [], ◌∷◌, ◌++◌, slice_index_or, slice_set, bit_and, bit_or, Fits, w8, w32, w64, Bor, MutBor}
+use Rattle.mapping_body.specs.declared.kind.Kind.{Kind as Kinds}
+use Rattle.query_ast.specs.Uses.{is_written}
+use Rattle.query_eval.specs.Found.{AreLong}
+use Rattle.segment.specs.Flat.{flat_of}
+use Rattle.segment_parts.specs.Text.{marked_places}
+use Rattle.tree_objects.specs.declared.field_value.FieldValue.{FieldValue as Value}
+use Rattle.bucket_aggs.specs.Counts.{AreCounts, AreKeys, Weighed, count_if, counts_of, flats_of_view, is_number, term_key, weight}
+use Rattle.bucket_aggs.proofs.terms.counted.Goals as goal
+
+pub bounds-objects-at : goal.bounds-objects-at
+bounds-objects-at c = ?
+
+pub entries-preserved : goal.entries-preserved
+entries-preserved c = ?
+
+pub returns : goal.returns
+returns c = ?
