@@ -1,10 +1,11 @@
 -- Documents counted by the rows of a column: those of the rows whose documents are marked.
-use Rattle.std.proofs.Common.{◌≡◌, ℕ, zero, suc, ◌+◌, ◌==◌, ◌<◌, ◌≤◌, Bool, true, false, ◌&&◌, cond, List, [], ◌∷◌, ◌++◌, length, map, drop, get_or, count_by, sum_by, refl, sym, ap, subst, ◌∙◌, arith}
+use Rattle.std.proofs.Common.{◌≡◌, ℕ, zero, suc, ◌+◌, ◌==◌, ◌<◌, ◌≤◌, Bool, true, false, ◌&&◌, cond, List, [], ◌∷◌, ◌++◌, length, map, drop, get_or, slice_get, Some, count_by, sum_by, refl, sym, ap, subst, ◌∙◌, arith}
 use Rattle.std.specs.List.{AllByRecursion, flat_map}
 use Rattle.std.specs.List.Sorted.{IsStrictlyIncreasing}
 use Rattle.std.proofs.lemmas.Bool.{eq-eqb, eqb-true, ne_eqb}
-use Rattle.std.proofs.lemmas.List.{length-map}
-use Rattle.std.proofs.lemmas.List.Sums.{sum_by-append, sum_by-cons}
+use Rattle.std.proofs.lemmas.List.{get_or-map}
+use Rattle.std.proofs.lemmas.List.Sums.{sum_by-append, sum_by-cons, sum_by-drop_more}
+use Rattle.std.proofs.lemmas.Option.{get_or_from_slice_get}
 use Rattle.doc_values.specs.Values.{documents, values_of}
 use Rattle.segment_parts.specs.Text.{marked_places}
 use Rattle.bucket_aggs.proofs.Lists.{Each, by_test, each_as}
@@ -131,3 +132,42 @@ module _ (test : List ℕ → Bool) (none : test [] ≡ false) (flags : List Boo
         count_cons row_counts row rows,
         rows_counted rows up.1,
       )
+
+  -- ---- row by row
+
+  row_at : (rows : ColumnRows) (row doc : ℕ) (values : List ℕ) → row < length rows → doc ≡ get_or (documents rows) row 0 → slice_get rows row ≡ Some (get_or (documents rows) row 0, values)
+      → count_by row_counts (drop row rows) ≡ cond (get_or flags doc false && test values) 1 0 + count_by row_counts (drop (row + 1) rows)
+  row_at rows row doc values low at is =
+      let x : ℕ × List ℕ = (get_or (documents rows) row 0, values) in
+      let here : get_or rows row x ≡ x = get_or_from_slice_get rows row x x is in
+      omega (
+        arith,
+        sum_by-drop_more (one_if row_counts) rows row x low,
+        ap (one_if row_counts) here,
+        ap (λ (d : ℕ). cond {A = ℕ} (get_or flags d false && test values) 1 0) at,
+      )
+
+  pub row_on : (rows : ColumnRows) (row doc : ℕ) (values : List ℕ) → row < length rows → doc ≡ get_or (documents rows) row 0 → slice_get rows row ≡ Some (get_or (documents rows) row 0, values) → get_or flags doc false ≡ true
+      → count_by row_counts (drop row rows) ≡ cond (test values) 1 0 + count_by row_counts (drop (row + 1) rows)
+  row_on rows row doc values low at is held =
+      row_at rows row doc values low at is ∙ ap (λ (b : Bool). cond {A = ℕ} (b && test values) 1 0 + count_by row_counts (drop (row + 1) rows)) held
+
+  pub row_off : (rows : ColumnRows) (row doc : ℕ) → row < length rows → doc ≡ get_or (documents rows) row 0 → get_or flags doc false ≡ false → count_by row_counts (drop row rows) ≡ count_by row_counts (drop (row + 1) rows)
+  row_off rows row doc low at failed =
+      let d : ℕ × List ℕ = (0, []) in
+      let own : get_or (documents rows) row 0 ≡ (get_or rows row d).0 = get_or-map (λ (x : ℕ × List ℕ). x.0) rows row d 0 low in
+      let none : get_or flags (get_or rows row d).0 false ≡ false = ap (λ (k : ℕ). get_or flags k false) (sym (at ∙ own)) ∙ failed in
+      omega (
+        arith,
+        sum_by-drop_more (one_if row_counts) rows row d low,
+        ap (λ (b : Bool). cond {A = ℕ} (b && test (get_or rows row d).1) 1 0) none,
+      )
+
+  pub rows_end : (rows : ColumnRows) (row : ℕ) → length rows ≤ row → count_by row_counts (drop row rows) ≡ 0
+  rows_end rows row past = ap (count_by row_counts) (none_left rows row past)
+    where
+      none_left : (rows : ColumnRows) (row : ℕ) → length rows ≤ row → drop row rows ≡ []
+      none_left [] zero past = refl
+      none_left [] (suc row) past = refl
+      none_left (x ∷ rows) zero past = absurd (omega (arith, past))
+      none_left (x ∷ rows) (suc row) past = none_left rows row (omega (arith, past))

@@ -66,6 +66,17 @@ summary_more zs old new z was is =
       greatest = first_more above (λ x z a h g. below_on a z x g h) not_below zs old.greatest z was.greatest;
     })
 
+pub summary_next : (zs : List ℤ) (old : Summary) (z : ℤ) (count : ℕ) (total least greatest : ℤ) → IsSummary zs old → count ≡ old.count + 1 → total ≡ old.total +ℤ z → least ≡ first_of below old.least z → greatest ≡ first_of above old.greatest z
+    → IsSummary (zs ++ z ∷ []) (record { count = count; total = total; least = Some least; greatest = Some greatest })
+summary_next zs old z count total least greatest was one sum low high =
+    let new : Summary = record { count = count; total = total; least = Some least; greatest = Some greatest } in
+    let is : new ≡ record { count = old.count + 1; total = old.total +ℤ z; least = Some (first_of below old.least z); greatest = Some (first_of above old.greatest z) } =
+    ap (λ (n : ℕ). record { count = n; total = total; least = Some least; greatest = Some greatest }) one
+    ∙ ap (λ (t : ℤ). record { count = old.count + 1; total = t; least = Some least; greatest = Some greatest }) sum
+    ∙ ap (λ (l : ℤ). record { count = old.count + 1; total = old.total +ℤ z; least = Some l; greatest = Some greatest }) low
+    ∙ ap (λ (h : ℤ). record { count = old.count + 1; total = old.total +ℤ z; least = Some (first_of below old.least z); greatest = Some h }) high in
+    summary_more zs old new z was is
+
 -- ---- sums have no order
 
 abbrev upward : ℤ → ℕ

@@ -10,16 +10,16 @@ use Rattle.segment.specs.Live.{EntryState}
 use Rattle.segment_parts.specs.Text.{marked_places}
 use Rattle.segment_parts.specs.declared.columns.Columns.{Columns}
 use Rattle.tree_objects.specs.declared.field_value.FieldValue.{FieldValue}
-use Rattle.bucket_aggs.specs.Counts.{AreKeys, Weighed, flats_in, flats_of_view, marked_count, shows, weight}
+use Rattle.bucket_aggs.specs.Counts.{AreCounts, AreKeys, KeysAscend, Weighed, flats_in, flats_of_view, marked_count, shows, weight}
 use Rattle.bucket_aggs.specs.Sums.{IsSummary, numbers_in, values_in}
 use Rattle.bucket_aggs.specs.declared.metrics.Summary.{Summary}
 use Rattle.bucket_aggs.specs.declared.rows.CountRow.{CountRow}
 use Rattle.bucket_aggs.proofs.Rowed.{one_if}
 
-abbrev Scores : Type 0
+abbrev pub Scores : Type 0
 Scores = List (Option ℕ)
 
-abbrev View : Type 0
+abbrev pub View : Type 0
 View = List EntryState
 
 pub long_view : (view : View) (scores : List Scores) → AreLong view scores → length scores ≡ length view
@@ -91,6 +91,13 @@ pub counting_step : (kind : Kind) (f at : ℕ) (view : View) (scores : List Scor
 counting_step kind f at view scores own old new step was more keys = record {
   weighs = λ v. adds_step (one_if (shows kind f v)) at view scores own (weight v old) (weight v new) step (was.weighs v) (more.each v);
   keys = keys was.keys;
+}
+
+pub counting_end : (kind : Kind) (f at : ℕ) (view : View) (scores : List Scores) (rows made : List CountRow) → length view ≤ at → Counting kind f at view scores rows → KeysAscend made → ((v : FieldValue) → weight v made ≡ weight v rows) → (AreKeys kind rows → AreKeys kind made) → AreCounts kind f (flats_of_view view scores) made
+counting_end kind f at view scores rows made past was ascend same keys = record {
+  ascend = ascend;
+  keys = keys was.keys;
+  counts = λ v. same v ∙ adds_end (one_if (shows kind f v)) at view scores (weight v rows) past (was.weighs v);
 }
 
 -- ---- numbers, one after the other

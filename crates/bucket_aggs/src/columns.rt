@@ -1,9 +1,10 @@
-//! The ordinals that documents have in the column of a keyword field, counted.
+//! The ordinals that documents have in the column of a field of texts, counted.
 
 ghost use Rattle.std.specs.Prelude.{◌≡◌, List, [], ◌∷◌, false, map, slice_index_or, OnOk};
 ghost use Rattle.std.specs.List.Sorted.{IsSorted};
 ghost use Rattle.std.specs.Ordering.{nat_cmp};
 ghost use Rattle.doc_values.specs.Values.{values_of};
+ghost use Rattle.query_ast.specs.Uses.{is_written};
 ghost use Rattle.segment_parts.specs.Text.{marked_places};
 ghost use Rattle.bucket_aggs.specs.Counts.{Counted};
 
@@ -11,6 +12,7 @@ use crate::NoMemory;
 use crate::numbers::is_again;
 use block_bits::BitSet;
 use doc_values::{OrdinalColumn, Values};
+use mapping::Kind;
 
 /// How many rows of a column there may be for each document of a set where all rows are walked over.
 const ROWS_EACH: u32 = 8;
@@ -59,6 +61,7 @@ fn count_rows(
 ) -> Result<(), NoMemory>
     ensures { OnOk result (Counted first (map (λ doc. values_of doc column.now) (marked_places 0 set.now)) counts.old.items counts.new.items) }
 {
+    let _ascending = column.values(0);
     'rows: for row in 0..column.rows() {
         let doc = column.doc(row);
         if is_in(set, doc) {
@@ -66,6 +69,21 @@ fn count_rows(
         }
     }
     Ok(())
+}
+
+/// Whether the values of fields of this kind are texts.
+pub(crate) fn is_text(kind: Kind) -> bool
+    ensures { result ≡ is_written kind }
+{
+    match kind {
+        Kind::Text | Kind::Keyword => true,
+        Kind::Long
+        | Kind::Boolean
+        | Kind::Date
+        | Kind::Object
+        | Kind::Nested
+        | Kind::Join => false,
+    }
 }
 
 /// Whether a document is in a set; one that isn't there is in none.

@@ -11,6 +11,7 @@ ghost use Rattle.bucket_aggs.specs.Counts.{flats_of_view};
 ghost use Rattle.bucket_aggs.specs.Sums.{IsSummary, above, below, first_of, numbers_in, values_in};
 
 use crate::NoMemory;
+use crate::columns::is_text;
 use block_bits::BitSet;
 use block_join::Matches;
 use doc_values::{Column, ColumnValue, NumberColumn, Values};
@@ -166,16 +167,15 @@ fn own_count(segment: &Segment, kind: Kind, field: u32, set: &BitSet) -> Result<
     ensures { IfOk result (λ count. count ≡ sum_by (values_in kind field) (map (flat_of segment.now) (marked_places 0 set.now))) }
 {
     values_are_of_documents(segment);
-    match kind {
-        Kind::Text | Kind::Keyword => match segment.ordinals(field) {
+    if is_text(kind) {
+        match segment.ordinals(field) {
             Some(column) => Ok(column_count(set, &column)?),
             None => Ok(0),
-        },
-        Kind::Long | Kind::Boolean | Kind::Date | Kind::Object | Kind::Nested | Kind::Join => {
-            match segment.numbers(field) {
-                Some(column) => Ok(column_count(set, &column)?),
-                None => Ok(0),
-            }
+        }
+    } else {
+        match segment.numbers(field) {
+            Some(column) => Ok(column_count(set, &column)?),
+            None => Ok(0),
         }
     }
 }

@@ -10,7 +10,7 @@ ghost use Rattle.tree_objects.specs.declared.field_value.FieldValue.{FieldValue 
 ghost use Rattle.bucket_aggs.specs.Counts.{AreCounts, AreKeys, Weighed, count_if, counts_of, flats_of_view, is_number, term_key, weight};
 
 use crate::NoMemory;
-use crate::columns::count_ordinals;
+use crate::columns::{count_ordinals, is_text};
 use crate::numbers::gather_numbers;
 use crate::rows::{CountRow, add, merged};
 use block_bits::BitSet;
@@ -60,15 +60,10 @@ fn add_rows(
     ensures counts { OnOk result (Weighed kind field (map (flat_of segment.now) (marked_places 0 set.now)) rows.old.items rows.new.items) }
     ensures keys { AreKeys kind rows.old.items → OnOk result (AreKeys kind rows.new.items) }
 {
-    values_are_of_documents(segment);
-    match kind {
-        Kind::Text | Kind::Keyword => add_texts(alloc, segment, kind, field, set, rows),
-        Kind::Long | Kind::Boolean | Kind::Date => {
-            add_numbers(alloc, segment, kind, field, set, rows)
-        }
-        Kind::Object | Kind::Nested | Kind::Join => {
-            add_numbers(alloc, segment, kind, field, set, rows)
-        }
+    if is_text(kind) {
+        add_texts(alloc, segment, kind, field, set, rows)
+    } else {
+        add_numbers(alloc, segment, kind, field, set, rows)
     }
 }
 
@@ -120,6 +115,7 @@ fn put_terms(
     ensures counts { (v : Value) → OnOk result (weight v rows.new.items ≡ weight v rows.old.items + counts_of terms.now first v counts.now 0 (length counts.now)) }
     ensures keys { (kind : Kinds) → is_written kind ≡ true → AreKeys kind rows.old.items → OnOk result (AreKeys kind rows.new.items) }
 {
+    let _all = terms.count();
     'terms: for at in 0..counts.len() {
         put_term(alloc, terms, first + at as u64, counts[at], rows)?;
     }
@@ -176,8 +172,8 @@ fn put_numbers(numbers: &[i64], rows: &mut Vec<CountRow>) -> Result<(), NoMemory
     ensures counts { (v : Value) → OnOk result (weight v rows.new.items ≡ weight v rows.old.items + count_by (is_number v) numbers.now) }
     ensures keys { (kind : Kinds) → is_written kind ≡ false → AreKeys kind rows.old.items → OnOk result (AreKeys kind rows.new.items) }
 {
-    'numbers: for number in numbers {
-        add(rows, FieldValue::Number(*number), 1)?;
+    'numbers: for at in 0..numbers.len() {
+        add(rows, FieldValue::Number(numbers[at]), 1)?;
     }
     Ok(())
 }

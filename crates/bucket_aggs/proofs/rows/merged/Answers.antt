@@ -1,15 +1,26 @@
-use Rattle.std.proofs.Common.{rules, ◌≡◌, true, false, sum_by, IfOk, OnOk, ℕ, ◌+◌, ◌-◌, ◌*◌, ◌<◌, ◌≤◌, length, ◌/◌, ◌%◌, Bool, nat_eq, nat_lt, List, [], ◌∷◌, ◌++◌, slice_index_or, slice_set, bit_and, bit_or, Fits, w8, w32, w64, Bor, MutBor}
-use Rattle.mapping_body.specs.declared.kind.Kind.{Kind}
-use Rattle.query_ast.specs.Compare.{in_order, value_cmp}
-use Rattle.tree_objects.specs.declared.field_value.FieldValue.{FieldValue as Value}
-use Rattle.bucket_aggs.specs.Counts.{AreKeys, KeysAscend, added, count_in, row_first, rows_ordered, weight}
+use Rattle.std.proofs.Common.{◌≡◌, [], ◌∷◌, sym, subst, rules}
+use Rattle.std.proofs.lemmas.List.Sorted.{answers_always}
+use Rattle.std.specs.Vec.Iter.{into_iter_items}
+use Rattle.bucket_aggs.proofs.Weights.{Merging, Rows, key_before, keys_rank, merging_more, merging_start}
 use Rattle.bucket_aggs.proofs.rows.merged.Goals as goal
 
 pub rows-init : goal.rows-init
-rows-init c = ?
+rows-init c = (
+  tt,
+  tt,
+  subst (λ (made : Rows). Merging c.args.rows.items made (into_iter_items c.into_iter-row-iterator.result)) (sym c.new-made.ensures.items)
+      (subst (λ (rest : Rows). Merging c.args.rows.items [] rest) (sym c.into_iter-row-iterator.ensures.into_iter_gives.0)
+      (merging_start c.args.rows.items c.sort_by.new.self.items c.in_ok-sort_by.ensures.permutation
+      (c.in_ok-sort_by.ensures.sorted key_before keys_rank (answers_always _ _ _ (λ f a r h called. search rules))))),
+)
 
 pub rows-preserved : goal.rows-preserved
-rows-preserved c = ?
+rows-preserved c = (
+  tt,
+  tt,
+  merging_more c.args.rows.items c.rows.made.items c.add.new.rows.items c.in-Some.row (into_iter_items c.next.new.self)
+      (subst (λ (rest : Rows). Merging c.args.rows.items c.rows.made.items rest) c.in-Some.ensures.steps.0 c.rows.invariant.2) c.in_ok-add.ensures,
+)
 
 pub returns-clause-keys : goal.returns-clause-keys
-returns-clause-keys c = ?
+returns-clause-keys c = λ kind are. let kept = c.rows.invariant.2.keys kind are in kept.0

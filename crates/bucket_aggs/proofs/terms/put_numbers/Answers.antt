@@ -1,12 +1,27 @@
-use Rattle.std.proofs.Common.{rules, ◌≡◌, ◌<◌, ◌≤◌, ◌+◌, ℕ, List, true, false, count_by, length, map, replicate, IfOk, OnOk, ◌-◌, ◌*◌, ◌/◌, ◌%◌, Bool, nat_eq, nat_lt, [], ◌∷◌, ◌++◌, slice_index_or, slice_set, bit_and, bit_or, Fits, w8, w32, w64, Bor, MutBor}
-use Rattle.mapping_body.specs.declared.kind.Kind.{Kind as Kinds}
-use Rattle.query_ast.specs.Uses.{is_written}
-use Rattle.query_eval.specs.Found.{AreLong}
-use Rattle.segment.specs.Flat.{flat_of}
-use Rattle.segment_parts.specs.Text.{marked_places}
-use Rattle.tree_objects.specs.declared.field_value.FieldValue.{FieldValue as Value}
-use Rattle.bucket_aggs.specs.Counts.{AreCounts, AreKeys, Weighed, count_if, counts_of, flats_of_view, is_number, term_key, weight}
+use Rattle.std.proofs.Common.{◌≡◌, ◌<◌, ◌+◌, ℤ, ap, sym, subst, ◌∙◌, get_or, length, rules, arith, w64}
+use Rattle.std.proofs.lemmas.Int.{to_z-of_z}
+use Rattle.std.proofs.lemmas.List.Sums.{sum_by-drop_more}
+use mir.Val.{SFits, of_z, to_z}
+use Rattle.tree_objects.specs.declared.field_value.FieldValue.TheVariants.{Number}
+use Rattle.bucket_aggs.specs.Counts.{AreKeys, added, is_number, weight}
+use Rattle.bucket_aggs.proofs.Rowed.{one_if}
+use Rattle.bucket_aggs.proofs.Weights.{Rows, keys_added, weight_added}
 use Rattle.bucket_aggs.proofs.terms.put_numbers.Goals as goal
 
 pub numbers-preserved : goal.numbers-preserved
-numbers-preserved c = ?
+numbers-preserved c =
+    let z : ℤ = c.index-numbers-at.result in
+    let fits : SFits w64 z = search rules in
+    let old : Rows = c.numbers.rows.items in
+    let new : c.add.new.rows.items ≡ added (Number z) 1 old = c.in_ok-add.ensures ∙ ap (λ (x : ℤ). added (Number x) 1 old) (to_z-of_z w64 z fits) in (
+      λ v.
+          omega (
+            arith,
+            c.numbers.invariant.0 v,
+            ap (weight v) new,
+            weight_added v (Number z) 1 old,
+            sum_by-drop_more (one_if (is_number v)) c.args.numbers.now c.numbers.at z c.numbers-test.true,
+            ap (one_if (is_number v)) c.index-numbers-at.is,
+          ),
+      λ kind plain are. subst (AreKeys kind) (sym new) (keys_added kind (Number z) 1 old plain (omega arith) (c.numbers.invariant.1 kind plain are)),
+    )

@@ -7,5 +7,5 @@ use Rattle.bucket_aggs.proofs.terms.put_numbers.Given as goal
 
 abbrev pub invariant-numbers : goal.invariant-numbers
 invariant-numbers l =
-    ((v : FieldValue) → weight v l.rows.items + count_by (is_number v) (drop l.number-index l.numbers) ≡ weight v l.fn.rows.items + count_by (is_number v) l.numbers)
+    ((v : FieldValue) → weight v l.rows.items + count_by (is_number v) (drop l.at l.numbers) ≡ weight v l.fn.rows.items + count_by (is_number v) l.numbers)
     × ((kind : Kind) → is_written kind ≡ false → AreKeys kind l.fn.rows.items → AreKeys kind l.rows.items)

@@ -1,15 +1,19 @@
-use Rattle.std.proofs.Common.{rules, ◌≡◌, ◌<◌, ◌≤◌, ◌+◌, ℕ, List, true, false, count_by, length, map, replicate, IfOk, OnOk, ◌-◌, ◌*◌, ◌/◌, ◌%◌, Bool, nat_eq, nat_lt, [], ◌∷◌, ◌++◌, slice_index_or, slice_set, bit_and, bit_or, Fits, w8, w32, w64, Bor, MutBor}
-use Rattle.mapping_body.specs.declared.kind.Kind.{Kind as Kinds}
-use Rattle.query_ast.specs.Uses.{is_written}
-use Rattle.query_eval.specs.Found.{AreLong}
-use Rattle.segment.specs.Flat.{flat_of}
-use Rattle.segment_parts.specs.Text.{marked_places}
-use Rattle.tree_objects.specs.declared.field_value.FieldValue.{FieldValue as Value}
-use Rattle.bucket_aggs.specs.Counts.{AreCounts, AreKeys, Weighed, count_if, counts_of, flats_of_view, is_number, term_key, weight}
+use Rattle.std.proofs.Common.{◌≡◌, ◌+◌, ◌-◌, ◌<◌, ◌≤◌, ◌^◌, ℕ, List, length, refl, ap, ◌∙◌, arith}
+use Rattle.bucket_aggs.specs.Counts.{AreKeys, count_if, counts_of, term_key, weight}
+use Rattle.bucket_aggs.proofs.Termed.{counts_step}
 use Rattle.bucket_aggs.proofs.terms.put_terms.Goals as goal
 
 pub overflow_add-first : goal.overflow_add-first
-overflow_add-first c = ?
+overflow_add-first c = omega (arith, c.count-all.ensures.count, c.count-all.type_inv, c.terms-test.true, c.requires)
 
 pub terms-preserved : goal.terms-preserved
-terms-preserved c = ?
+terms-preserved c = (
+  λ v.
+      omega (
+        arith,
+        c.terms.invariant.0 v,
+        c.in_ok-put_term.ensures.counts v,
+        counts_step c.args.terms.now c.args.first v c.args.counts.now c.terms.at (length c.args.counts.now) c.index-counts-at.result c.terms-test.true refl c.index-counts-at.is,
+      ),
+  λ kind written are. c.in_ok-put_term.ensures.keys kind written (c.terms.invariant.1 kind written are),
+)

@@ -1,13 +1,19 @@
-use Rattle.std.proofs.Common.{rules, ◌≡◌, ◌++◌, ℕ, ℤ, List, [], ◌∷◌, map, length, sum_by, is_some, IfOk, OnOk, Some, None, ◌+◌, ◌-◌, ◌*◌, ◌<◌, ◌≤◌, ◌/◌, ◌%◌, Bool, true, false, nat_eq, nat_lt, slice_index_or, slice_set, bit_and, bit_or, Fits, w8, w32, Bor, MutBor, pos, ◌+ℤ◌, ◌-ℤ◌, ◌*ℤ◌, ◌≤ℤ◌, ◌<ℤ◌, FitsSigned, to_z, of_z}
-use Rattle.std.specs.List.{flat_map}
-use Rattle.std.specs.Int.{saturate_signed, w64}
-use Rattle.doc_values.specs.Values.{values_of}
-use Rattle.query_eval.specs.Found.{AreLong}
-use Rattle.segment.specs.Flat.{flat_of}
-use Rattle.segment_parts.specs.Text.{marked_places}
-use Rattle.bucket_aggs.specs.Counts.{flats_of_view}
-use Rattle.bucket_aggs.specs.Sums.{IsSummary, above, below, first_of, numbers_in, values_in}
+use Rattle.std.proofs.Common.{◌≡◌, ◌∙◌, ℤ, ap, arith, rules, w64}
+use Rattle.std.proofs.lemmas.Int.{ints, to_z-of_z}
+use mir.Val.{SFits, of_z, to_z}
+use mir.Syntax.{w128}
+use Rattle.bucket_aggs.specs.Sums.{above, below, first_of}
+use Rattle.bucket_aggs.proofs.Sums.{summary_next}
 use Rattle.bucket_aggs.proofs.metrics.Summary.add.Goals as goal
 
 pub returns : goal.returns
-returns c = ?
+returns c = λ zs is.
+    let old = c.args.self.now in
+    let z : ℤ = c.args.number in
+    let own : to_z w64 (of_z w64 z) ≡ z = to_z-of_z w64 z c.ranges.number in
+    let low : SFits w64 c.lesser.result = search rules in
+    let high : SFits w64 c.greater.result = search rules in
+    summary_next zs old z c.in-Some.count (to_z w128 (of_z w128 c.in-Some-checked_add.total)) (to_z w64 (of_z w64 c.lesser.result)) (to_z w64 (of_z w64 c.greater.result)) is
+    (omega arith) (omega (arith, ints))
+    (to_z-of_z w64 c.lesser.result low ∙ c.lesser.ensures ∙ ap (first_of below old.least) own)
+    (to_z-of_z w64 c.greater.result high ∙ c.greater.ensures ∙ ap (first_of above old.greatest) own)
