@@ -11,4 +11,5 @@ pub mod Counting
 pub mod Walking
 pub mod Telling
 pub mod Relations
+pub mod Meeting
 pub mod Related

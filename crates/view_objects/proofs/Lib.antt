@@ -1,3 +1,5 @@
 mod Hits
 mod Inside
+pub mod Trees
+pub mod Children
 mod Values
