@@ -3,8 +3,12 @@ use Rattle.block_join.specs.declared.rule.Rule.TheVariants.{Kept}
 use Rattle.mapping.specs.Mapping.{Mapping}
 use Rattle.query_ast.specs.Clause.{Clause, is_among, leaf, on_field}
 use Rattle.query_ast.specs.Clause.View.{clause_of}
-use Rattle.query_ast.specs.Definition.{definitions_of}
-use Rattle.query_ast.specs.Replies.View.{value_of}
+use Rattle.query_ast.specs.Agg.{Agg}
+use Rattle.query_ast.specs.Agg.View.{agg_of}
+use Rattle.query_ast.specs.Definition.{Definition, definitions_of}
+use Rattle.query_ast.specs.Replies.{ReplyPart}
+use Rattle.query_ast.specs.Replies.View.{reply_part, value_of}
+use Rattle.query_ast.specs.declared.bucket.AggReply.{AggReply}
 use Rattle.query_ast.specs.declared.agg.AggForm.TheVariants.{Children, Parent}
 use Rattle.query_eval.specs.Folds.{paired_by}
 use Rattle.query_eval.specs.Found.{IsSeen, score_by}
@@ -12,7 +16,7 @@ use Rattle.query_eval.specs.Nested.{around_by, below_by}
 use Rattle.query_eval.specs.Sides.{by_relation, children_by}
 use Rattle.score_math.specs.Scores.{mode_of}
 use Rattle.score_math.specs.declared.score.ScoreMode.TheVariants.{Max}
-use Rattle.bucket_aggs.specs.Given.{IsAnswer, value_by}
+use Rattle.bucket_aggs.specs.Given.{AreReplies, IsAnswer, more_replies, value_by}
 use Rattle.bucket_aggs.proofs.Formed.{children_is, filter_is, nested_is, parent_is, reverse_is, single_is}
 use Rattle.bucket_aggs.proofs.Handed.{Laws}
 use Rattle.bucket_aggs.proofs.answers.+answers.Goals as goal
@@ -76,3 +80,20 @@ parents-returns t c = λ given is.
     subst (λ (s : ℕ). IsAnswer m view s (value_by m (Parent r) ds) given value) (sym c.requires.root)
     (parent_is m view ds given value r (λ trees. c.hits_are_objects.ensures.roots m trees c.scope_count-scopes.ensures.is_mapping)
     (c.in_ok-single.ensures (children_by m r Max 1 None given) (c.in_ok-those.ensures.seen given at_root)))
+
+pub single-returns : goal.single-returns
+single-returns t c = λ given is.
+    let m = c.args.mapping.now in
+    let view = c.args.entries.now in
+    let answered : AreReplies m view c.args.scope (definitions_of c.args.inner.now) given c.of.result =
+    subst (λ (parts : List ReplyPart). AreReplies m view c.args.scope (definitions_of c.args.inner.now) given parts) (sym c.of.ensures)
+    (subst (λ (defs : List (Definition Agg)). AreReplies m view c.args.scope (definitions_of defs) given (map reply_part c.in_ok-replies.replies.items)) c.as_slice.ensures (c.in_ok-replies.ensures given is)) in
+    single_is m view c.args.scope (definitions_of c.args.inner.now) given c.args.objects.now c.in_ok-count.count c.of.result is c.in_ok-count.ensures answered
+
+pub replies-returns : goal.replies-returns
+replies-returns t c = λ given is.
+    let m = c.args.mapping.now in
+    let view = c.args.entries.now in
+    let ds = definitions_of (map agg_of c.args.aggs.now) in
+    let new : List ReplyPart = map reply_part c.put_replies.new.made.items in
+    subst (λ (old : List AggReply). IsAnswer m view c.args.scope (more_replies m ds (map reply_part old)) given new) c.new-made.ensures.items (c.in_ok-put_replies.ensures given is)
