@@ -79,7 +79,7 @@ sum_on f flags from doc is = ap (sum_by f) (walk_on flags from doc is) ∙ sum_b
 pub sum_off : (f : ℕ → ℕ) (flags : List Bool) (from : ℕ) → None ≡ next_place is_marked from flags → sum_by f (left_of flags from) ≡ 0
 sum_off f flags from is = ap (sum_by f) (walk_end flags from is)
 
-nothing_behind : {A : Type 0} (xs : List A) → xs ≡ xs ++ []
+pub nothing_behind : {A : Type 0} (xs : List A) → xs ≡ xs ++ []
 nothing_behind [] = refl
 nothing_behind {A} (x ∷ xs) = ap (λ (l : List A). x ∷ l) (nothing_behind xs)
 

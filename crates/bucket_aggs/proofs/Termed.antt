@@ -9,7 +9,7 @@ use Rattle.std.specs.declared.cmp.Ordering.{Ordering}
 use Rattle.std.specs.declared.cmp.Ordering.TheVariants.{Less, Equal, Greater}
 use Rattle.std.proofs.lemmas.Bool.{eq-eqb, eqb-true, false≢true, ne_eqb}
 use Rattle.std.proofs.lemmas.Cmp.{nat_cmp_total, nat_list_cmp_total, on_total, then_total, tied_itself}
-use Rattle.std.proofs.lemmas.List.{get_or_default, length-replicate}
+use Rattle.std.proofs.lemmas.List.{length-replicate}
 use Rattle.std.proofs.lemmas.List.Elements.{recursion_from_All}
 use Rattle.std.proofs.lemmas.Map.Keys.{Less-from_sorted}
 use Rattle.std.proofs.lemmas.Option.{get_or_from_slice_get, same_Some, slice_get-get_or, slice_get_within}
@@ -234,10 +234,8 @@ module _ (terms : TermList) (f first n : ℕ) (up : AreAscending terms) (range :
           )
 
 -- one count more
-pub counts_step : (terms : TermList) (first : ℕ) (v : FieldValue) (counts : List ℕ) (at some count : ℕ) → at < some → some ≡ length counts → count ≡ get_or counts at count → counts_of terms first v counts at (some - at) ≡ count_if v (term_key terms (first + at)) count + counts_of terms first v counts (at + 1) (some - (at + 1))
-counts_step terms first v counts at some count low long is =
-    let more : some - at ≡ suc (some - (at + 1)) = omega (arith, low) in
-    ap (counts_of terms first v counts at) more ∙ ap (λ (n : ℕ). count_if v (term_key terms (first + at)) n + counts_of terms first v counts (at + 1) (some - (at + 1))) (get_or_default counts at 0 count (omega (arith, low, long)) ∙ sym is)
+pub counts_step : (terms : TermList) (first : ℕ) (v : FieldValue) (counts : List ℕ) (at some : ℕ) → at < some → counts_of terms first v counts at (some - at) ≡ count_if v (term_key terms (first + at)) (get_or counts at 0) + counts_of terms first v counts (at + 1) (some - (at + 1))
+counts_step terms first v counts at some low = let more : some - at ≡ suc (some - (at + 1)) = omega (arith, low) in ap (counts_of terms first v counts at) more
 
 -- the counts of ordinals of one segment
 pub texts_counted : (columns : Columns) (f : ℕ) (found : List (ℕ × List ℕ)) (docs : List ℕ) → AreColumns columns → column_of f columns.ordinals ≡ Some found
@@ -251,7 +249,7 @@ texts_counted columns f found docs are is terms own up first end ordered within 
     let there : IsRange (is_of_field f) (terms_of columns) first (first + n) = subst (λ (e : ℕ). IsRange (is_of_field f) (terms_of columns) first e) (sym whole) (subst (λ (t : TermList). IsRange (is_of_field f) t first end) own range) in
     let inside : first + n ≤ length (terms_of columns) = omega (arith, within, ap (λ (t : TermList). length t) own, whole) in
     let long : length none ≡ n = ap length nothing ∙ length-replicate {A = ℕ} n 0 in
-    let all_none : (k : ℕ) → get_or none k 0 ≡ 0 = λ k. ap (λ (l : List ℕ). get_or l k 0) nothing ∙ get_or-replicate_same n k in
+    let all_none : (k : ℕ) → get_or none k 0 ≡ 0 = λ k. ap (λ (l : List ℕ). get_or l k 0) nothing ∙ same_at 0 n k in
     let made : length shown ≡ n = ap length same ∙ counted.long ∙ long in
     ap (λ (t : TermList). counts_of t first v shown 0 (length shown)) own
     ∙ ap (counts_of (terms_of columns) first v shown 0) made
@@ -262,7 +260,7 @@ texts_counted columns f found docs are is terms own up first end ordered within 
     each_list [] = tt
     each_list (d ∷ ds) = (ordinals_of columns f d found are is, each_list ds)
 
-    get_or-replicate_same : (n k : ℕ) → get_or (replicate n 0) k 0 ≡ 0
-    get_or-replicate_same zero k = refl
-    get_or-replicate_same (suc n) zero = refl
-    get_or-replicate_same (suc n) (suc k) = get_or-replicate_same n k
+    same_at : (z n k : ℕ) → get_or (replicate n z) k z ≡ z
+    same_at z zero k = refl
+    same_at z (suc n) zero = refl
+    same_at z (suc n) (suc k) = same_at z n k

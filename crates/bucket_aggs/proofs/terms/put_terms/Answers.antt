@@ -1,4 +1,4 @@
-use Rattle.std.proofs.Common.{◌≡◌, ◌+◌, ◌-◌, ◌<◌, ◌≤◌, ◌^◌, ℕ, List, length, refl, ap, ◌∙◌, arith}
+use Rattle.std.proofs.Common.{◌≡◌, ◌+◌, ◌-◌, ◌<◌, ◌≤◌, ◌^◌, ℕ, List, length, ap, ◌∙◌, arith}
 use Rattle.bucket_aggs.specs.Counts.{AreKeys, count_if, counts_of, term_key, weight}
 use Rattle.bucket_aggs.proofs.Termed.{counts_step}
 use Rattle.bucket_aggs.proofs.terms.put_terms.Goals as goal
@@ -13,7 +13,7 @@ terms-preserved c = (
         arith,
         c.terms.invariant.0 v,
         c.in_ok-put_term.ensures.counts v,
-        counts_step c.args.terms.now c.args.first v c.args.counts.now c.terms.at (length c.args.counts.now) c.index-counts-at.result c.terms-test.true refl c.index-counts-at.is,
+        counts_step c.args.terms.now c.args.first v c.args.counts.now c.terms.at (length c.args.counts.now) c.terms-test.true,
       ),
   λ kind written are. c.in_ok-put_term.ensures.keys kind written (c.terms.invariant.1 kind written are),
 )
