@@ -1,5 +1,5 @@
 -- The answers of forms, by the objects that they hand on.
-use Rattle.std.proofs.Common.{◌≡◌, ◌≢◌, ℕ, zero, suc, ℤ, pos, ◌+◌, ◌<◌, Bool, true, false, ◌&&◌, ◌||◌, cond, List, [], ◌∷◌, ◌++◌, length, map, filter, take, drop, sum_by, Option, Some, None, is_some, refl, sym, ap, subst, ◌∙◌, arith, append_assoc}
+use Rattle.std.proofs.Common.{◌≡◌, ◌≢◌, ℕ, zero, suc, ℤ, pos, ◌+◌, ◌<◌, Bool, true, false, ◌&&◌, ◌||◌, cond, List, [], ◌∷◌, ◌++◌, length, map, filter, take, drop, sum_by, Option, Some, None, is_some, get_or, min, ◌≤◌, refl, sym, ap, subst, ◌∙◌, arith, append_assoc}
 use Rattle.std.specs.Prelude.{IsTrue}
 use Rattle.std.specs.Int.{saturate_signed, w64}
 use Rattle.std.specs.List.{AllByRecursion, flat_map, list_any}
@@ -24,7 +24,7 @@ use Rattle.query_ast.specs.Joined.{roots}
 use Rattle.query_ast.specs.Leaf.{is_one_of, is_text, leaf_holds, terms, terms_of}
 use Rattle.query_ast.specs.Replies.{BucketPart, ReplyPart, ReplyValue, buckets_of, metric, no_buckets, replies_of, several, single}
 use Rattle.query_ast.specs.SortKey.{greatest_value, least_value, total}
-use Rattle.query_ast.specs.Uses.{is_written, uses_of}
+use Rattle.query_ast.specs.Uses.{IsValueOf, is_written, uses_of}
 use Rattle.query_ast.specs.declared.agg.AggForm.{AggForm}
 use Rattle.query_ast.specs.declared.agg.AggForm.TheVariants.{Filter, Nested, ReverseNested, Children, Parent, Terms}
 use Rattle.query_eval.specs.Folds.{paired_by}
@@ -41,7 +41,7 @@ use Rattle.tree_objects.specs.Values.{values}
 use Rattle.tree_objects.specs.declared.field_value.FieldValue.{FieldValue}
 use Rattle.view_objects.specs.Hits.{live_objects}
 use Rattle.view_objects.specs.Values.{values_shown}
-use Rattle.bucket_aggs.specs.Counts.{AreCounts, count_in, flats_of_view, marked_count, rows_ordered}
+use Rattle.bucket_aggs.specs.Counts.{AreCounts, AreKeys, count_in, flats_of_view, marked_count, rows_ordered}
 use Rattle.bucket_aggs.specs.Given.{AreReplies, HaveOwnNumbers, IsAnswer, as_ones, bucket_by, buckets_by, count_by_field, greatest_by, is_given, least_by, more_replies, objects_given, replies_by, single_by, sum_by_field, value_by}
 use Rattle.bucket_aggs.specs.Sums.{IsSummary, numbers_in, values_in}
 use Rattle.bucket_aggs.specs.declared.metrics.Summary.{Summary}
@@ -349,6 +349,33 @@ number_is m view n answer over given number same was = record {
       let live : List Tree = live_trees trees in
       ap (λ (z : ℤ). metric (Some z)) (was.is trees stand own) ∙ same live (objects_given m n live (given live));
 }
+
+-- ---- the first buckets and the others
+
+-- a list is cut no further than it goes
+pub cut_first : {A : Type 0} (xs : List A) (n end : ℕ) → end ≡ min (length xs) n → take end xs ≡ take n xs
+cut_first [] zero end is = let none : end ≡ 0 = omega (arith, is) in rw none refl
+cut_first [] (suc n) end is = let none : end ≡ 0 = omega (arith, is) in rw none refl
+cut_first (x ∷ xs) zero end is = let none : end ≡ 0 = omega (arith, is) in rw none refl
+cut_first (x ∷ xs) (suc n) zero is = absurd (omega (arith, is))
+cut_first {A} (x ∷ xs) (suc n) (suc end) is = ap (λ (l : List A). x ∷ l) (cut_first xs n end (omega (arith, is)))
+
+pub cut_others : {A : Type 0} (xs : List A) (n end : ℕ) → end ≡ min (length xs) n → drop end xs ≡ drop n xs
+cut_others [] zero end is = let none : end ≡ 0 = omega (arith, is) in rw none refl
+cut_others [] (suc n) end is = let none : end ≡ 0 = omega (arith, is) in rw none refl
+cut_others (x ∷ xs) zero end is = let none : end ≡ 0 = omega (arith, is) in rw none refl
+cut_others (x ∷ xs) (suc n) zero is = absurd (omega (arith, is))
+cut_others (x ∷ xs) (suc n) (suc end) is = cut_others xs n end (omega (arith, is))
+
+pub keys_taken : (kind : Kind) (n : ℕ) (rows : List CountRow) → AreKeys kind rows → AreKeys kind (take n rows)
+keys_taken kind zero rows are = tt
+keys_taken kind (suc n) [] are = tt
+keys_taken kind (suc n) (row ∷ rows) are = (are.0, keys_taken kind n rows are.1)
+
+pub key_at : (kind : Kind) (rows : List CountRow) (at : ℕ) (row : CountRow) → AreKeys kind rows → at < length rows → row ≡ get_or rows at row → IsValueOf kind row.key
+key_at kind [] at row are low is = absurd (omega (arith, low))
+key_at kind (x ∷ rows) zero row are low is = subst (λ (r : CountRow). IsValueOf kind r.key) (sym is) are.0.0
+key_at kind (x ∷ rows) (suc at) row are low is = key_at kind rows at row are.1 (omega (arith, low)) is
 
 -- ---- buckets one after the other
 

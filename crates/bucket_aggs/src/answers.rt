@@ -427,9 +427,9 @@ fn mapped_terms(
 {
     documents_show_values();
     let rows = counted(alloc, entries, mapping.kind(field), field, objects)?;
-    let rows = ordered(rows, by_key, descending)?;
-    let size = rows.len().min(size as usize);
-    let (first, others) = rows.as_slice().split_at(size);
+    let sorted = ordered(rows, by_key, descending)?;
+    let end = sorted.len().min(size as usize);
+    let (first, others) = sorted.as_slice().split_at(end);
     let other = sum_of_counts(others)?;
     let buckets = shown(
         alloc, entries, mapping, ordinals, field, first, inner, scope, objects,

@@ -1,13 +1,14 @@
-use Rattle.std.proofs.Common.{◌≡◌, ℕ, ◌<◌, ◌≤◌, ◌+◌, ◌++◌, List, [], ◌∷◌, Option, Some, None, length, map, take, drop, get_or, refl, sym, ap, subst, ◌∙◌, arith}
+use Rattle.std.proofs.Common.{◌≡◌, ℕ, ◌<◌, ◌≤◌, ◌+◌, ◌++◌, List, [], ◌∷◌, Option, Some, None, length, map, take, drop, get_or, rules, sum_by, refl, sym, ap, subst, ◌∙◌, arith}
 use Rattle.block_join.specs.declared.rule.Rule.TheVariants.{Kept}
-use Rattle.mapping.specs.Mapping.{Mapping}
+use Rattle.mapping.specs.Mapping.{Mapping, kind_at}
+use Rattle.mapping_body.specs.declared.kind.Kind.{Kind}
 use Rattle.query_ast.specs.Clause.{Clause, is_among, leaf, on_field}
 use Rattle.query_ast.specs.Clause.View.{clause_of}
 use Rattle.query_ast.specs.Agg.{Agg}
 use Rattle.query_ast.specs.Agg.View.{agg_of}
 use Rattle.query_ast.specs.Definition.{Definition, definitions_of}
-use Rattle.query_ast.specs.Replies.{ReplyPart}
-use Rattle.query_ast.specs.Replies.View.{reply_part, value_of}
+use Rattle.query_ast.specs.Replies.{BucketPart, ReplyPart}
+use Rattle.query_ast.specs.Replies.View.{bucket_part, reply_part, value_of}
 use Rattle.query_ast.specs.declared.bucket.AggReply.{AggReply}
 use Rattle.query_ast.specs.declared.agg.AggForm.TheVariants.{Children, Parent}
 use Rattle.query_eval.specs.Folds.{paired_by}
@@ -16,8 +17,10 @@ use Rattle.query_eval.specs.Nested.{around_by, below_by}
 use Rattle.query_eval.specs.Sides.{by_relation, children_by}
 use Rattle.score_math.specs.Scores.{mode_of}
 use Rattle.score_math.specs.declared.score.ScoreMode.TheVariants.{Max}
-use Rattle.bucket_aggs.specs.Given.{AreReplies, IsAnswer, more_replies, value_by}
-use Rattle.bucket_aggs.proofs.Formed.{children_is, filter_is, nested_is, parent_is, reverse_is, single_is}
+use Rattle.bucket_aggs.specs.Counts.{AreCounts, count_in, flats_of_view, rows_ordered}
+use Rattle.bucket_aggs.specs.Given.{AreReplies, IsAnswer, buckets_by, more_replies, value_by}
+use Rattle.bucket_aggs.specs.declared.rows.CountRow.{CountRow}
+use Rattle.bucket_aggs.proofs.Formed.{children_is, cut_first, cut_others, filter_is, nested_is, parent_is, reverse_is, single_is, terms_is}
 use Rattle.bucket_aggs.proofs.Handed.{Laws}
 use Rattle.bucket_aggs.proofs.answers.+answers.Goals as goal
 
@@ -97,3 +100,22 @@ replies-returns t c = λ given is.
     let ds = definitions_of (map agg_of c.args.aggs.now) in
     let new : List ReplyPart = map reply_part c.put_replies.new.made.items in
     subst (λ (old : List AggReply). IsAnswer m view c.args.scope (more_replies m ds (map reply_part old)) given new) c.new-made.ensures.items (c.in_ok-put_replies.ensures given is)
+
+pub mapped_terms-returns : goal.mapped_terms-returns
+mapped_terms-returns t c = λ given is.
+    let m = c.args.mapping.now in
+    let view = c.args.entries.now in
+    let f : ℕ = c.args.field in
+    let size : ℕ = c.args.size in
+    let ds = definitions_of c.args.inner.now in
+    let rows : List CountRow = c.in_ok-rows.rows.items in
+    let sorted : List CountRow = rows_ordered c.args.by_key c.args.descending rows in
+    let counts : AreCounts (kind_at m f) f (flats_of_view view c.args.objects.now) rows =
+    subst (λ (kind : Kind). AreCounts kind f (flats_of_view view c.args.objects.now) rows) c.kind.ensures c.in_ok-rows.ensures in
+    let first : c.split_at-first.result.0.now ≡ take size sorted = ? in
+    let others : c.split_at-first.result.1.now ≡ drop size sorted = ? in
+    let answered : IsAnswer m view c.args.scope (buckets_by m f ds (take size sorted)) given c.of.result =
+    subst (λ (parts : List BucketPart). IsAnswer m view c.args.scope (buckets_by m f ds (take size sorted)) given parts) (sym c.of.ensures)
+    (subst (λ (l : List CountRow). IsAnswer m view c.args.scope (buckets_by m f ds l) given (map bucket_part c.in_ok-buckets.buckets.items)) first (c.in_ok-buckets.ensures given is)) in
+    terms_is m view c.args.scope f size c.args.by_key c.args.descending ds given c.args.objects.now rows c.of.result c.in_ok-other.other
+    (λ o. c.documents_show_values.ensures.shown m f o c.requires.field.0 c.requires.field.1) is counts (c.in_ok-other.ensures ∙ ap (sum_by count_in) others) answered
