@@ -1,6 +1,6 @@
 //! Keys with their counts: put together by key, and in the order that is asked for.
 
-ghost use Rattle.std.specs.Prelude.{◌≡◌, true, false, sum_by, IfOk, OnOk};
+ghost use Rattle.std.specs.Prelude.{◌≡◌, true, false, reverse, sum_by, IfOk, OnOk};
 ghost use Rattle.mapping_body.specs.declared.kind.Kind.{Kind};
 ghost use Rattle.query_ast.specs.Compare.{in_order, value_cmp};
 ghost use Rattle.tree_objects.specs.declared.field_value.FieldValue.{FieldValue as Value};
@@ -101,7 +101,7 @@ pub(crate) fn ordered(
 {
     if by_key {
         if descending {
-            rows.reverse();
+            turn(&mut rows);
         }
         return Ok(rows);
     }
@@ -111,6 +111,14 @@ pub(crate) fn ordered(
         fewest_first(&mut rows)?;
     }
     Ok(rows)
+}
+
+/// Turns rows round.
+fn turn(rows: &mut Vec<CountRow>)
+    ensures order { rows.new.items ≡ reverse rows.old.items }
+    ensures keys { (kind : Kind) → AreKeys kind rows.old.items → AreKeys kind rows.new.items }
+{
+    rows.reverse();
 }
 
 /// Puts those with the greatest counts first; of equal counts each stays where it stood.
