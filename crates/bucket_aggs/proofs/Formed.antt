@@ -1,10 +1,10 @@
 -- The answers of forms, by the objects that they hand on.
-use Rattle.std.proofs.Common.{◌≡◌, ◌≢◌, ℕ, zero, suc, ℤ, pos, ◌+◌, ◌<◌, Bool, true, false, ◌&&◌, ◌||◌, cond, List, [], ◌∷◌, ◌++◌, length, map, filter, take, drop, sum_by, Option, Some, None, is_some, get_or, min, ◌≤◌, refl, sym, ap, subst, ◌∙◌, arith, append_assoc}
+use Rattle.std.proofs.Common.{◌≡◌, ◌≢◌, ℕ, zero, suc, ℤ, pos, ◌+◌, ◌<◌, Bool, true, false, ◌&&◌, ◌||◌, cond, List, [], ◌∷◌, ◌++◌, length, map, filter, take, drop, sum_by, Option, Some, None, is_some, get_or, min, ◌-◌, ◌≤◌, refl, sym, ap, subst, ◌∙◌, arith, append_assoc}
 use Rattle.std.specs.Prelude.{IsTrue}
 use Rattle.std.specs.Int.{saturate_signed, w64}
 use Rattle.std.specs.List.{AllByRecursion, flat_map, list_any}
 use Rattle.std.specs.List.Sorted.{IsPermutation}
-use Rattle.std.proofs.lemmas.List.{length-append, map-append}
+use Rattle.std.proofs.lemmas.List.{length-append, map-append, take_all}
 use Rattle.std.proofs.lemmas.List.Sorted.{length_permutation}
 use Rattle.std.proofs.lemmas.List.Sums.{sum_by-cons}
 use Rattle.block_join.specs.Merge.{put_together}
@@ -18,7 +18,9 @@ use Rattle.query_ast.specs.Agg.{Agg}
 use Rattle.query_ast.specs.Buckets.{all_shown, bucket_of, bucket_replies, group_of, groups_of, has_value, number_if, ordered, several_of, single_of}
 use Rattle.query_ast.specs.Clause.{Clause, is_among, leaf, match_all, on_field}
 use Rattle.query_ast.specs.Compare.{each_once, in_order, is_less, is_same_value, value_cmp}
-use Rattle.query_ast.specs.Definition.{Definition, Definitions, definition, definitions_of, no_definitions, with_definition}
+use Rattle.query_ast.specs.Agg.View.{agg_of}
+use Rattle.query_ast.specs.Definition.{Definition, Definitions, definition, definition_size, definitions_of, no_definitions, with_definition}
+use Rattle.query_ast.specs.declared.agg.AggDef.{AggDef}
 use Rattle.query_ast.specs.Hit.{hit, those_hit}
 use Rattle.query_ast.specs.Joined.{roots}
 use Rattle.query_ast.specs.Leaf.{is_one_of, is_text, leaf_holds, terms, terms_of}
@@ -42,7 +44,7 @@ use Rattle.tree_objects.specs.declared.field_value.FieldValue.{FieldValue}
 use Rattle.view_objects.specs.Hits.{live_objects}
 use Rattle.view_objects.specs.Values.{values_shown}
 use Rattle.bucket_aggs.specs.Counts.{AreCounts, AreKeys, count_in, flats_of_view, marked_count, rows_ordered}
-use Rattle.bucket_aggs.specs.Given.{AreReplies, HaveOwnNumbers, IsAnswer, as_ones, bucket_by, buckets_by, count_by_field, greatest_by, is_given, least_by, more_replies, objects_given, replies_by, single_by, sum_by_field, value_by}
+use Rattle.bucket_aggs.specs.Given.{AreReplies, HaveOwnNumbers, IsAnswer, as_ones, bucket_by, buckets_by, count_by_field, greatest_by, is_given, least_by, more_replies, objects_given, replies_by, reply_by, single_by, sum_by_field, value_by}
 use Rattle.bucket_aggs.specs.Sums.{IsSummary, numbers_in, values_in}
 use Rattle.bucket_aggs.specs.declared.metrics.Summary.{Summary}
 use Rattle.bucket_aggs.specs.declared.rows.CountRow.{CountRow}
@@ -194,17 +196,38 @@ nothing_behind (p ∷ parts) = ap (λ (l : List ReplyPart). p ∷ l) (nothing_be
 pub replies_none : (m : Mapping) (view : List EntryState) (n : ℕ) (given : Given) (old : List ReplyPart) → IsAnswer m view n (more_replies m no_definitions old) given old
 replies_none m view n given old = record { is = λ trees stand own. sym (nothing_behind old) }
 
-pub replies_more : (m : Mapping) (view : List EntryState) (n : ℕ) (given : Given) (agg : Agg) (ds : Definitions Agg) (rest : Definitions Agg) (old new : List ReplyPart) (value : ReplyValue)
-    → IsAnswer m view n (value_by m agg.form ds) given value → IsAnswer m view n (more_replies m rest (old ++ record { name = agg.name; value = value } ∷ [])) given new
-    → IsAnswer m view n (more_replies m (with_definition (definition agg ds) rest) old) given new
-replies_more m view n given agg ds rest old new value first others = record {
+pub replies_more : (m : Mapping) (view : List EntryState) (n : ℕ) (given : Given) (d : Definition Agg) (rest : Definitions Agg) (old new : List ReplyPart) (part : ReplyPart)
+    → IsAnswer m view n (reply_by m d) given part → IsAnswer m view n (more_replies m rest (old ++ part ∷ [])) given new → IsAnswer m view n (more_replies m (with_definition d rest) old) given new
+replies_more m view n given d rest old new part first others = record {
   is = λ trees stand own.
       let live : List Tree = live_trees trees in
       let os : List Object = objects_given m n live (given live) in
       others.is trees stand own
-      ∙ append_assoc old (record { name = agg.name; value = value } ∷ []) (bucket_replies m live rest os)
-      ∙ ap (λ (v : ReplyValue). old ++ (record { name = agg.name; value = v } ∷ bucket_replies m live rest os)) (first.is trees stand own);
+      ∙ append_assoc old (part ∷ []) (bucket_replies m live rest os)
+      ∙ ap (λ (p : ReplyPart). old ++ (p ∷ bucket_replies m live rest os)) (first.is trees stand own);
 }
+
+pub reply_is : (m : Mapping) (view : List EntryState) (n : ℕ) (given : Given) (agg : Agg) (ds : Definitions Agg) (name : List ℕ) (value : ReplyValue) → name ≡ agg.name → IsAnswer m view n (value_by m agg.form ds) given value
+    → IsAnswer m view n (reply_by m (definition agg ds)) given (record { name = name; value = value })
+reply_is m view n given agg ds name value named answered = record {
+  is = λ trees stand own.
+      ap (λ (s : List ℕ). record { name = s; value = value }) named
+      ∙ ap (λ (v : ReplyValue). record { name = agg.name; value = v }) (answered.is trees stand own);
+}
+
+-- the first of some definitions and the others
+pub definitions_parts : (defs : List AggDef) (d : AggDef) → 0 < length defs → d ≡ get_or defs 0 d → definitions_of (map agg_of defs) ≡ with_definition (agg_of d) (definitions_of (map agg_of (take (length defs - 1) (drop 1 defs))))
+definitions_parts [] d some is = absurd (omega (arith, some))
+definitions_parts (x ∷ defs) d some is =
+    ap (λ (y : AggDef). with_definition (agg_of y) (definitions_of (map agg_of defs))) (sym is)
+    ∙ ap (λ (l : List AggDef). with_definition (agg_of d) (definitions_of (map agg_of l))) (sym (take_all (length (x ∷ defs) - 1) defs (omega arith)))
+
+pub definition_some : (d : Definition Agg) → 0 < definition_size d
+definition_some (definition agg ds) = omega arith
+
+pub none_inside : (defs : List AggDef) (ds : List (Definition Agg)) → map agg_of defs ≡ ds → length defs ≡ 0 → definitions_of ds ≡ no_definitions
+none_inside [] ds is none = ap definitions_of (sym is)
+none_inside (x ∷ defs) ds is none = absurd (omega (arith, none))
 
 -- ---- an unmapped field
 

@@ -5,8 +5,8 @@ use Rattle.std.specs.List.{AllPairs}
 use Rattle.flattener.specs.StandsFor.{Marked, ViewStandsFor}
 use Rattle.mapping.specs.Mapping.{Mapping}
 use Rattle.query_ast.specs.Agg.{Agg}
-use Rattle.query_ast.specs.Buckets.{all_shown, bucket_replies, has_value, number_if, single_of, value_over}
-use Rattle.query_ast.specs.Definition.{Definitions}
+use Rattle.query_ast.specs.Buckets.{all_shown, bucket_replies, bucket_reply, has_value, number_if, single_of, value_over}
+use Rattle.query_ast.specs.Definition.{Definition, Definitions}
 use Rattle.query_ast.specs.Replies.{BucketPart, ReplyPart, ReplyValue, replies_of}
 use Rattle.query_ast.specs.SortKey.{greatest_value, least_value, total}
 use Rattle.query_ast.specs.declared.agg.AggForm.{AggForm}
@@ -36,7 +36,10 @@ pub record IsAnswer {A : Type 0} (m : Mapping) (view : List EntryState) (n : ℕ
   pub is : (trees : List (List (Marked Tree))) → ViewStandsFor m view trees → HaveOwnNumbers (live_trees trees)
       → value ≡ answer (live_trees trees) (objects_given m n (live_trees trees) (given (live_trees trees)))
 
--- the answers to definitions
+-- the answer to a definition, and those to definitions
+abbrev pub reply_by : Mapping → Definition Agg → List Tree → List Object → ReplyPart
+reply_by m d live objects = bucket_reply m live d objects
+
 abbrev pub replies_by : Mapping → Definitions Agg → List Tree → List Object → List ReplyPart
 replies_by m ds live objects = bucket_replies m live ds objects
 

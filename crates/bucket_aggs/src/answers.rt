@@ -4,7 +4,7 @@ ghost use Rattle.std.specs.Prelude.{◌≡◌, ◌<◌, ◌≤◌, ◌++◌, ℕ
 ghost use Rattle.join_ordinals.specs.Ordinals.{AreOrdinals};
 ghost use Rattle.query_ast.specs.Agg.View.{agg_of};
 ghost use Rattle.query_ast.specs.Definition.{definition, definitions_of, no_definitions};
-ghost use Rattle.query_ast.specs.Joins.{form_joins, joins, some_agg_joins};
+ghost use Rattle.query_ast.specs.Joins.{agg_joins, form_joins, joins, some_agg_joins};
 ghost use Rattle.query_ast.specs.Replies.{no_buckets as no_bucket, several};
 ghost use Rattle.query_ast.specs.Clause.View.{clause_of};
 ghost use Rattle.block_join.specs.declared.rule.Rule.{Rule};
@@ -18,7 +18,7 @@ ghost use Rattle.query_eval.specs.Found.{AreLong, IsSeen, score_by};
 ghost use Rattle.tree_objects.specs.Object.{Object};
 ghost use Rattle.tree_objects.specs.Tree.{Tree};
 ghost use Rattle.bucket_aggs.specs.Counts.{AreKeys};
-ghost use Rattle.bucket_aggs.specs.Given.{AreReplies, IsAnswer, bucket_by, buckets_by, count_by_field, greatest_by, least_by, more_replies, single_by, sum_by_field, value_by};
+ghost use Rattle.bucket_aggs.specs.Given.{AreReplies, IsAnswer, bucket_by, buckets_by, count_by_field, greatest_by, least_by, more_replies, reply_by, single_by, sum_by_field, value_by};
 
 use crate::NoMemory;
 use crate::metrics::{summed, value_count};
@@ -92,16 +92,16 @@ fn replies(
     requires long { AreLong entries.now objects.now }
     ensures { (given : List Tree → Object → Option ℕ) → IsSeen mapping.now entries.now scope given objects.now → IfOk result (λ made. AreReplies mapping.now entries.now scope (definitions_of (map agg_of aggs.now)) given (map reply_part made.items)) }
 {
-    let mut made = Vec::new(alloc);
-    put_replies(
-        alloc, entries, mapping, ordinals, aggs, scope, objects, &mut made,
-    )?;
-    Ok(made)
+    let none = Vec::new(alloc);
+    Ok(further(
+        alloc, entries, mapping, ordinals, aggs, scope, objects, none,
+    )?)
 }
 
-/// Adds the answers to a list of definitions.
+/// The answers to a list of definitions, behind others.
 #[cycle(answers)]
-fn put_replies(
+#[tactic(auto, using(crate::proofs::Formed::definition_some, crate::proofs::Formed::replies_none))]
+fn further(
     alloc: Global,
     entries: &[Entry],
     mapping: &Mapping,
@@ -109,26 +109,49 @@ fn put_replies(
     aggs: &[AggDef],
     scope: u32,
     objects: &Matches,
-    made: &mut Vec<AggReply>,
-) -> Result<(), NoMemory>
+    mut made: Vec<AggReply>,
+) -> Result<Vec<AggReply>, NoMemory>
     requires resolved { AreAggDefinitions mapping.now scope (definitions_of (map agg_of aggs.now)) }
     requires joined { some_agg_joins (definitions_of (map agg_of aggs.now)) ≡ true → AreOrdinals entries.now ordinals.now }
     requires long { AreLong entries.now objects.now }
-    ensures { (given : List Tree → Object → Option ℕ) → IsSeen mapping.now entries.now scope given objects.now → OnOk result (IsAnswer mapping.now entries.now scope (more_replies mapping.now (definitions_of (map agg_of aggs.now)) (map reply_part made.old.items)) given (map reply_part made.new.items)) }
+    ensures { (given : List Tree → Object → Option ℕ) → IsSeen mapping.now entries.now scope given objects.now → IfOk result (λ all. IsAnswer mapping.now entries.now scope (more_replies mapping.now (definitions_of (map agg_of aggs.now)) (map reply_part made.items)) given (map reply_part all.items)) }
 {
     match aggs {
-        [] => Ok(()),
+        [] => Ok(made),
         [def, rest @ ..] => {
-            let value = value(
-                alloc, entries, mapping, ordinals, &def.form, &def.inner, scope, objects,
-            )?;
-            let name = Bytes::of(Vec::from_slice(alloc, def.name.as_slice())?);
-            made.push(AggReply { name, value })?;
-            put_replies(
+            let own = reply(alloc, entries, mapping, ordinals, def, scope, objects)?;
+            made.push(own)?;
+            Ok(further(
                 alloc, entries, mapping, ordinals, rest, scope, objects, made,
-            )
+            )?)
         }
     }
+}
+
+/// The answer to one definition.
+#[cycle(answers)]
+fn reply(
+    alloc: Global,
+    entries: &[Entry],
+    mapping: &Mapping,
+    ordinals: &JoinOrdinals,
+    def: &AggDef,
+    scope: u32,
+    objects: &Matches,
+) -> Result<AggReply, NoMemory>
+    requires resolved { IsAggDefinition mapping.now scope (agg_of def.now) }
+    requires joined { agg_joins (agg_of def.now) ≡ true → AreOrdinals entries.now ordinals.now }
+    requires long { AreLong entries.now objects.now }
+    ensures { (given : List Tree → Object → Option ℕ) → IsSeen mapping.now entries.now scope given objects.now → IfOk result (λ reply. IsAnswer mapping.now entries.now scope (reply_by mapping.now (agg_of def.now)) given (reply_part reply)) }
+{
+    let answer = value(
+        alloc, entries, mapping, ordinals, &def.form, &def.inner, scope, objects,
+    )?;
+    let name = Bytes::of(Vec::from_slice(alloc, def.name.as_slice())?);
+    Ok(AggReply {
+        name,
+        value: answer,
+    })
 }
 
 /// The answer to one definition, but for its name.
@@ -499,9 +522,10 @@ fn bucket(
             inner: AggReplies::of(Vec::new(alloc)),
         });
     }
+    let value = copied(alloc, &row.key)?;
     let query = Query::Term {
         field: Some(field),
-        value: copied(alloc, &row.key)?,
+        value,
         boost: 1,
     };
     let those = filtered(alloc, entries, mapping, ordinals, &query, scope, objects)?;
@@ -528,7 +552,10 @@ fn least(entries: &[Entry], field: Option<u32>, objects: &Matches) -> Result<Opt
 {
     documents_show_values();
     match field {
-        Some(field) => Ok(summed(entries, field, objects)?.least),
+        Some(field) => {
+            let sums = summed(entries, field, objects)?;
+            Ok(sums.least)
+        }
         None => Ok(None),
     }
 }
@@ -544,7 +571,10 @@ fn greatest(
 {
     documents_show_values();
     match field {
-        Some(field) => Ok(summed(entries, field, objects)?.greatest),
+        Some(field) => {
+            let sums = summed(entries, field, objects)?;
+            Ok(sums.greatest)
+        }
         None => Ok(None),
     }
 }
@@ -556,7 +586,10 @@ fn sum(entries: &[Entry], field: Option<u32>, objects: &Matches) -> Result<i64, 
 {
     documents_show_values();
     match field {
-        Some(field) => Ok(summed(entries, field, objects)?.sum()),
+        Some(field) => {
+            let sums = summed(entries, field, objects)?;
+            Ok(sums.sum())
+        }
         None => Ok(0),
     }
 }

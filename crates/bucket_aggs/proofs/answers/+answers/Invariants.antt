@@ -1,6 +1,6 @@
 use Rattle.std.proofs.Common.{◌≡◌, ◌+◌, ◌*◌, ℕ, List, Option, map, take}
 use Rattle.query_ast.specs.Agg.View.{agg_of}
-use Rattle.query_ast.specs.Definition.{definitions_of, definitions_size}
+use Rattle.query_ast.specs.Definition.{definition_size, definitions_of, definitions_size}
 use Rattle.query_ast.specs.Replies.View.{bucket_part}
 use Rattle.query_eval.specs.Found.{IsSeen}
 use Rattle.tree_objects.specs.Object.{Object}
@@ -8,11 +8,14 @@ use Rattle.tree_objects.specs.Tree.{Tree}
 use Rattle.bucket_aggs.specs.Given.{IsAnswer, buckets_by}
 use Rattle.bucket_aggs.proofs.answers.+answers.Given as goal
 
-abbrev pub decreases-put_replies : goal.decreases-put_replies
-decreases-put_replies l = 10 * definitions_size (definitions_of (map agg_of l.aggs.now)) + 1
+abbrev pub decreases-further : goal.decreases-further
+decreases-further l = 10 * definitions_size (definitions_of (map agg_of l.aggs.now)) + 1
 
 abbrev pub decreases-replies : goal.decreases-replies
 decreases-replies l = 10 * definitions_size (definitions_of (map agg_of l.aggs.now)) + 2
+
+abbrev pub decreases-reply : goal.decreases-reply
+decreases-reply l = 10 * definition_size (agg_of l.def.now)
 
 abbrev pub decreases-single : goal.decreases-single
 decreases-single l = 10 * definitions_size (definitions_of l.inner.now) + 3
@@ -45,7 +48,7 @@ abbrev pub decreases-terms : goal.decreases-terms
 decreases-terms l = 10 * definitions_size (definitions_of l.inner.now) + 6
 
 abbrev pub decreases-value : goal.decreases-value
-decreases-value l = 10 * (1 + definitions_size (definitions_of l.inner.now))
+decreases-value l = 10 * definitions_size (definitions_of l.inner.now) + 9
 
 abbrev pub invariant-rows : goal.invariant-rows
 invariant-rows l =
