@@ -1,6 +1,6 @@
 use Rattle.std.proofs.lemmas.Bool.{eqb-true}
 use Rattle.std.proofs.lemmas.List.{map-append, take_all, take_more}
-use Rattle.std.proofs.Common.{◌≡◌, ℕ, ◌<◌, ◌≤◌, ◌+◌, ◌-◌, ◌++◌, List, [], ◌∷◌, Option, Some, None, length, map, take, drop, get_or, rules, sum_by, refl, sym, ap, subst, ◌∙◌, arith}
+use Rattle.std.proofs.Common.{◌≡◌, ℕ, ◌<◌, ◌≤◌, ◌+◌, ◌-◌, ◌++◌, List, [], ◌∷◌, Option, Some, None, length, map, min, take, drop, get_or, sum_by, refl, sym, ap, subst, ◌∙◌, arith}
 use Rattle.block_join.specs.declared.rule.Rule.TheVariants.{Kept}
 use Rattle.mapping.specs.Mapping.{Mapping, kind_at}
 use Rattle.mapping_body.specs.declared.kind.Kind.{Kind}
@@ -24,11 +24,11 @@ use Rattle.query_eval.specs.Nested.{around_by, below_by}
 use Rattle.query_eval.specs.Sides.{by_relation, children_by}
 use Rattle.score_math.specs.Scores.{mode_of}
 use Rattle.score_math.specs.declared.score.ScoreMode.TheVariants.{Max}
-use Rattle.bucket_aggs.specs.Counts.{AreCounts, count_in, flats_of_view, rows_ordered}
+use Rattle.bucket_aggs.specs.Counts.{AreCounts, AreKeys, count_in, flats_of_view, rows_ordered}
 use Rattle.tree_objects.specs.declared.field_value.FieldValue.{FieldValue}
 use Rattle.bucket_aggs.specs.Given.{AreReplies, IsAnswer, bucket_by, buckets_by, count_by_field, greatest_by, least_by, more_replies, replies_by, sum_by_field, value_by}
 use Rattle.bucket_aggs.specs.declared.rows.CountRow.{CountRow}
-use Rattle.bucket_aggs.proofs.Formed.{bucket_alone, bucket_is, buckets_more, children_is, cut_first, cut_others, definitions_parts, filter_is, key_at, metric_is, nested_is, no_buckets_yet, no_terms, no_text, none_inside, number_is, parent_is, replies_more, reply_is, reverse_is, single_is, sorted_valued, terms_is}
+use Rattle.bucket_aggs.proofs.Formed.{bucket_alone, bucket_is, buckets_more, children_is, cut_first, cut_others, definitions_parts, filter_is, key_at, keys_taken, metric_is, nested_is, no_buckets_yet, no_terms, no_text, none_inside, number_is, parent_is, replies_more, reply_is, reverse_is, single_is, sorted_valued, terms_is}
 use Rattle.bucket_aggs.proofs.Handed.{Laws}
 use Rattle.bucket_aggs.proofs.answers.+answers.Goals as goal
 
@@ -220,8 +220,10 @@ mapped_terms-returns t c = λ given is.
     let sorted : List CountRow = rows_ordered c.args.by_key c.args.descending rows in
     let counts : AreCounts (kind_at m f) f (flats_of_view view c.args.objects.now) rows =
     subst (λ (kind : Kind). AreCounts kind f (flats_of_view view c.args.objects.now) rows) c.kind.ensures c.in_ok-rows.ensures in
-    let first : c.split_at-first.result.0.now ≡ take size sorted = ? in
-    let others : c.split_at-first.result.1.now ≡ drop size sorted = ? in
+    let whole : c.as_slice.result.now ≡ sorted = c.as_slice.ensures.value ∙ c.in_ok-sorted.ensures.order in
+    let cut : c.min-end.result ≡ min (length sorted) size = omega (arith, c.min-end.ensures, c.len.ensures, c.as_slice.ensures.len, ap (λ (l : List CountRow). length l) whole) in
+    let first : c.split_at-first.result.0.now ≡ take size sorted = c.split_at-first.ensures.front ∙ ap (take c.min-end.result) whole ∙ cut_first sorted size c.min-end.result cut in
+    let others : c.split_at-first.result.1.now ≡ drop size sorted = c.split_at-first.ensures.back ∙ ap (drop c.min-end.result) whole ∙ cut_others sorted size c.min-end.result cut in
     let answered : IsAnswer m view c.args.scope (buckets_by m f ds (take size sorted)) given c.of.result =
     subst (λ (parts : List BucketPart). IsAnswer m view c.args.scope (buckets_by m f ds (take size sorted)) given parts) (sym c.of.ensures)
     (subst (λ (l : List CountRow). IsAnswer m view c.args.scope (buckets_by m f ds l) given (map bucket_part c.in_ok-buckets.buckets.items)) first (c.in_ok-buckets.ensures given is)) in
@@ -266,3 +268,10 @@ value-returns-in_ok-count-in-ValueCount t c = λ given is.
     let field : Option ℕ = c.in-ValueCount.field.now in
     subst (λ (form : AggForm). IsAnswer m view c.args.scope (value_by m form ds) given (metric (Some c.in_ok-count-in-ValueCount.field-0))) (sym c.in-ValueCount.is)
     (number_is m view c.args.scope (count_by_field m field) (value_by m (ValueCount field) ds) given c.in_ok-count-in-ValueCount.field-0 (λ live objects. refl) (c.in_ok-count-in-ValueCount.ensures c.args.scope given is))
+
+pub mapped_terms-shown-requires-clause-keys : goal.mapped_terms-shown-requires-clause-keys
+mapped_terms-shown-requires-clause-keys t c =
+    let kind = kind_at c.args.mapping.now c.args.field in
+    let counts : AreCounts kind c.args.field (flats_of_view c.args.entries.now c.args.objects.now) c.in_ok-rows.rows.items =
+    subst (λ (k : Kind). AreCounts k c.args.field (flats_of_view c.args.entries.now c.args.objects.now) c.in_ok-rows.rows.items) c.kind.ensures c.in_ok-rows.ensures in
+    subst (AreKeys kind) (sym (c.split_at-first.ensures.front ∙ ap (take c.min-end.result) c.as_slice.ensures.value)) (keys_taken kind c.min-end.result c.in_ok-sorted.sorted.items (c.in_ok-sorted.ensures.keys kind counts.keys))
