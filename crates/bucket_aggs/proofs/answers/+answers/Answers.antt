@@ -236,9 +236,9 @@ value-returns-in_ok-least-in-Min t c = λ given is.
     let view = c.args.entries.now in
     let ds = definitions_of c.args.inner.now in
     let field : Option ℕ = c.in-Min.field.now in
-    let use = (subst (λ (form : AggForm). IsForm m c.args.scope form ds) c.in-Min.is c.requires.form).0 in
+    let asked = (subst (λ (form : AggForm). IsForm m c.args.scope form ds) c.in-Min.is c.requires.form).0 in
     subst (λ (form : AggForm). IsAnswer m view c.args.scope (value_by m form ds) given (metric c.in_ok-least-in-Min.field-0)) (sym c.in-Min.is)
-    (metric_is m view c.args.scope (least_by m field) (value_by m (MinOf field) ds) given c.in_ok-least-in-Min.field-0 (λ live objects. refl) (c.in_ok-least-in-Min.ensures m c.args.scope given use is))
+    (metric_is m view c.args.scope (least_by m field) (value_by m (MinOf field) ds) given c.in_ok-least-in-Min.field-0 (λ live objects. refl) (c.in_ok-least-in-Min.ensures m c.args.scope given asked is))
 
 pub value-returns-in_ok-greatest-in-Max : goal.value-returns-in_ok-greatest-in-Max
 value-returns-in_ok-greatest-in-Max t c = λ given is.
@@ -246,9 +246,9 @@ value-returns-in_ok-greatest-in-Max t c = λ given is.
     let view = c.args.entries.now in
     let ds = definitions_of c.args.inner.now in
     let field : Option ℕ = c.in-Max.field.now in
-    let use = (subst (λ (form : AggForm). IsForm m c.args.scope form ds) c.in-Max.is c.requires.form).0 in
+    let asked = (subst (λ (form : AggForm). IsForm m c.args.scope form ds) c.in-Max.is c.requires.form).0 in
     subst (λ (form : AggForm). IsAnswer m view c.args.scope (value_by m form ds) given (metric c.in_ok-greatest-in-Max.field-0)) (sym c.in-Max.is)
-    (metric_is m view c.args.scope (greatest_by m field) (value_by m (MaxOf field) ds) given c.in_ok-greatest-in-Max.field-0 (λ live objects. refl) (c.in_ok-greatest-in-Max.ensures m c.args.scope given use is))
+    (metric_is m view c.args.scope (greatest_by m field) (value_by m (MaxOf field) ds) given c.in_ok-greatest-in-Max.field-0 (λ live objects. refl) (c.in_ok-greatest-in-Max.ensures m c.args.scope given asked is))
 
 pub value-returns-in_ok-sum-in-Sum : goal.value-returns-in_ok-sum-in-Sum
 value-returns-in_ok-sum-in-Sum t c = λ given is.
@@ -256,9 +256,9 @@ value-returns-in_ok-sum-in-Sum t c = λ given is.
     let view = c.args.entries.now in
     let ds = definitions_of c.args.inner.now in
     let field : Option ℕ = c.in-Sum.field.now in
-    let use = (subst (λ (form : AggForm). IsForm m c.args.scope form ds) c.in-Sum.is c.requires.form).0 in
+    let asked = (subst (λ (form : AggForm). IsForm m c.args.scope form ds) c.in-Sum.is c.requires.form).0 in
     subst (λ (form : AggForm). IsAnswer m view c.args.scope (value_by m form ds) given (metric (Some c.in_ok-sum-in-Sum.field-0))) (sym c.in-Sum.is)
-    (number_is m view c.args.scope (sum_by_field m field) (value_by m (SumOf field) ds) given c.in_ok-sum-in-Sum.field-0 (λ live objects. refl) (c.in_ok-sum-in-Sum.ensures m c.args.scope given use is))
+    (number_is m view c.args.scope (sum_by_field m field) (value_by m (SumOf field) ds) given c.in_ok-sum-in-Sum.field-0 (λ live objects. refl) (c.in_ok-sum-in-Sum.ensures m c.args.scope given asked is))
 
 pub value-returns-in_ok-count-in-ValueCount : goal.value-returns-in_ok-count-in-ValueCount
 value-returns-in_ok-count-in-ValueCount t c = λ given is.
