@@ -235,10 +235,16 @@ fn hitting(
     requires long { AreLong entries.now objects.now }
     ensures { (given : List Tree → Object → Option ℕ) → IsSeen mapping.now entries.now scope given objects.now → IfOk result (λ value. IsAnswer mapping.now entries.now scope (value_by mapping.now (AggForm.Filter query.now) (definitions_of inner.now)) given (value_of value)) }
 {
-    let those = filtered(alloc, entries, mapping, ordinals, query.get(), scope, objects)?;
-    Ok(single(
-        alloc, entries, mapping, ordinals, inner, scope, &those,
-    )?)
+    let those = filtered(
+        alloc,
+        entries,
+        mapping,
+        ordinals,
+        query.get(),
+        scope,
+        objects,
+    )?;
+    Ok(single(alloc, entries, mapping, ordinals, inner, scope, &those)?)
 }
 
 /// `nested`: the objects of a path inside them.
@@ -263,9 +269,7 @@ fn inside(
     objects_are_parted();
     let _scopes = mapping.scope_count();
     let those = downs(alloc, entries, objects, scope, path)?;
-    Ok(single(
-        alloc, entries, mapping, ordinals, inner, path, &those,
-    )?)
+    Ok(single(alloc, entries, mapping, ordinals, inner, path, &those)?)
 }
 
 /// `reverse_nested`: the objects of a path around them, each once.
@@ -290,9 +294,7 @@ fn around(
     objects_are_parted();
     let _scopes = mapping.scope_count();
     let those = ups(alloc, entries, objects, path, ScoreMode::Max)?;
-    Ok(single(
-        alloc, entries, mapping, ordinals, inner, path, &those,
-    )?)
+    Ok(single(alloc, entries, mapping, ordinals, inner, path, &those)?)
 }
 
 /// `children`: the child trees of the roots, by this relation.

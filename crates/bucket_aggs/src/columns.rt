@@ -77,17 +77,12 @@ pub(crate) fn is_text(kind: Kind) -> bool
 {
     match kind {
         Kind::Text | Kind::Keyword => true,
-        Kind::Long
-        | Kind::Boolean
-        | Kind::Date
-        | Kind::Object
-        | Kind::Nested
-        | Kind::Join => false,
+        Kind::Long | Kind::Boolean | Kind::Date | Kind::Object | Kind::Nested | Kind::Join => false,
     }
 }
 
 /// Whether a document is in a set; one that isn't there is in none.
-pub(crate) fn is_in(set: &BitSet, doc: u32) -> bool
+fn is_in(set: &BitSet, doc: u32) -> bool
     ensures { result ≡ slice_index_or set.now doc false }
 {
     doc < set.len() && set.has(doc)
