@@ -1,6 +1,6 @@
 //! The answers to definitions of buckets.
 
-ghost use Rattle.std.specs.Prelude.{◌≡◌, ◌<◌, ◌≤◌, ◌++◌, ℕ, true, List, [], ◌∷◌, Option, Some, None, length, map, IfOk, OnOk, IsTrue};
+ghost use Rattle.std.specs.Prelude.{◌≡◌, ◌<◌, ◌≤◌, ◌++◌, ℕ, true, List, [], ◌∷◌, Option, Some, None, map, pos, IfOk};
 ghost use Rattle.join_ordinals.specs.Ordinals.{AreOrdinals};
 ghost use Rattle.query_ast.specs.Agg.View.{agg_of};
 ghost use Rattle.query_ast.specs.Definition.{definition, definitions_of, no_definitions};
@@ -611,12 +611,19 @@ fn count(
     match field {
         Some(field) => {
             let count = value_count(entries, mapping.kind(field), field, objects)?;
-            if count > i64::MAX as u64 {
-                Err(NoMemory)
-            } else {
-                Ok(count as i64)
-            }
+            let number = as_number(count)?;
+            Ok(number)
         }
         None => Ok(0),
     }
+}
+
+/// A count as a number. `NoMemory` where it has more than 63 bits.
+fn as_number(count: u64) -> Result<i64, NoMemory>
+    ensures { IfOk result (λ number. number ≡ pos count) }
+{
+    if count > i64::MAX as u64 {
+        return Err(NoMemory);
+    }
+    Ok(count as i64)
 }
