@@ -1,7 +1,7 @@
 -- Different objects: of runs of the same ones each is taken once.
 use Rattle.std.proofs.Common.{◌≡◌, ◌≢◌, ℕ, zero, suc, ◌+◌, ◌==◌, ◌<◌, ◌≤◌, Bool, true, false, ◌&&◌, ◌||◌, cond, List, [], ◌∷◌, ◌++◌, length, map, filter, get_or, refl, sym, ap, subst, ◌∙◌, arith}
 use Rattle.std.specs.List.{AllByRecursion, AllPairs, flat_map, list_any}
-use Rattle.std.proofs.lemmas.Bool.{and_parts, eqb-true, false≢true}
+use Rattle.std.proofs.lemmas.Bool.{and_parts, eq-eqb, eqb-true, false≢true}
 use Rattle.query_ast.specs.Buckets.{is_same_object}
 use Rattle.query_ast.specs.Compare.{each_once, each_once_but}
 use Rattle.tree_json.specs.Value.{JsonValue}
@@ -89,8 +89,8 @@ module _ {A : Type 0} (same : A → A → Bool) where
 -- ---- objects
 
 pub same_itself : (o : Object) → is_same_object o o ≡ true
-same_itself (root t) = grind arith
-same_itself (inside o n k v) = let own : is_same_object o o ≡ true = same_itself o in rw own (grind arith)
+same_itself (root t) = eq-eqb t.number t.number refl
+same_itself (inside o n k v) = rw (same_itself o, eq-eqb n n refl, eq-eqb k k refl) refl
 
 -- one object is at one place of trees with one number
 pub same_number : (a b : Object) → is_same_object a b ≡ true → (tree_of a).number ≡ (tree_of b).number

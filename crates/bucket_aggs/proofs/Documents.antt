@@ -25,6 +25,7 @@ use Rattle.view_objects.specs.Hits.{live_objects}
 use Rattle.bucket_aggs.specs.Counts.{documents_in, flats_in, flats_of_view, marked_count}
 use Rattle.bucket_aggs.specs.Given.{is_given, objects_given}
 use Rattle.bucket_aggs.proofs.Lists.{by_test}
+use Rattle.bucket_aggs.proofs.Rowed.{count_cons}
 
 abbrev pub Scores : Type 0
 Scores = List (Option ℕ)
@@ -185,15 +186,15 @@ flats_are m view n given scores is trees stand = view_flats m n (given (live_tre
 
 marked_long : (start : ℕ) (flags : List Bool) → count_by is_marked flags ≡ length (marked_places start flags)
 marked_long start [] = refl
-marked_long start (true ∷ flags) = grind (arith, marked_long (start + 1) flags)
-marked_long start (false ∷ flags) = grind (arith, marked_long (start + 1) flags)
+marked_long start (true ∷ flags) = omega (arith, count_cons is_marked true flags, marked_long (start + 1) flags)
+marked_long start (false ∷ flags) = omega (arith, count_cons is_marked false flags, marked_long (start + 1) flags)
 
 view_long : (view : List EntryState) (scores : List Scores) → AreLong view scores → sum_by marked_count scores ≡ length (flats_of_view view scores)
 view_long [] [] long = refl
 view_long [] (s ∷ scores) long = absurd long
 view_long (e ∷ view) [] long = absurd long
 view_long (e ∷ view) (s ∷ scores) long =
-    grind (arith, marked_long 0 (map is_some s), length-map (documents_in s) (flat_of e.columns), length-append (flats_in e.columns s) (flats_of_view view scores), view_long view scores long.1)
+    omega (arith, sum_by-cons marked_count s scores, marked_long 0 (map is_some s), length-map (documents_in s) (flat_of e.columns), length-append (flats_in e.columns s) (flats_of_view view scores), view_long view scores long.1)
 
 pub objects_count : (m : Mapping) (view : List EntryState) (n : ℕ) (given : List Tree → Object → Option ℕ) (scores : List Scores) → IsSeen m view n given scores → (trees : List Trees) → ViewStandsFor m view trees
     → sum_by marked_count scores ≡ length (objects_given m n (live_trees trees) (given (live_trees trees)))

@@ -6,6 +6,7 @@ use Rattle.std.specs.Prelude.{IsTrue}
 use Rattle.std.proofs.lemmas.Bool.{lt-ltb}
 use Rattle.std.proofs.lemmas.List.{map-append, reverse-append}
 use Rattle.std.proofs.lemmas.List.Folds.{list_any-append}
+use Rattle.std.proofs.lemmas.List.Sums.{length-filter, sum_by-cons}
 use Rattle.std.proofs.lemmas.List.Sorted.{list_any-IsPermutation}
 use Rattle.flattener.specs.Flat.{flat_of}
 use Rattle.mapping.specs.Mapping.{Mapping, kind_at}
@@ -18,18 +19,22 @@ use Rattle.tree_objects.specs.Object.{Object}
 use Rattle.tree_objects.specs.Values.{values}
 use Rattle.tree_objects.specs.declared.field_value.FieldValue.{FieldValue}
 use Rattle.view_objects.specs.Values.{values_shown}
-use Rattle.bucket_aggs.specs.Counts.{AreCounts, KeysAscend, count_in, row_first, rows_ordered, shows, weight}
+use Rattle.bucket_aggs.specs.Counts.{AreCounts, KeysAscend, count_in, row_first, rows_ordered, shows, weight, weight_in}
 use Rattle.bucket_aggs.specs.declared.rows.CountRow.{CountRow}
 use Rattle.bucket_aggs.proofs.Keys.{Ascend, any_key, behind_apart, keys_ascend, less_apart, less_back, one_ascending, same_itself}
 use Rattle.bucket_aggs.proofs.Lists.{Each, by_test, each_as}
+use Rattle.bucket_aggs.proofs.Rowed.{count_mapped, count_same, sum_mapped}
 use Rattle.bucket_aggs.proofs.Values.{value_exact, value_total}
 use Rattle.bucket_aggs.proofs.Weights.{Rows}
 
 -- ---- rows that ascend
 
+weighs_more : (v : FieldValue) (row : CountRow) (rows : Rows) → weight v (row ∷ rows) ≡ weight_in v row + weight v rows
+weighs_more v row rows = sum_by-cons (weight_in v) row rows
+
 none_weighs : (v : FieldValue) (rows : Rows) → Each (λ (row : CountRow). is_same_value v row.key ≡ false) rows → weight v rows ≡ 0
 none_weighs v [] h = refl
-none_weighs v (row ∷ rows) h = let rest = none_weighs v rows h.1 in rw h.0 (omega (arith, rest))
+none_weighs v (row ∷ rows) h = omega (arith, weighs_more v row rows, ap (λ (b : Bool). cond b row.count 0) h.0, none_weighs v rows h.1)
 
 -- what a key weighs is the count of its row
 counts_own : (rows : Rows) → KeysAscend rows → Each (λ (row : CountRow). weight row.key rows ≡ row.count) rows
@@ -38,13 +43,13 @@ counts_own (row ∷ rows) a =
     let none : weight row.key rows ≡ 0 =
     none_weighs row.key rows (each_as (λ (later : CountRow). is_less row.key later.key ≡ true) (λ (later : CountRow). is_same_value row.key later.key ≡ false) (λ later h. less_apart value_cmp value_total value_exact row.key later.key h) rows a.0) in
     let itself : is_same_value row.key row.key ≡ true = same_itself value_cmp value_total value_exact row.key in
-    (rw itself (omega (arith, none)), later rows (counts_own rows a.1) a.0)
+    (omega (arith, weighs_more row.key row rows, ap (λ (b : Bool). cond b row.count 0) itself, none), later rows (counts_own rows a.1) a.0)
   where
     later : (rest : Rows) → Each (λ (r : CountRow). weight r.key rows ≡ r.count) rest → Each (λ (r : CountRow). is_less row.key r.key ≡ true) rest → Each (λ (r : CountRow). weight r.key (row ∷ rows) ≡ r.count) rest
     later [] h g = tt
     later (r ∷ rest) h g =
         let apart : is_same_value r.key row.key ≡ false = less_back value_cmp value_total value_exact row.key r.key g.0 in
-        (rw apart (omega (arith, h.0)), later rest h.1 g.1)
+        (omega (arith, weighs_more r.key row rows, ap (λ (b : Bool). cond b row.count 0) apart, h.0), later rest h.1 g.1)
 
 keys_of : Rows → List FieldValue
 keys_of [] = []
@@ -71,21 +76,17 @@ any_weighs : (v : FieldValue) (rows : Rows) → Each (λ (row : CountRow). 0 < r
 any_weighs v [] h = refl
 any_weighs v (row ∷ rows) h =
     by_test (is_same_value v row.key)
-    (λ held. let some : nat_lt 0 (row.count + weight v rows) ≡ true = lt-ltb 0 (row.count + weight v rows) (omega (arith, h.0)) in rw held (sym some))
-    (λ failed. rw failed (any_weighs v rows h.1))
+    (λ held.
+    let some : nat_lt 0 (weight v (row ∷ rows)) ≡ true = lt-ltb 0 (weight v (row ∷ rows)) (omega (arith, weighs_more v row rows, ap (λ (b : Bool). cond b row.count 0) held, h.0)) in
+    ap (λ (b : Bool). b || list_any (is_same_value v) (keys_of rows)) held ∙ sym some)
+    (λ failed.
+    let rest : weight v rows ≡ weight v (row ∷ rows) = omega (arith, weighs_more v row rows, ap (λ (b : Bool). cond b row.count 0) failed) in
+    ap (λ (b : Bool). b || list_any (is_same_value v) (keys_of rows)) failed ∙ any_weighs v rows h.1 ∙ ap (nat_lt 0) rest)
 
 -- ---- objects
 
-count_map : {A B : Type 0} (test : B → Bool) (f : A → B) (xs : List A) → count_by test (map f xs) ≡ count_by (λ x. test (f x)) xs
-count_map test f [] = refl
-count_map test f (x ∷ xs) = by_test (test (f x)) (λ held. rw held (grind (arith, count_map test f xs))) (λ failed. rw failed (grind (arith, count_map test f xs)))
-
 count_filter : {A : Type 0} (one other : A → Bool) → ((x : A) → one x ≡ other x) → (xs : List A) → count_by one xs ≡ length (filter other xs)
-count_filter one other same [] = refl
-count_filter one other same (x ∷ xs) =
-    by_test (other x)
-    (λ held. let own : one x ≡ true = same x ∙ held in rw (own, held) (grind (arith, count_filter one other same xs)))
-    (λ failed. let own : one x ≡ false = same x ∙ failed in rw (own, failed) (grind (arith, count_filter one other same xs)))
+count_filter one other same xs = count_same one other same xs ∙ sym (length-filter other xs)
 
 some_long : {A : Type 0} (test : A → Bool) (xs : List A) → nat_lt 0 (length (filter test xs)) ≡ list_any test xs
 some_long test [] = refl
@@ -109,7 +110,7 @@ module _ (m : Mapping) (f : ℕ) (shown : (o : Object) → IsPermutation (values
   count_for v = length (filter (has_value m (Some f) v) objects)
 
   shown_count : (v : FieldValue) → count_by (shows kind f v) (map (flat_of m) objects) ≡ count_for v
-  shown_count v = count_map (shows kind f v) (flat_of m) objects ∙ count_filter (λ o. shows kind f v (flat_of m o)) (has_value m (Some f) v) (shows_same v) objects
+  shown_count v = count_mapped (shows kind f v) (flat_of m) objects ∙ count_filter (λ o. shows kind f v (flat_of m o)) (has_value m (Some f) v) (shows_same v) objects
 
   abbrev pub keys : List FieldValue
   keys = in_order is_less (each_once is_same_value (all_shown m (Some f) objects))
@@ -184,10 +185,6 @@ map_twice : {A B C : Type 0} (g : B → C) (f : A → B) (xs : List A) → map g
 map_twice g f [] = refl
 map_twice {A} {B} {C} g f (x ∷ xs) = ap (λ (l : List C). g (f x) ∷ l) (map_twice g f xs)
 
-sum_map : {A B : Type 0} (g : B → ℕ) (f : A → B) (xs : List A) → sum_by g (map f xs) ≡ sum_by (λ x. g (f x)) xs
-sum_map g f [] = refl
-sum_map g f (x ∷ xs) = grind (arith, sum_map g f xs)
-
 module _ (m : Mapping) (f : ℕ) (shown : (o : Object) → IsPermutation (values m f o) (values_shown (kind_at m f) f (flat_of m o))) (objects : List Object) (within : List Object → List ReplyPart) (size : ℕ) (by_key descending : Bool)
     (rows : Rows) (are : AreCounts (kind_at m f) f (map (flat_of m) objects) rows) where
   abbrev group : FieldValue → Group
@@ -222,7 +219,7 @@ module _ (m : Mapping) (f : ℕ) (shown : (o : Object) → IsPermutation (values
   other_counts =
       ap (λ (l : Rows). sum_by count_in (drop size l)) rows_order
       ∙ ap (sum_by count_in) (drop_map row_for size order)
-      ∙ sum_map count_in row_for (drop size order)
-      ∙ sym (sum_map count_of group (drop size order))
+      ∙ sum_mapped count_in row_for (drop size order)
+      ∙ sym (sum_mapped count_of group (drop size order))
       ∙ ap (sum_by count_of) (sym (drop_map group size order))
       ∙ ap (λ (l : List Group). sum_by count_of (drop size l)) (sym groups_order)
