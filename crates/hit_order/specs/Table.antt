@@ -24,6 +24,10 @@ keys_of_row row = row.keys
 abbrev pub number_of_row : KeyRow → ℤ
 number_of_row row = row.number
 
+-- where it was found
+abbrev pub place_of_row : KeyRow → RowPlace
+place_of_row row = record { place = row.place; doc = row.doc; number = row.number }
+
 -- ---- what is missing is null
 
 abbrev pub number_or_null : Option ℤ → Key

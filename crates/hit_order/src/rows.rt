@@ -1,7 +1,8 @@
 //! Rows with their keys, and a page of them.
-ghost use Rattle.std.specs.Prelude.{◌≡◌, ◌<◌, length, slice_index_or, IfOk, option_map};
+ghost use Rattle.std.specs.Prelude.{◌≡◌, ◌<◌, get_or, length, slice_index_or, IfOk, option_map};
 ghost use Rattle.query_ast.specs.Page.{page_of};
-ghost use Rattle.hit_order.specs.Table.{keys_of_row, number_of_row, table_of};
+ghost use Rattle.query_ast.specs.declared.sort.KeyRow.{KeyRow as Row};
+ghost use Rattle.hit_order.specs.Table.{keys_of_row, number_of_row, place_of_row, table_of};
 
 use crate::NoMemory;
 use crate::column::{Column, RowPlace};
@@ -51,6 +52,14 @@ impl KeyRows {
         ensures { IfOk result (λ row. row ≡ slice_index_or self.now.rows at row) }
     {
         Ok(self.table.row(alloc, at)?)
+    }
+
+    /// Where a row was found. Takes no memory.
+    pub fn place(&self, at: usize) -> RowPlace
+        requires { at < length self.now.rows }
+        ensures { (none : Row) → result ≡ place_of_row (get_or self.now.rows at none) }
+    {
+        self.table.place(at)
     }
 }
 

@@ -19,7 +19,7 @@ pub(crate) struct Table {
 
 impl Table {
     /// Where a row was found.
-    fn place(&self, at: usize) -> RowPlace
+    pub(crate) fn place(&self, at: usize) -> RowPlace
         ensures { result ≡ place_at self.now.places.items at }
     {
         match self.places.get(at) {
