@@ -47,7 +47,7 @@ filter_none : (test : Tree → Bool) → ((t : Tree) → test t ≡ false) → (
 filter_none test never [] = refl
 filter_none test never (t ∷ trees) = rw (never t) (filter_none test never trees)
 
-and_no : (b : Bool) → (b && false) ≡ false
+pub and_no : (b : Bool) → (b && false) ≡ false
 and_no true = refl
 and_no false = refl
 
@@ -65,7 +65,7 @@ same_bytes a b = by_two (bytes_eq a b) (bytes_eq b a)
 
 module _ (m : Mapping) (r p : ℕ) (parent : (relation_at m r).parent ≡ Some p) where
   -- a parent that is of the relation
-  child_by : (t : Tree) (own : Joined) (id : List ℕ) (child : Option Joined) → (own.relation == p) ≡ true
+  pub child_by : (t : Tree) (own : Joined) (id : List ℕ) (child : Option Joined) → (own.relation == p) ≡ true
       → (has_relation child r && (is_parent_relation m (Some own) child && names_parent child id)) ≡ is_id (cond (is_on m (Children r) (relation_of child)) (parent_of child) None) id
   child_by t own id None is = refl
   child_by t own id (Some c) is = elim (cases_Bool (c.relation == r)) [
@@ -83,7 +83,7 @@ module _ (m : Mapping) (r p : ℕ) (parent : (relation_at m r).parent ≡ Some p
       eqb-refl : (a b : ℕ) → a ≡ b → (a == b) ≡ true
       eqb-refl a b same = grind arith
 
-  no_child_by : (own child : Option Joined) (id : List ℕ) → is_on m (Parents p) (relation_of own) ≡ false → (has_relation child r && (is_parent_relation m own child && names_parent child id)) ≡ false
+  pub no_child_by : (own child : Option Joined) (id : List ℕ) → is_on m (Parents p) (relation_of own) ≡ false → (has_relation child r && (is_parent_relation m own child && names_parent child id)) ≡ false
   no_child_by None child id off = and_no (has_relation child r)
   no_child_by (Some own) None id off = refl
   no_child_by (Some own) (Some c) id off = elim (cases_Bool (c.relation == r)) [
@@ -132,7 +132,7 @@ module _ (m : Mapping) (r p : ℕ) (parent : (relation_at m r).parent ≡ Some p
 -- ---- parents
 
 module _ (m : Mapping) (p : ℕ) where
-  parent_by_id : (s : Tree) (own : Joined) (id : List ℕ) (parent : Option Joined) → is_number (relation_at m own.relation).parent p ≡ true → own.parent ≡ Some id
+  pub parent_by_id : (s : Tree) (own : Joined) (id : List ℕ) (parent : Option Joined) → is_number (relation_at m own.relation).parent p ≡ true → own.parent ≡ Some id
       → (has_relation parent p && (is_parent_relation m parent (Some own) && names_parent (Some own) s.id)) ≡ is_id (cond (is_on m (Parents p) (relation_of parent)) (Some s.id) None) id
   parent_by_id s own id None number names = refl
   parent_by_id s own id (Some q) number names = elim (cases_Bool (q.relation == p)) [
@@ -144,7 +144,7 @@ module _ (m : Mapping) (p : ℕ) where
     | inr other ↦ rw other refl
   ]
 
-  off_parent : (s : Tree) (own : Joined) (parent : Option Joined) → is_number (relation_at m own.relation).parent p ≡ false → (has_relation parent p && (is_parent_relation m parent (Some own) && names_parent (Some own) s.id)) ≡ false
+  pub off_parent : (s : Tree) (own : Joined) (parent : Option Joined) → is_number (relation_at m own.relation).parent p ≡ false → (has_relation parent p && (is_parent_relation m parent (Some own) && names_parent (Some own) s.id)) ≡ false
   off_parent s own None off = refl
   off_parent s own (Some q) off = elim (cases_Bool (q.relation == p)) [
     | inl here ↦
@@ -154,7 +154,7 @@ module _ (m : Mapping) (p : ℕ) where
     | inr other ↦ rw other refl
   ]
 
-  no_name : (s : Tree) (own : Joined) (parent : Option Joined) → own.parent ≡ None → (has_relation parent p && (is_parent_relation m parent (Some own) && names_parent (Some own) s.id)) ≡ false
+  pub no_name : (s : Tree) (own : Joined) (parent : Option Joined) → own.parent ≡ None → (has_relation parent p && (is_parent_relation m parent (Some own) && names_parent (Some own) s.id)) ≡ false
   no_name s own parent none =
       ap (λ (x : Option (List ℕ)). has_relation parent p && (is_parent_relation m parent (Some own) && is_id x s.id)) none
       ∙ ap (λ (b : Bool). has_relation parent p && b) (and_no (is_parent_relation m parent (Some own)))

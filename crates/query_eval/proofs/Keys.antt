@@ -106,7 +106,7 @@ map_get f (x ∷ xs) zero d e below = refl
 map_get f (x ∷ xs) (suc k) d e below = map_get f xs k d e (omega (arith, below))
 
 module _ (view : List EntryState) (ordinals : Ordinals) (o : AreOrdinals view ordinals) (m : Mapping) (side : Side) where
-  entry_number : (place : ℕ) (e : EntryState) (trees : List (Marked Tree)) → slice_get view place ≡ Some e → EntryStandsFor m e.columns e.live trees → (k : ℕ) (d : Marked Tree) → k < length trees
+  pub entry_number : (place : ℕ) (e : EntryState) (trees : List (Marked Tree)) → slice_get view place ≡ Some e → EntryStandsFor m e.columns e.live trees → (k : ℕ) (d : Marked Tree) → k < length trees
       → IsNumbered o.ids (side_id m side (get_or trees k d)) (key_at m ordinals side e.columns place k)
   unfolding root_of_tree
   entry_number place e trees at stands k d below =
@@ -169,7 +169,7 @@ same_bools true b there back = sym (there refl)
 same_bools false true there back = back refl
 same_bools false false there back = refl
 
-same_key : (ids : List (List ℕ)) (j k : ℕ) (y id : List ℕ) → StandOnce ids → slice_get ids j ≡ Some y → slice_get ids k ≡ Some id → (j == k) ≡ bytes_eq y id
+pub same_key : (ids : List (List ℕ)) (j k : ℕ) (y id : List ℕ) → StandOnce ids → slice_get ids j ≡ Some y → slice_get ids k ≡ Some id → (j == k) ≡ bytes_eq y id
 same_key ids j k y id once one two =
     same_bools (j == k) (bytes_eq y id)
     (λ here.

@@ -11,3 +11,4 @@ pub mod Counting
 pub mod Walking
 pub mod Telling
 pub mod Relations
+pub mod Meeting

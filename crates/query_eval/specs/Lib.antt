@@ -5,3 +5,4 @@ pub mod Folds
 pub mod Nested
 pub mod Tallies
 pub mod Sides
+pub mod Meeting

@@ -7,6 +7,7 @@
 
 mod answer;
 mod evaluation;
+mod law;
 mod leaves;
 mod merges;
 mod nests;
@@ -16,4 +17,6 @@ mod tally;
 mod trees;
 
 pub use evaluation::matches;
+pub use law::keys_join_trees;
 pub use no_memory::NoMemory;
+pub use side::{Side, key_of};

@@ -13,7 +13,7 @@ use segment::{JoinValue, Segment};
 
 /// The roots that take part in a join of trees, each by the ordinal of an id.
 #[derive(Clone, Copy, Debug, PartialEq, Eq)]
-pub(crate) enum Side {
+pub enum Side {
     /// Those of a relation, by their own ids.
     Parents(u32),
     /// Those of a relation, by the ids of their parents.
@@ -23,7 +23,7 @@ pub(crate) enum Side {
 }
 
 /// The ordinal by which a root of the entry at a place takes part, if it does.
-pub(crate) fn key_of(
+pub fn key_of(
     mapping: &Mapping,
     joins: &JoinOrdinals,
     segment: &Segment,
