@@ -13,7 +13,8 @@ use Rattle.tree_joins.specs.Seen.{at_scope, if_live, scored, seen}
 use Rattle.tree_objects.specs.Enclosing.{stands_at}
 use Rattle.tree_objects.specs.Object.{Object, root, scope, block_objects}
 use Rattle.tree_objects.specs.Tree.{Tree}
-use Rattle.view_objects.specs.Hits.{Hit, any_object, hit_if, hit_object, hits_from, hits_of, live_in, live_objects, live_trees, no_object, objects_in}
+use Rattle.view_objects.specs.declared.hit.Hit.{Hit}
+use Rattle.view_objects.specs.Hits.{any_object, hit_if, hit_object, hits_from, hits_of, live_in, live_objects, live_trees, no_object, objects_in}
 
 pub by_test : {G : Type 0} (t : Bool) → (t ≡ true → G) → (t ≡ false → G) → G
 by_test true held failed = held refl

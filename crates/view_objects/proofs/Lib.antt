@@ -1,2 +1,4 @@
 mod Hits
 mod Inside
+pub mod Trees
+pub mod Children

@@ -1,14 +1,18 @@
 //! Laws of documents and the objects that they stand for, as the contract of a function that does nothing.
-ghost use Rattle.std.specs.Prelude.{◌≡◌, ℕ, List, [], get_or, map, filter_map, Option, Some, None};
-ghost use Rattle.flattener.specs.StandsFor.{Marked};
+ghost use Rattle.std.specs.Prelude.{◌≡◌, ℕ, ◌<◌, List, [], get_or, length, map, filter_map, Option, Some, None};
+ghost use Rattle.flattener.specs.StandsFor.{EntryStandsFor, Marked};
 ghost use Rattle.mapping.specs.IsMapping.{IsMapping};
 ghost use Rattle.mapping.specs.Mapping.{Mapping, IsAbove};
 ghost use Rattle.query_ast.specs.Joined.{roots};
+ghost use Rattle.segment.specs.Flat.{flats_of};
+ghost use Rattle.segment.specs.Live.{LiveState};
+ghost use Rattle.segment_parts.specs.declared.columns.Columns.{Columns};
 ghost use Rattle.tree_joins.specs.Seen.{at_scope, scopes_of, scored, seen};
-ghost use Rattle.tree_objects.specs.Object.{Object, below};
+ghost use Rattle.tree_objects.specs.Object.{Object, below, scope};
 ghost use Rattle.tree_objects.specs.Tree.{Tree};
-ghost use Rattle.view_objects.specs.Hits.{hit_object, hits_between, hits_in, live_objects, live_trees, object_at, start_before};
+ghost use Rattle.view_objects.specs.Hits.{IsChildAt, IsInTree, document_object, hit_object, hits_between, hits_in, live_objects, live_trees, object_at, objects_in, start_before};
 
+use mapping::scopes_form_chains;
 use tree_joins::joins_are_of_trees;
 use tree_objects::objects_nest;
 
@@ -23,4 +27,18 @@ pub fn hits_are_objects()
 {
     objects_nest();
     joins_are_of_trees();
+}
+
+/// The documents of a segment are of the objects that they stand for: each has the scope of its object, it lies in the block
+/// of the object's tree and is live where that tree is, and a document of a nested path is a child of the next
+/// document of the scope around, by its offset there.
+pub fn documents_are_of_objects()
+    ensures scopes { (m : Mapping) (columns : Columns) (bits : LiveState) (trees : List (Marked Tree)) → EntryStandsFor m columns bits trees → map (λ flat. flat.scope) (flats_of columns) ≡ scopes_of m trees }
+    ensures objects { (m : Mapping) (columns : Columns) (bits : LiveState) (trees : List (Marked Tree)) → EntryStandsFor m columns bits trees → length (objects_in m trees) ≡ columns.documents }
+    ensures trees { (m : Mapping) (trees : List (Marked Tree)) (doc : ℕ) → IsMapping m → doc < length (objects_in m trees) → IsInTree m trees doc }
+    ensures children { (m : Mapping) (trees : List (Marked Tree)) (doc n : ℕ) → IsMapping m → 0 < n → n < length m.scopes → doc < length (objects_in m trees) → scope (document_object m trees doc) ≡ n → IsChildAt m trees doc n }
+{
+    objects_nest();
+    joins_are_of_trees();
+    scopes_form_chains();
 }
