@@ -1,0 +1,115 @@
+-- Pages and hits as they are shown.
+use Rattle.std.proofs.Common.{◌≡◌, ℕ, zero, suc, ℤ, ◌+◌, ◌≤◌, List as Seq, [], ◌∷◌, ◌++◌, length, map, take, drop, Bool, true, false, Option, Some, None, refl, sym, ap, ◌∙◌, arith, if◌then◌else◌}
+use Rattle.std.proofs.lemmas.List.{length-map}
+use Rattle.std.specs.List.{filter_map}
+use Rattle.flattener.specs.StandsFor.{Marked}
+use Rattle.mapping.specs.Mapping.{Mapping}
+use Rattle.query_ast.specs.Clause.{Clause}
+use Rattle.query_ast.specs.Definition.{Definition, definition, definitions_of}
+use Rattle.query_ast.specs.Hit.{hit}
+use Rattle.query_ast.specs.Inner.{Inner}
+use Rattle.query_ast.specs.Inner.View.{inner_of}
+use Rattle.query_ast.specs.InnerHits.{hit_by, inner_page, inner_pages, levels_of, objects_over, page_by, source_of}
+use Rattle.query_ast.specs.Joined.{child_trees, parent_trees, roots}
+use Rattle.query_ast.specs.Page.{direction_of, page_of}
+use Rattle.query_ast.specs.Pages.{HitPart, InnerHead, PagePart, hits_of, pages_of}
+use Rattle.query_ast.specs.Rows.{Row, keys_of as row_keys, number_of as row_number, paged, rows_of}
+use Rattle.query_ast.specs.declared.hit.Level.{Level}
+use Rattle.query_ast.specs.declared.inner.InnerDef.{InnerDef}
+use Rattle.query_ast.specs.declared.sort.Direction.{Direction}
+use Rattle.query_ast.specs.declared.sort.Key.{Key}
+use Rattle.query_ast.specs.declared.sort.Sort.{Sort}
+use Rattle.tree_joins.specs.Seen.{scored}
+use Rattle.tree_json.specs.Text.{compact}
+use Rattle.tree_objects.specs.Object.{Object, content, inside, root, scope, tree_of}
+use Rattle.tree_objects.specs.Tree.{Tree}
+use Rattle.view_objects.specs.Hits.{hit_object, live_trees, object_at}
+use Rattle.view_objects.specs.declared.hit.Hit.{Hit}
+use Rattle.inner_hits.specs.Hits.{page_among, page_in, row_at, shown_as, shown_by}
+use Rattle.inner_hits.specs.Steps.{is_tree, joined_among, joined_in}
+use Rattle.inner_hits.proofs.Objects.{rows_found}
+use Rattle.inner_hits.proofs.Paging.{map_map}
+
+module _ (m : Mapping) (trees : Seq (Seq (Marked Tree))) (def : InnerDef) where
+  -- the page of a definition stands on the hits that were found for its objects
+  pub page_found : (o : Object) (hits : Seq Hit) → map (hit_object m trees) hits ≡ filter_map (scored (hit m (live_trees trees) def.query)) (objects_over m (live_trees trees) def.over o)
+      → page_in m (live_trees trees) (inner_of def) (map (row_at m trees def.sort) hits) ≡ inner_page m (live_trees trees) (inner_of def) o
+  unfolding page_in
+  page_found o hits are =
+      ap (page_among m (live_trees trees) (inner_of def)) (sym (rows_found m trees def.query def.sort (objects_over m (live_trees trees) def.over o) hits are))
+
+  shown_rows : (hits : Seq Hit) → map (shown_as m trees (inner_of def)) hits ≡ map (hit_by m def.source (inner_pages m (live_trees trees) (definitions_of def.owned))) (map (row_at m trees def.sort) hits)
+  unfolding shown_as
+  shown_rows hits = sym (map_map (hit_by m def.source (inner_pages m (live_trees trees) (definitions_of def.owned))) (row_at m trees def.sort) hits)
+
+  -- of which the page's are shown
+  pub page_shown : (found page : Seq Hit) (shown : Seq HitPart) → map (row_at m trees def.sort) page ≡ paged def.sort None def.from def.size (map (row_at m trees def.sort) found) → shown ≡ map (shown_as m trees (inner_of def)) page
+      → record { name = def.name; hits = hits_of shown; total = length found } ≡ page_in m (live_trees trees) (inner_of def) (map (row_at m trees def.sort) found)
+  unfolding page_in
+  page_shown found page shown rows are =
+      ap (λ (hs : Seq HitPart). record { name = def.name; hits = hits_of hs; total = length found })
+      (are ∙ shown_rows page ∙ ap (map (hit_by m def.source (inner_pages m (live_trees trees) (definitions_of def.owned)))) rows)
+      ∙ ap (λ (n : ℕ). record { name = def.name; hits = hits_of (map (hit_by m def.source (inner_pages m (live_trees trees) (definitions_of def.owned))) (paged def.sort None def.from def.size (map (row_at m trees def.sort) found))); total = n })
+      (sym (length-map found (row_at m trees def.sort)))
+
+  pub same_steps : (found page : Seq Hit) → map (row_at m trees def.sort) page ≡ paged def.sort None def.from def.size (map (row_at m trees def.sort) found)
+      → joined_among (hits_of (map (shown_as m trees (inner_of def)) page)) ≡ joined_among (page_in m (live_trees trees) (inner_of def) (map (row_at m trees def.sort) found)).hits
+  same_steps found page rows = ap (λ (p : PagePart). joined_among p.hits) (page_shown found page (map (shown_as m trees (inner_of def)) page) rows refl)
+
+  -- a hit by its parts
+  pub hit_is : (hit : Hit) (id : Seq ℕ) (levels : Seq Level) (source : Option (Seq ℕ)) (pages : Seq PagePart) → (let o = object_at m trees hit.place hit.doc in
+      id ≡ (tree_of o).id → levels ≡ levels_of m o → source ≡ (if def.source then Some (compact (content o)) else None) → pages ≡ inner_pages m (live_trees trees) (definitions_of def.owned) o
+      → record { head = record { id = id; levels = levels; score = hit.score; source = source }; inner = pages_of pages } ≡ shown_as m trees (inner_of def) hit)
+  unfolding shown_as
+  hit_is hit id levels source pages same_id same_levels same_source same_pages =
+      ap (λ (x : Seq ℕ). record { head = record { id = x; levels = levels; score = hit.score; source = source }; inner = pages_of pages }) same_id
+      ∙ ap (λ (x : Seq Level). record { head = record { id = (tree_of (object_at m trees hit.place hit.doc)).id; levels = x; score = hit.score; source = source }; inner = pages_of pages }) same_levels
+      ∙ ap (λ (x : Option (Seq ℕ)). record { head = record { id = (tree_of (object_at m trees hit.place hit.doc)).id; levels = levels_of m (object_at m trees hit.place hit.doc); score = hit.score; source = x }; inner = pages_of pages }) same_source
+      ∙ ap (λ (x : Seq PagePart). record { head = record { id = (tree_of (object_at m trees hit.place hit.doc)).id; levels = levels_of m (object_at m trees hit.place hit.doc); score = hit.score; source = source_of def.source (object_at m trees hit.place hit.doc) }; inner = pages_of x }) same_pages
+
+-- ---- a page without hits
+
+drop_nothing : {A : Type 0} (k : ℕ) → (let none : Seq A = [] in drop k none ≡ none)
+drop_nothing zero = refl
+drop_nothing (suc k) = refl
+
+take_nothing : {A : Type 0} (k : ℕ) → (let none : Seq A = [] in take k none ≡ none)
+take_nothing zero = refl
+take_nothing (suc k) = refl
+
+no_page : {A : Type 0} (keys : A → Seq Key) (number : A → ℤ) (ds : Seq Direction) (from size : ℕ) → page_of keys number ds None from size [] ≡ []
+unfolding page_of
+no_page {A} keys number ds from size = ap (λ (l : Seq A). take size l) (drop_nothing {A} from) ∙ take_nothing {A} size
+
+no_rows : (m : Mapping) (live : Seq Tree) (query : Clause) (sorts : Seq Sort) → rows_of m live query sorts [] ≡ []
+unfolding rows_of
+no_rows m live query sorts = refl
+
+pub empty_is : (m : Mapping) (live : Seq Tree) (def : InnerDef) (o : Object) → objects_over m live def.over o ≡ [] → record { name = def.name; hits = hits_of []; total = 0 } ≡ inner_page m live (inner_of def) o
+empty_is m live def o none =
+    ap (λ (rows : Seq Row). record { name = def.name; hits = hits_of (map (hit_by m def.source (inner_pages m live (definitions_of def.owned))) rows); total = 0 })
+    (sym (no_page row_keys row_number (map direction_of def.sort) def.from def.size))
+    ∙ ap (λ (rows : Seq Row). page_by m (record { name = def.name; over = def.over; query = def.query; from = def.from; size = def.size; sort = def.sort; source = def.source }) (inner_pages m live (definitions_of def.owned)) rows)
+    (sym (ap (rows_of m live def.query def.sort) none ∙ no_rows m live def.query def.sort))
+
+-- no trees are joined to an object inside another
+pub no_children : (m : Mapping) (live : Seq Tree) (r : ℕ) (o : Object) (n : ℕ) → scope o ≡ n → (n ≡ 0 → ⊥) → roots (child_trees m live r o) ≡ []
+unfolding child_trees
+no_children m live r (root tree) n is other = absurd (other (sym is))
+no_children m live r (inside outer nested offset v) n is other = refl
+
+pub no_parents : (m : Mapping) (live : Seq Tree) (r : ℕ) (o : Object) (n : ℕ) → scope o ≡ n → (n ≡ 0 → ⊥) → roots (parent_trees m live r o) ≡ []
+unfolding parent_trees
+no_parents m live r (root tree) n is other = absurd (other (sym is))
+no_parents m live r (inside outer nested offset v) n is other = refl
+
+-- ---- how many joined trees a hit shows
+
+pub joined_shown : (m : Mapping) (trees : Seq (Seq (Marked Tree))) (def : InnerDef) (hit : Hit)
+    → joined_among (hits_of (shown_as m trees (inner_of def) hit ∷ [])) ≡ is_tree (levels_of m (object_at m trees hit.place hit.doc)) + joined_in (pages_of (inner_pages m (live_trees trees) (definitions_of def.owned) (object_at m trees hit.place hit.doc)))
+unfolding shown_as
+joined_shown m trees def hit = omega arith
+
+pub joined_more : (m : Mapping) (trees : Seq (Seq (Marked Tree))) (def : InnerDef) (hit : Hit) (hits : Seq Hit)
+    → joined_among (hits_of (map (shown_as m trees (inner_of def)) (hit ∷ hits))) ≡ joined_among (hits_of (shown_as m trees (inner_of def) hit ∷ [])) + joined_among (hits_of (map (shown_as m trees (inner_of def)) hits))
+joined_more m trees def hit hits = omega arith
