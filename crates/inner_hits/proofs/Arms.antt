@@ -1,9 +1,11 @@
 -- A definition by what it is over: what was resolved, and what was evaluated.
 use Rattle.std.proofs.Common.{◌≡◌, ℕ, ◌<◌, ◌≤◌, ◌+◌, ◌||◌, Bool, true, false, List as Seq, [], ◌∷◌, Option, refl, sym, ap, ◌∙◌}
+use Rattle.std.proofs.lemmas.Bool.{true≢false}
 use Rattle.std.specs.List.{list_any}
 use Rattle.join_ordinals.specs.Ordinals.{AreOrdinals, Ordinals}
 use Rattle.mapping.specs.Mapping.{Mapping}
 use Rattle.query_ast.specs.Definition.{definitions_of}
+use Rattle.query_ast.specs.Inner.{Inner}
 use Rattle.query_ast.specs.Inner.View.{inner_of}
 use Rattle.query_ast.specs.Joins.{inner_joins, joins, over_joins, some_inner_joins, sort_joins}
 use Rattle.query_ast.specs.Resolved.{AreInnerDefinitions, AreSorts, IsBelow, IsChildRelation, IsInnerDefinition, IsParentRelation, IsResolved}
@@ -12,49 +14,62 @@ use Rattle.query_ast.specs.declared.inner.InnerOver.TheVariants.{Below, Children
 use Rattle.query_eval.specs.declared.side.Side.TheVariants.{Parents, Children}
 use Rattle.segment.specs.Live.{EntryState}
 use Rattle.inner_hits.specs.Kinship.{AreKin}
-use Rattle.inner_hits.specs.Prepared.{ArePrepared, IsAnswered, IsPrepared}
+use Rattle.inner_hits.specs.Answers.{Answer}
+use Rattle.inner_hits.specs.Prepared.{ArePrepared, IsAnswered, IsEvaluated, IsPrepared, is_ignored}
 use Rattle.inner_hits.specs.Prepared.View.{prepared_of}
 use Rattle.inner_hits.specs.declared.prepared.PreparedDef.{PreparedDef}
 
 -- ---- what was evaluated
 
+abbrev asked : InnerDef → Inner
+asked def = record { name = def.name; over = def.over; query = def.query; from = def.from; size = def.size; sort = def.sort; source = def.source }
+
+abbrev answered : PreparedDef → Answer
+answered p = record { scores = p.hits; filters = p.filters.items; kin = p.kin.items }
+
 module _ (m : Mapping) (view : Seq EntryState) (ordinals : Ordinals) (def : InnerDef) (p : PreparedDef) where
+  evaluated_children : (r : ℕ) → def.over ≡ ChildTrees r → IsEvaluated m view ordinals def.over (asked def) (answered p) → IsAnswered m view 0 def.query def.sort p.hits p.filters.items × AreKin m ordinals (Children r) view p.hits p.kin.items
+  evaluated_children r is evaluated = rw is at evaluated
+
+  evaluated_parents : (r : ℕ) → def.over ≡ ParentTrees r → IsEvaluated m view ordinals def.over (asked def) (answered p) → IsAnswered m view 0 def.query def.sort p.hits p.filters.items × AreKin m ordinals (Parents r) view p.hits p.kin.items
+  evaluated_parents r is evaluated = rw is at evaluated
+
   pub below_answered : (path : ℕ) → def.over ≡ Below path → IsPrepared m view ordinals (inner_of def) (prepared_of p) → IsAnswered m view path def.query def.sort p.hits p.filters.items
-  below_answered path is prepared = (rw is at prepared).0
+  below_answered path is prepared = rw is at (prepared.0)
 
   pub below_owned : (path : ℕ) → def.over ≡ Below path → IsPrepared m view ordinals (inner_of def) (prepared_of p) → ArePrepared m view ordinals (definitions_of def.owned) (definitions_of p.owned)
-  below_owned path is prepared = (rw is at prepared).1
+  below_owned path is prepared = prepared.1 (ap is_ignored is)
 
   pub children_answered : (r : ℕ) → def.over ≡ ChildTrees r → IsPrepared m view ordinals (inner_of def) (prepared_of p) → IsAnswered m view 0 def.query def.sort p.hits p.filters.items
-  children_answered r is prepared = (rw is at prepared).0
+  children_answered r is prepared = (evaluated_children r is prepared.0).0
 
   pub children_kin : (r : ℕ) → def.over ≡ ChildTrees r → IsPrepared m view ordinals (inner_of def) (prepared_of p) → AreKin m ordinals (Children r) view p.hits p.kin.items
-  children_kin r is prepared = (rw is at prepared).1
+  children_kin r is prepared = (evaluated_children r is prepared.0).1
 
   pub children_owned : (r : ℕ) → def.over ≡ ChildTrees r → IsPrepared m view ordinals (inner_of def) (prepared_of p) → ArePrepared m view ordinals (definitions_of def.owned) (definitions_of p.owned)
-  children_owned r is prepared = (rw is at prepared).2
+  children_owned r is prepared = prepared.1 (ap is_ignored is)
 
   pub parents_answered : (r : ℕ) → def.over ≡ ParentTrees r → IsPrepared m view ordinals (inner_of def) (prepared_of p) → IsAnswered m view 0 def.query def.sort p.hits p.filters.items
-  parents_answered r is prepared = (rw is at prepared).0
+  parents_answered r is prepared = (evaluated_parents r is prepared.0).0
 
   pub parents_kin : (r : ℕ) → def.over ≡ ParentTrees r → IsPrepared m view ordinals (inner_of def) (prepared_of p) → AreKin m ordinals (Parents r) view p.hits p.kin.items
-  parents_kin r is prepared = (rw is at prepared).1
+  parents_kin r is prepared = (evaluated_parents r is prepared.0).1
 
   pub parents_owned : (r : ℕ) → def.over ≡ ParentTrees r → IsPrepared m view ordinals (inner_of def) (prepared_of p) → ArePrepared m view ordinals (definitions_of def.owned) (definitions_of p.owned)
-  parents_owned r is prepared = (rw is at prepared).2
+  parents_owned r is prepared = prepared.1 (ap is_ignored is)
 
   -- and that it was
   pub prepared_below : (path : ℕ) → def.over ≡ Below path → IsAnswered m view path def.query def.sort p.hits p.filters.items → ArePrepared m view ordinals (definitions_of def.owned) (definitions_of p.owned) → IsPrepared m view ordinals (inner_of def) (prepared_of p)
-  prepared_below path is answered owned = rw is ((answered, owned))
+  prepared_below path is answered owned = (rw is answered, λ some. owned)
 
   pub prepared_children : (r : ℕ) → def.over ≡ ChildTrees r → IsAnswered m view 0 def.query def.sort p.hits p.filters.items → AreKin m ordinals (Children r) view p.hits p.kin.items → ArePrepared m view ordinals (definitions_of def.owned) (definitions_of p.owned) → IsPrepared m view ordinals (inner_of def) (prepared_of p)
-  prepared_children r is answered kin owned = rw is ((answered, kin, owned))
+  prepared_children r is answered kin owned = (rw is ((answered, kin)), λ some. owned)
 
   pub prepared_parents : (r : ℕ) → def.over ≡ ParentTrees r → IsAnswered m view 0 def.query def.sort p.hits p.filters.items → AreKin m ordinals (Parents r) view p.hits p.kin.items → ArePrepared m view ordinals (definitions_of def.owned) (definitions_of p.owned) → IsPrepared m view ordinals (inner_of def) (prepared_of p)
-  prepared_parents r is answered kin owned = rw is ((answered, kin, owned))
+  prepared_parents r is answered kin owned = (rw is ((answered, kin)), λ some. owned)
 
   pub prepared_ignored : def.over ≡ Ignored → IsPrepared m view ordinals (inner_of def) (prepared_of p)
-  prepared_ignored is = rw is tt
+  prepared_ignored is = (rw is tt, λ some. absurd (true≢false (sym (ap is_ignored is) ∙ some)))
 
 -- ---- what was resolved
 

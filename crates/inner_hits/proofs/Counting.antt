@@ -1,8 +1,10 @@
 -- An object that is found by counting.
-use Rattle.std.proofs.Common.{◌≡◌, ℕ, zero, suc, ◌+◌, ◌≤◌, List as Seq, [], ◌∷◌, ◌++◌, length, filter, slice_get, Option, Some, None, refl, sym, ap, ◌∙◌, arith}
+use Rattle.std.proofs.Common.{◌≡◌, ℕ, zero, suc, ◌+◌, ◌<◌, ◌≤◌, List as Seq, [], ◌∷◌, ◌++◌, length, filter, get_or, drop, slice_get, Option, Some, None, refl, sym, ap, subst, ◌∙◌, arith}
 use Rattle.std.proofs.lemmas.List.{length-append}
 use Rattle.std.proofs.lemmas.List.Elements.{filter-append}
-use Rattle.tree_json.specs.Value.{Elements, no_elements, element, JsonValue, Members, is_object, object, member_of}
+use Rattle.tree_json.specs.Value.{Elements, no_elements, element, elements_of, JsonValue, Members, is_object, object, member_of}
+use Rattle.tree_json.specs.View.{values, view}
+use Rattle.tree_json.specs.declared.value.Json.{Json}
 use Rattle.tree_objects.specs.Object.{items, items_in}
 use Rattle.flattener.specs.Walked.{behind_name, first_name, names_behind, names_left}
 use Rattle.flattener.proofs.Gathers.{items_end, items_end_text, items_end_whole, items_member, items_without, size_found}
@@ -54,8 +56,24 @@ found_here names all first d rest left new next v goes is =
     (ap (λ (l : Seq JsonValue). slice_get l left) (filter-append is_object (items d names) (items_in rest names))
     ∙ get_front (objects_along d names) (objects_in rest names) left v is)
 
-pub none_in : (names : Seq (Seq ℕ)) (all : Elements) (first left : ℕ) → GoesOn names all first no_elements left → IsCounted (objects_in all names) first left None
-none_in names all first left goes = goes.on left None (omega arith)
+drop_step : {A : Type 0} (xs : Seq A) (k : ℕ) (x : A) → k < length xs → x ≡ get_or xs k x → drop k xs ≡ x ∷ drop (k + 1) xs
+drop_step [] k x low is = absurd (omega (arith, low))
+drop_step (y ∷ xs) zero x low is = ap (λ z. z ∷ xs) (sym is)
+drop_step (y ∷ xs) (suc k) x low is = let e : suc k + 1 ≡ suc (k + 1) = omega arith in rw e (drop_step xs k x (omega (arith, low)) is)
+
+drop_end : {A : Type 0} (xs : Seq A) (k : ℕ) → length xs ≤ k → drop k xs ≡ []
+drop_end [] zero past = refl
+drop_end [] (suc k) past = refl
+drop_end (x ∷ xs) zero past = absurd (omega (arith, past))
+drop_end (x ∷ xs) (suc k) past = drop_end xs k (omega (arith, past))
+
+-- the next element
+pub next_in : (names : Seq (Seq ℕ)) (all : Elements) (elements : Seq Json) (k : ℕ) (item : Json) (first left : ℕ) → k < length elements → item ≡ get_or elements k item → GoesOn names all first (elements_of (values (drop k elements))) left
+    → GoesOn names all first (element (view item) (elements_of (values (drop (k + 1) elements)))) left
+next_in names all elements k item first left low is goes = subst (λ (l : Seq Json). GoesOn names all first (elements_of (values l)) left) (drop_step elements k item low is) goes
+
+pub none_in : (names : Seq (Seq ℕ)) (all : Elements) (elements : Seq Json) (k : ℕ) (first left : ℕ) → length elements ≤ k → GoesOn names all first (elements_of (values (drop k elements))) left → IsCounted (objects_in all names) first left None
+none_in names all elements k first left past goes = (subst (λ (l : Seq Json). GoesOn names all first (elements_of (values l)) left) (drop_end elements k past) goes).on left None (omega arith)
 
 pub counted_member : (ms : Members) (path : Seq ℕ) (d : JsonValue) (old new : ℕ) (found : Option JsonValue) → member_of ms (first_name path) ≡ Some d → IsCounted (objects_along d (names_left (behind_name path))) old new found → IsCounted (objects_along (object ms) (names_behind path)) old new found
 counted_member ms path d old new found there is = rw (items_member ms path d there) is

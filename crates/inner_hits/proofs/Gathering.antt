@@ -1,5 +1,5 @@
 -- Hits with their keys, one entry after the other.
-use Rattle.std.proofs.Common.{◌≡◌, ℕ, zero, suc, ◌+◌, ◌<◌, ◌≤◌, List as Seq, [], ◌∷◌, ◌++◌, length, map, get_or, take, drop, Option, Some, None, refl, sym, ap, ◌∙◌, arith, append_assoc}
+use Rattle.std.proofs.Common.{◌≡◌, ℕ, zero, suc, ◌+◌, ◌<◌, ◌≤◌, List as Seq, [], ◌∷◌, ◌++◌, length, map, get_or, slice_get, take, drop, nat_lt, true, false, Option, Some, None, refl, sym, ap, ◌∙◌, arith, append_assoc}
 use Rattle.std.proofs.lemmas.List.{append-nil}
 use Rattle.std.proofs.lemmas.List.Elements.{filter_map-append}
 use Rattle.std.specs.List.{cons_option, filter_map}
@@ -8,10 +8,13 @@ use Rattle.join_ordinals.specs.Ordinals.{Ordinals}
 use Rattle.mapping.specs.Mapping.{Mapping}
 use Rattle.query_eval.specs.Found.{AreLong}
 use Rattle.query_eval.specs.declared.side.Side.{Side}
-use Rattle.segment.specs.Live.{EntryState}
+use Rattle.segment.specs.Live.{EntryState, root_of}
+use Rattle.segment_parts.specs.Parts.{root_flags}
+use Rattle.std.proofs.lemmas.Bool.Decides.{nat_tests}
 use Rattle.view_objects.specs.Hits.{hits_between, hits_from, hits_in, hits_of}
 use Rattle.view_objects.specs.declared.hit.Hit.{Hit}
-use Rattle.inner_hits.specs.Kinship.{key_in, kin_from, kin_if}
+use Rattle.inner_hits.specs.Kinship.{key_in, key_of_doc, kin_from, kin_if}
+use Rattle.query_eval.specs.Sides.{key_at}
 use Rattle.inner_hits.specs.declared.joined.Kin.{Kin}
 
 -- all documents of an entry are a range
@@ -64,5 +67,28 @@ module _ (m : Mapping) (ordinals : Ordinals) (side : Side) (view : Seq EntryStat
       all : {A : Type 0} (xs : Seq A) → take (length xs) xs ≡ xs
       all [] = refl
       all (x ∷ xs) = ap (λ l. x ∷ l) (all xs)
+
+module _ (m : Mapping) (ordinals : Ordinals) (side : Side) (view : Seq EntryState) (place doc : ℕ) where
+  pub key_in_absent : slice_get view place ≡ None → None ≡ key_in m ordinals side view place doc
+  unfolding key_in
+  key_in_absent none = sym (ap (key_of_doc m ordinals side place doc) none)
+
+  pub key_in_past : (entry : EntryState) → slice_get view place ≡ Some entry → entry.columns.documents ≤ doc → None ≡ key_in m ordinals side view place doc
+  unfolding key_in
+  key_in_past entry at past = sym (ap (key_of_doc m ordinals side place doc) at ∙ rw (not_below doc entry.columns.documents past) refl)
+    where
+      not_below : (a b : ℕ) → b ≤ a → nat_lt a b ≡ false
+      not_below a b past = grind (arith, nat_tests, past)
+
+  pub key_in_there : (entry : EntryState) (root : ℕ) → slice_get view place ≡ Some entry → doc < entry.columns.documents → root ≡ root_of (root_flags entry.columns.scopes) doc → key_at m ordinals side entry.columns place root ≡ key_in m ordinals side view place doc
+  unfolding key_in
+  key_in_there entry root at low is =
+      ap (key_at m ordinals side entry.columns place) is
+      ∙ sym (ap (key_of_doc m ordinals side place doc) at ∙ rw (below doc entry.columns.documents low) refl)
+    where
+      below : (a b : ℕ) → a < b → nat_lt a b ≡ true
+      below a b low = grind (arith, nat_tests, low)
+
+pub ruleset keying = (key_in_absent, key_in_past, key_in_there)
 
 pub ruleset gathering = (kin_cons, kin_more, kin_all, whole_range)

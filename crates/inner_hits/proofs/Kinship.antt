@@ -19,19 +19,18 @@ scored_passing : (test : Tree → Bool) (given : Object → Option ℕ) (live : 
 scored_passing test given [] = refl
 scored_passing test given (t ∷ live) =
     by_test (test t)
-    (λ yes. rw yes (put yes (given (root t))))
-    (λ no. rw no (skip no (given (root t))))
+    (λ yes. rw yes (put yes (given (root t)) (scored_passing test given live)))
+    (λ no. rw no (skip no (given (root t)) (scored_passing test given live)))
   where
-    passing : Object × ℕ → Bool
-    passing p = test (tree_of p.0)
+    put : test t ≡ true → (score : Option ℕ) → filter_map (scored given) (roots (filter test live)) ≡ filter (λ (p : Object × ℕ). test (tree_of p.0)) (filter_map (scored given) (roots live))
+        → cons_option (option_map (λ s. (root t, s)) score) (filter_map (scored given) (roots (filter test live))) ≡ filter (λ (p : Object × ℕ). test (tree_of p.0)) (cons_option (option_map (λ s. (root t, s)) score) (filter_map (scored given) (roots live)))
+    put held None rest = rest
+    put held (Some s) rest = rw held (ap (λ l. (root t, s) ∷ l) rest)
 
-    put : test t ≡ true → (score : Option ℕ) → cons_option (option_map (λ s. (root t, s)) score) (filter_map (scored given) (roots (filter test live))) ≡ filter (λ (p : Object × ℕ). test (tree_of p.0)) (cons_option (option_map (λ s. (root t, s)) score) (filter_map (scored given) (roots live)))
-    put held None = scored_passing test given live
-    put held (Some s) = rw held (ap (λ l. (root t, s) ∷ l) (scored_passing test given live))
-
-    skip : test t ≡ false → (score : Option ℕ) → filter_map (scored given) (roots (filter test live)) ≡ filter (λ (p : Object × ℕ). test (tree_of p.0)) (cons_option (option_map (λ s. (root t, s)) score) (filter_map (scored given) (roots live)))
-    skip failed None = scored_passing test given live
-    skip failed (Some s) = rw failed (scored_passing test given live)
+    skip : test t ≡ false → (score : Option ℕ) → filter_map (scored given) (roots (filter test live)) ≡ filter (λ (p : Object × ℕ). test (tree_of p.0)) (filter_map (scored given) (roots live))
+        → filter_map (scored given) (roots (filter test live)) ≡ filter (λ (p : Object × ℕ). test (tree_of p.0)) (cons_option (option_map (λ s. (root t, s)) score) (filter_map (scored given) (roots live)))
+    skip failed None rest = rest
+    skip failed (Some s) rest = rw failed rest
 
 -- hits by a test of their objects
 passing_hits : (m : Mapping) (trees : Seq (Seq (Marked Tree))) (test : Tree → Bool) (is : Hit → Bool) (hits : Seq Hit) → AllByRecursion (λ (h : Hit). is h ≡ test (tree_of (hit_object m trees h).0)) hits
@@ -45,14 +44,12 @@ passing_hits m trees test is (h ∷ hits) same =
 -- the hits of a key, by the keys of hits
 pub of_keys : (key_at : Hit → Option ℕ) (key : ℕ) (hits : Seq Hit) → map hit_of (filter (has_key key) (filter_map (λ (h : Hit). option_map (λ k. record { key = k; hit = h }) (key_at h)) hits)) ≡ filter (λ (h : Hit). is_key (key_at h) key) hits
 of_keys key_at key [] = refl
-of_keys key_at key (h ∷ hits) = by (key_at h) refl
+of_keys key_at key (h ∷ hits) = by (key_at h) (of_keys key_at key hits)
   where
-    rest : Seq Kin
-    rest = filter_map (λ (h : Hit). option_map (λ k. record { key = k; hit = h }) (key_at h)) hits
-
-    by : (own : Option ℕ) → key_at h ≡ own → map hit_of (filter (has_key key) (cons_option (option_map (λ k. record { key = k; hit = h }) own) (filter_map (λ (h : Hit). option_map (λ k. record { key = k; hit = h }) (key_at h)) hits))) ≡ cond (is_key own key) (h ∷ filter (λ (h : Hit). is_key (key_at h) key) hits) (filter (λ (h : Hit). is_key (key_at h) key) hits)
-    by None is = of_keys key_at key hits
-    by (Some k) is = by_test (k == key) (λ yes. rw yes (ap (λ l. h ∷ l) (of_keys key_at key hits))) (λ no. rw no (of_keys key_at key hits))
+    by : (own : Option ℕ) → map hit_of (filter (has_key key) (filter_map (λ (h : Hit). option_map (λ k. record { key = k; hit = h }) (key_at h)) hits)) ≡ filter (λ (h : Hit). is_key (key_at h) key) hits
+        → map hit_of (filter (has_key key) (cons_option (option_map (λ k. record { key = k; hit = h }) own) (filter_map (λ (h : Hit). option_map (λ k. record { key = k; hit = h }) (key_at h)) hits))) ≡ cond (is_key own key) (h ∷ filter (λ (h : Hit). is_key (key_at h) key) hits) (filter (λ (h : Hit). is_key (key_at h) key) hits)
+    by None rest = rest
+    by (Some k) rest = by_test (k == key) (λ yes. rw yes (ap (λ l. h ∷ l) rest)) (λ no. rw no rest)
 
 pub joined_hits : (m : Mapping) (trees : Seq (Seq (Marked Tree))) (test : Tree → Bool) (given : Object → Option ℕ) (live : Seq Tree) (is : Hit → Bool) (hits : Seq Hit) → AllByRecursion (λ (h : Hit). is h ≡ test (tree_of (hit_object m trees h).0)) hits
     → map (hit_object m trees) hits ≡ filter_map (scored given) (roots live)

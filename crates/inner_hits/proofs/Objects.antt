@@ -22,12 +22,13 @@ row_of_pair m live sorts pair = row_of m live sorts pair.0 pair.1
 
 rows_paired : (m : Mapping) (live : Seq Tree) (query : Clause) (sorts : Seq Sort) (os : Seq Object) → filter_map (row_if m live query sorts) os ≡ map (row_of_pair m live sorts) (filter_map (scored (hit m live query)) os)
 rows_paired m live query sorts [] = refl
-rows_paired m live query sorts (o ∷ os) = by (hit m live query o)
+rows_paired m live query sorts (o ∷ os) = by (hit m live query o) (rows_paired m live query sorts os)
   where
-    by : (score : Option ℕ) → cons_option (option_map (row_of m live sorts o) score) (filter_map (row_if m live query sorts) os)
+    by : (score : Option ℕ) → filter_map (row_if m live query sorts) os ≡ map (row_of_pair m live sorts) (filter_map (scored (hit m live query)) os)
+        → cons_option (option_map (row_of m live sorts o) score) (filter_map (row_if m live query sorts) os)
         ≡ map (row_of_pair m live sorts) (cons_option (option_map (λ s. (o, s)) score) (filter_map (scored (hit m live query)) os))
-    by None = rows_paired m live query sorts os
-    by (Some s) = ap (λ l. row_of m live sorts o s ∷ l) (rows_paired m live query sorts os)
+    by None rest = rest
+    by (Some s) rest = ap (λ l. row_of m live sorts o s ∷ l) rest
 
 -- the rows of objects with scores are those of the hits that stand for them
 pub rows_found : (m : Mapping) (trees : Seq (Seq (Marked Tree))) (query : Clause) (sorts : Seq Sort) (os : Seq Object) (hits : Seq Hit)
@@ -57,33 +58,34 @@ of_children m t o n own =
     (λ yes. rw yes (of_numbered t o n 0 (filter is_object (items (content o) (scope_at m n).names)) own))
     (λ no. rw no tt)
 
-of_along : (m : Mapping) (t : Tree) (o : Object) (ns : Seq ℕ) → tree_of o ≡ t → OfTree t (below_along m o ns)
-of_along m t o [] own = (own, tt)
-of_along m t o (n ∷ ns) own = each (children m o n) (of_children m t o n own)
-  where
-    each : (os : Seq Object) → OfTree t os → OfTree t (flat_map (λ c. below_along m c ns) os)
-    each [] are = tt
-    each (c ∷ os) are = of_append t (below_along m c ns) (flat_map (λ c. below_along m c ns) os) (of_along m t c ns are.0) (each os are.1)
+mutual
+  of_along : (m : Mapping) (t : Tree) (o : Object) (ns : Seq ℕ) → tree_of o ≡ t → OfTree t (below_along m o ns)
+  of_along m t o [] own = (own, tt)
+  of_along m t o (n ∷ ns) own = of_each m t ns (children m o n) (of_children m t o n own)
+
+  of_each : (m : Mapping) (t : Tree) (ns : Seq ℕ) (os : Seq Object) → OfTree t os → OfTree t (flat_map (λ c. below_along m c ns) os)
+  of_each m t ns [] are = tt
+  of_each m t ns (c ∷ os) are = of_append t (below_along m c ns) (flat_map (λ c. below_along m c ns) os) (of_along m t c ns are.0) (of_each m t ns os are.1)
 
 pub of_below : (m : Mapping) (o : Object) (p : ℕ) → OfTree (tree_of o) (below m o p)
 unfolding below
 of_below m o p = of_along m (tree_of o) o (way m (scope o) p) refl
 
 -- so are the objects of hits that stand for some of them
-pub hits_of_tree : (m : Mapping) (trees : Seq (Seq (Marked Tree))) (given : Object → Option ℕ) (t : Tree) (os : Seq Object) (hits : Seq Hit) → OfTree t os → map (hit_object m trees) hits ≡ filter_map (scored given) os → AllByRecursion (λ (h : Hit). tree_of (hit_object m trees h).0 ≡ t) hits
-hits_of_tree m trees given t os hits own are = unpaired hits (subst (λ (ps : Seq (Object × ℕ)). AllByRecursion (λ (p : Object × ℕ). tree_of p.0 ≡ t) ps) (sym are) (paired os own))
+of_scored : (given : Object → Option ℕ) (t : Tree) (os : Seq Object) → OfTree t os → AllByRecursion (λ (p : Object × ℕ). tree_of p.0 ≡ t) (filter_map (scored given) os)
+of_scored given t [] own = tt
+of_scored given t (o ∷ os) own = by (given o) (of_scored given t os own.1)
   where
-    paired : (os : Seq Object) → OfTree t os → AllByRecursion (λ (p : Object × ℕ). tree_of p.0 ≡ t) (filter_map (scored given) os)
-    paired [] own = tt
-    paired (o ∷ os) own = by (given o)
-      where
-        by : (score : Option ℕ) → AllByRecursion (λ (p : Object × ℕ). tree_of p.0 ≡ t) (cons_option (option_map (λ s. (o, s)) score) (filter_map (scored given) os))
-        by None = paired os own.1
-        by (Some s) = (own.0, paired os own.1)
+    by : (score : Option ℕ) → AllByRecursion (λ (p : Object × ℕ). tree_of p.0 ≡ t) (filter_map (scored given) os) → AllByRecursion (λ (p : Object × ℕ). tree_of p.0 ≡ t) (cons_option (option_map (λ s. (o, s)) score) (filter_map (scored given) os))
+    by None rest = rest
+    by (Some s) rest = (own.0, rest)
 
-    unpaired : (hits : Seq Hit) → AllByRecursion (λ (p : Object × ℕ). tree_of p.0 ≡ t) (map (hit_object m trees) hits) → AllByRecursion (λ (h : Hit). tree_of (hit_object m trees h).0 ≡ t) hits
-    unpaired [] are = tt
-    unpaired (h ∷ hits) are = (are.0, unpaired hits are.1)
+of_hits : (m : Mapping) (trees : Seq (Seq (Marked Tree))) (t : Tree) (hits : Seq Hit) → AllByRecursion (λ (p : Object × ℕ). tree_of p.0 ≡ t) (map (hit_object m trees) hits) → AllByRecursion (λ (h : Hit). tree_of (hit_object m trees h).0 ≡ t) hits
+of_hits m trees t [] are = tt
+of_hits m trees t (h ∷ hits) are = (are.0, of_hits m trees t hits are.1)
+
+pub hits_of_tree : (m : Mapping) (trees : Seq (Seq (Marked Tree))) (given : Object → Option ℕ) (t : Tree) (os : Seq Object) (hits : Seq Hit) → OfTree t os → map (hit_object m trees) hits ≡ filter_map (scored given) os → AllByRecursion (λ (h : Hit). tree_of (hit_object m trees h).0 ≡ t) hits
+hits_of_tree m trees given t os hits own are = of_hits m trees t hits (subst (λ (ps : Seq (Object × ℕ)). AllByRecursion (λ (p : Object × ℕ). tree_of p.0 ≡ t) ps) (sym are) (of_scored given t os own))
 
 -- ---- the tree of a hit is one of the live trees
 

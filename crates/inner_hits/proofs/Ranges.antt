@@ -1,5 +1,5 @@
 -- Documents with scores, and documents of a scope, in a range.
-use Rattle.std.proofs.Common.{◌≡◌, ℕ, zero, suc, ◌+◌, ◌-◌, ◌<◌, ◌≤◌, ◌==◌, List as Seq, [], ◌∷◌, ◌++◌, length, map, filter, get_or, take, drop, Bool, true, false, cond, Option, Some, None, is_some, refl, sym, ap, ◌∙◌, arith, append_assoc}
+use Rattle.std.proofs.Common.{◌≡◌, ℕ, zero, suc, ◌+◌, ◌-◌, ◌<◌, ◌≤◌, ◌==◌, List as Seq, [], ◌∷◌, ◌++◌, length, map, filter, get_or, replicate, take, drop, Bool, true, false, cond, Option, Some, None, is_some, refl, sym, ap, ◌∙◌, arith, append_assoc}
 use Rattle.std.proofs.lemmas.Bool.{false≢true}
 use Rattle.std.proofs.lemmas.List.{append-nil, drop-map, take-map}
 use Rattle.std.proofs.lemmas.Option.{same_Some}
@@ -26,8 +26,8 @@ drop_take (suc from) (suc end) (x ∷ xs) = let e : suc end - suc from ≡ end -
 
 drop_further : {A : Type 0} (j k : ℕ) (xs : Seq A) → drop j (drop k xs) ≡ drop (k + j) xs
 drop_further j zero xs = let e : 0 + j ≡ j = omega arith in rw e refl
-drop_further zero (suc k) [] = refl
-drop_further (suc j) (suc k) [] = refl
+drop_further zero (suc k) [] = let e : suc k + 0 ≡ suc (k + 0) = omega arith in rw e refl
+drop_further (suc j) (suc k) [] = let e : suc k + suc j ≡ suc (k + suc j) = omega arith in rw e refl
 drop_further j (suc k) (x ∷ xs) = let e : suc k + j ≡ suc (k + j) = omega arith in rw e (drop_further j k xs)
 
 pub get_at : {A : Type 0} (k j : ℕ) (xs : Seq A) (d : A) → get_or (drop k xs) j d ≡ get_or xs (k + j) d
@@ -37,13 +37,16 @@ get_at (suc k) j (x ∷ xs) d = let e : suc k + j ≡ suc (k + j) = omega arith 
 
 -- ---- the next document with a score
 
+by_test : {G : Type 0} (t : Bool) → (t ≡ true → G) → (t ≡ false → G) → G
+by_test true held failed = held refl
+by_test false held failed = failed refl
+
 behind : {X : Type 0} (test : X → Bool) (k : ℕ) (xs : Seq X) (p : ℕ) → position_from test k xs ≡ Some p → k ≤ p
 behind test k [] p is = absurd (let no : ⊥ = cc in no)
-behind test k (x ∷ xs) p is = by (test x) refl
-  where
-    by : (b : Bool) → test x ≡ b → k ≤ p
-    by true held = let e : Some k ≡ Some p = rw held at is in omega (arith, same_Some k p e)
-    by false failed = let e : position_from test (k + 1) xs ≡ Some p = rw failed at is in omega (arith, behind test (k + 1) xs p e)
+behind test k (x ∷ xs) p is =
+    by_test (test x)
+    (λ held. let e : Some k ≡ Some p = rw held at is in omega (arith, same_Some k p e))
+    (λ failed. let e : position_from test (k + 1) xs ≡ Some p = rw failed at is in omega (arith, behind test (k + 1) xs p e))
 
 module _ (place : ℕ) where
   first_from : (k n : ℕ) (xs : Seq (Option ℕ)) (p s : ℕ) → position_from is_some k xs ≡ Some p → p < k + n → get_or xs (p - k) None ≡ Some s
@@ -153,26 +156,24 @@ next_of_flags n from scopes = ap (position_from is_marked from) (drop-map (has_s
 
 counted_from : (n k : ℕ) (ss : Seq ℕ) (p : ℕ) → position_from is_marked k (map (has_scope n) ss) ≡ Some p → length (filter (has_scope n) ss) ≡ suc (length (filter (has_scope n) (drop (p + 1 - k) ss)))
 counted_from n k [] p is = absurd (let no : ⊥ = cc in no)
-counted_from n k (s ∷ ss) p is = by (s == n) refl
-  where
-    by : (b : Bool) → (s == n) ≡ b → length (filter (has_scope n) (s ∷ ss)) ≡ suc (length (filter (has_scope n) (drop (p + 1 - k) (s ∷ ss))))
-    by true held =
-        let e : Some k ≡ Some p = rw held at is in
-        let one : p + 1 - k ≡ 1 = omega (arith, same_Some k p e) in
-        rw (held, one) refl
-    by false failed =
-        let e : position_from is_marked (k + 1) (map (has_scope n) ss) ≡ Some p = rw failed at is in
-        let far : k + 1 ≤ p = behind is_marked (k + 1) (map (has_scope n) ss) p e in
-        let over : p + 1 - k ≡ suc (p + 1 - (k + 1)) = omega (arith, far) in
-        rw (failed, over) (counted_from n (k + 1) ss p e)
+counted_from n k (s ∷ ss) p is =
+    by_test (s == n)
+    (λ held.
+    let e : Some k ≡ Some p = rw held at is in
+    let one : p + 1 - k ≡ 1 = omega (arith, same_Some k p e) in
+    rw (held, one) refl)
+    (λ failed.
+    let e : position_from is_marked (k + 1) (map (has_scope n) ss) ≡ Some p = rw failed at is in
+    let far : k + 1 ≤ p = behind is_marked (k + 1) (map (has_scope n) ss) p e in
+    let over : p + 1 - k ≡ suc (p + 1 - (k + 1)) = omega (arith, far) in
+    rw (failed, over) (counted_from n (k + 1) ss p e))
 
 none_counted : (n k : ℕ) (ss : Seq ℕ) → position_from is_marked k (map (has_scope n) ss) ≡ None → length (filter (has_scope n) ss) ≡ 0
 none_counted n k [] is = refl
-none_counted n k (s ∷ ss) is = by (s == n) refl
-  where
-    by : (b : Bool) → (s == n) ≡ b → length (filter (has_scope n) (s ∷ ss)) ≡ 0
-    by true held = absurd (let e : Some k ≡ None = rw held at is in let no : ⊥ = cc in no)
-    by false failed = let e : position_from is_marked (k + 1) (map (has_scope n) ss) ≡ None = rw failed at is in rw failed (none_counted n (k + 1) ss e)
+none_counted n k (s ∷ ss) is =
+    by_test (s == n)
+    (λ held. absurd (let e : Some k ≡ None = rw held at is in let no : ⊥ = cc in no))
+    (λ failed. let e : position_from is_marked (k + 1) (map (has_scope n) ss) ≡ None = rw failed at is in rw failed (none_counted n (k + 1) ss e))
 
 flags_range : (n from end : ℕ) (scopes : Seq ℕ) → drop from (take end (documents_of scopes n)) ≡ map (has_scope n) (drop from (take end scopes))
 flags_range n from end scopes = ap (drop from) (take-map (has_scope n) end scopes) ∙ drop-map (has_scope n) from (take end scopes)
@@ -236,3 +237,12 @@ pub ruleset starts = (previous_of_flags, no_previous)
 pub ruleset counts = (count_more, count_none, none_of)
 
 pub ruleset nexts = (next_of_flags, no_next)
+
+-- one hit more is pushed
+pub hits_push : (had new all : Seq Hit) (hit : Hit) (rest more : Seq Hit) → new ≡ had ++ hit ∷ [] → rest ≡ hit ∷ more → had ++ rest ≡ all → new ++ more ≡ all
+hits_push had new all hit rest more is first goes = ap (λ l. l ++ more) is ∙ append_assoc had (hit ∷ []) more ∙ ap (λ l. had ++ l) (sym first) ∙ goes
+
+pub off_at : (k doc : ℕ) → get_or (replicate k false) doc false ≡ false
+off_at zero doc = refl
+off_at (suc k) zero = refl
+off_at (suc k) (suc doc) = off_at k doc

@@ -1,7 +1,8 @@
 -- The roots of documents.
-use Rattle.std.proofs.Common.{◌≡◌, ℕ, zero, suc, ◌+◌, ◌<◌, ◌==◌, List as Seq, [], ◌∷◌, length, map, get_or, slice_get, Bool, true, false, Option, Some, None, nat_eq, refl, sym, ap, ◌∙◌, arith}
+use Rattle.std.proofs.Common.{◌≡◌, ℕ, zero, suc, ◌+◌, ◌<◌, ◌==◌, List as Seq, [], ◌∷◌, length, map, get_or, slice_get, Bool, true, false, Option, Some, None, nat_eq, not, refl, sym, ap, ◌∙◌, arith}
 use Rattle.std.proofs.lemmas.List.FromFn.{length-map-range_with_len}
-use Rattle.std.specs.List.{position_or_len}
+use Rattle.std.proofs.lemmas.Bool.{ne_eqb}
+use Rattle.std.specs.List.{position_or_len, prefix_len}
 use Rattle.block_bits.specs.Blocks.{documents_of}
 use Rattle.flattener.specs.Block.{root_of_tree}
 use Rattle.flattener.specs.StandsFor.{EntryStandsFor, Marked}
@@ -24,7 +25,10 @@ use Rattle.inner_hits.proofs.Paging.{by_test}
 -- ---- the documents of roots are those of scope 0
 
 first_is : {A : Type 0} (test : A → Bool) (x : A) (xs : Seq A) → test x ≡ nat_eq (position_or_len test (x ∷ xs)) 0
-first_is test x xs = by_test (test x) (λ yes. rw yes refl) (λ no. rw no refl)
+first_is test x xs = by_test (test x) (λ yes. rw yes refl) (λ no. rw no (later (prefix_len (λ y. not (test y)) xs)))
+  where
+    later : (n : ℕ) → false ≡ nat_eq (1 + n) 0
+    later n = sym (ne_eqb (1 + n) 0 (λ same. omega (arith, same)))
 
 flags_long : (c : Columns) (live : LiveState) → IsLiveOver c live → length (root_flags c.scopes) ≡ c.documents
 unfolding live_docs

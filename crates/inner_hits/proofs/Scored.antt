@@ -21,7 +21,7 @@ all_later : (place k end : ℕ) (x : Option ℕ) (xs : Seq (Option ℕ)) (hits :
 all_later place k end x xs [] all = tt
 all_later place k end x xs (h ∷ hits) all = (later place k end x xs h all.0, all_later place k end x xs hits all.1)
 
-stand_from : (place k : ℕ) (xs : Seq (Option ℕ)) (end : ℕ) → k + length xs ≤ end → AllByRecursion (Stands place k end xs) (hits_from place k xs)
+pub stand_from : (place k : ℕ) (xs : Seq (Option ℕ)) (end : ℕ) → k + length xs ≤ end → AllByRecursion (Stands place k end xs) (hits_from place k xs)
 stand_from place k [] end low = tt
 stand_from place k (None ∷ xs) end low = all_later place k end None xs (hits_from place (k + 1) xs) (stand_from place (k + 1) xs end (omega (arith, low)))
 stand_from place k (Some s ∷ xs) end low =

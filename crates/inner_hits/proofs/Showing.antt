@@ -1,6 +1,6 @@
 -- Pages and hits as they are shown.
-use Rattle.std.proofs.Common.{◌≡◌, ℕ, zero, suc, ℤ, ◌+◌, ◌≤◌, List as Seq, [], ◌∷◌, ◌++◌, length, map, take, drop, Bool, true, false, Option, Some, None, refl, sym, ap, ◌∙◌, arith, if◌then◌else◌}
-use Rattle.std.proofs.lemmas.List.{length-map}
+use Rattle.std.proofs.Common.{◌≡◌, ℕ, zero, suc, ℤ, ◌+◌, ◌<◌, ◌≤◌, List as Seq, [], ◌∷◌, ◌++◌, length, get_or, map, take, drop, Bool, true, false, Option, Some, None, refl, sym, ap, ◌∙◌, arith, append_assoc, if◌then◌else◌}
+use Rattle.std.proofs.lemmas.List.{append-nil, length-map, map-append}
 use Rattle.std.specs.List.{filter_map}
 use Rattle.flattener.specs.StandsFor.{Marked}
 use Rattle.mapping.specs.Mapping.{Mapping}
@@ -15,13 +15,18 @@ use Rattle.query_ast.specs.Page.{direction_of, page_of}
 use Rattle.query_ast.specs.Pages.{HitPart, InnerHead, PagePart, hits_of, pages_of}
 use Rattle.query_ast.specs.Rows.{Row, keys_of as row_keys, number_of as row_number, paged, rows_of}
 use Rattle.query_ast.specs.declared.hit.Level.{Level}
+use Rattle.query_ast.specs.Pages.View.{hit_part, page_part}
+use Rattle.query_ast.specs.declared.hit.InnerHit.{InnerHit}
+use Rattle.query_ast.specs.declared.hit.InnerPage.{InnerPage}
 use Rattle.query_ast.specs.declared.inner.InnerDef.{InnerDef}
+use Rattle.query_ast.specs.declared.inner.InnerOver.{InnerOver}
+use Rattle.query_ast.specs.declared.inner.InnerOver.TheVariants.{Below, Children as ChildTrees, Parents as ParentTrees, Ignored}
 use Rattle.query_ast.specs.declared.sort.Direction.{Direction}
 use Rattle.query_ast.specs.declared.sort.Key.{Key}
 use Rattle.query_ast.specs.declared.sort.Sort.{Sort}
 use Rattle.tree_joins.specs.Seen.{scored}
 use Rattle.tree_json.specs.Text.{compact}
-use Rattle.tree_objects.specs.Object.{Object, content, inside, root, scope, tree_of}
+use Rattle.tree_objects.specs.Object.{Object, below, content, inside, root, scope, tree_of}
 use Rattle.tree_objects.specs.Tree.{Tree}
 use Rattle.view_objects.specs.Hits.{hit_object, live_trees, object_at}
 use Rattle.view_objects.specs.declared.hit.Hit.{Hit}
@@ -79,7 +84,7 @@ take_nothing (suc k) = refl
 
 no_page : {A : Type 0} (keys : A → Seq Key) (number : A → ℤ) (ds : Seq Direction) (from size : ℕ) → page_of keys number ds None from size [] ≡ []
 unfolding page_of
-no_page {A} keys number ds from size = ap (λ (l : Seq A). take size l) (drop_nothing {A} from) ∙ take_nothing {A} size
+no_page {A = A} keys number ds from size = ap (λ (l : Seq A). take size l) (drop_nothing {A = A} from) ∙ take_nothing {A = A} size
 
 no_rows : (m : Mapping) (live : Seq Tree) (query : Clause) (sorts : Seq Sort) → rows_of m live query sorts [] ≡ []
 unfolding rows_of
@@ -113,3 +118,57 @@ joined_shown m trees def hit = omega arith
 pub joined_more : (m : Mapping) (trees : Seq (Seq (Marked Tree))) (def : InnerDef) (hit : Hit) (hits : Seq Hit)
     → joined_among (hits_of (map (shown_as m trees (inner_of def)) (hit ∷ hits))) ≡ joined_among (hits_of (shown_as m trees (inner_of def) hit ∷ [])) + joined_among (hits_of (map (shown_as m trees (inner_of def)) hits))
 joined_more m trees def hit hits = omega arith
+
+-- ---- the page of a definition, by what it is over
+
+module _ (m : Mapping) (trees : Seq (Seq (Marked Tree))) (def : InnerDef) (o : Object) (hits : Seq Hit) where
+  pub page_below : (path : ℕ) → def.over ≡ Below path → map (hit_object m trees) hits ≡ filter_map (scored (hit m (live_trees trees) def.query)) (below m o path)
+      → page_in m (live_trees trees) (inner_of def) (map (row_at m trees def.sort) hits) ≡ inner_page m (live_trees trees) (inner_of def) o
+  page_below path is are = page_found m trees def o hits (are ∙ sym (ap (λ (over : InnerOver). filter_map (scored (hit m (live_trees trees) def.query)) (objects_over m (live_trees trees) over o)) is))
+
+  pub page_children : (r : ℕ) → def.over ≡ ChildTrees r → map (hit_object m trees) hits ≡ filter_map (scored (hit m (live_trees trees) def.query)) (roots (child_trees m (live_trees trees) r o))
+      → page_in m (live_trees trees) (inner_of def) (map (row_at m trees def.sort) hits) ≡ inner_page m (live_trees trees) (inner_of def) o
+  page_children r is are = page_found m trees def o hits (are ∙ sym (ap (λ (over : InnerOver). filter_map (scored (hit m (live_trees trees) def.query)) (objects_over m (live_trees trees) over o)) is))
+
+  pub page_parents : (r : ℕ) → def.over ≡ ParentTrees r → map (hit_object m trees) hits ≡ filter_map (scored (hit m (live_trees trees) def.query)) (roots (parent_trees m (live_trees trees) r o))
+      → page_in m (live_trees trees) (inner_of def) (map (row_at m trees def.sort) hits) ≡ inner_page m (live_trees trees) (inner_of def) o
+  page_parents r is are = page_found m trees def o hits (are ∙ sym (ap (λ (over : InnerOver). filter_map (scored (hit m (live_trees trees) def.query)) (objects_over m (live_trees trees) over o)) is))
+
+module _ (m : Mapping) (live : Seq Tree) (def : InnerDef) (o : Object) where
+  pub empty_ignored : def.over ≡ Ignored → record { name = def.name; hits = hits_of []; total = 0 } ≡ inner_page m live (inner_of def) o
+  empty_ignored is = empty_is m live def o (ap (λ (over : InnerOver). objects_over m live over o) is)
+
+  pub empty_children : (r n : ℕ) → def.over ≡ ChildTrees r → scope o ≡ n → (n ≡ 0 → ⊥) → record { name = def.name; hits = hits_of []; total = 0 } ≡ inner_page m live (inner_of def) o
+  empty_children r n is here other = empty_is m live def o (ap (λ (over : InnerOver). objects_over m live over o) is ∙ no_children m live r o n here other)
+
+  pub empty_parents : (r n : ℕ) → def.over ≡ ParentTrees r → scope o ≡ n → (n ≡ 0 → ⊥) → record { name = def.name; hits = hits_of []; total = 0 } ≡ inner_page m live (inner_of def) o
+  empty_parents r n is here other = empty_is m live def o (ap (λ (over : InnerOver). objects_over m live over o) is ∙ no_parents m live r o n here other)
+
+-- ---- pages and hits, one after the other
+
+pub pages_none : (old : Seq PagePart) → old ≡ old ++ []
+pages_none old = sym (append-nil old)
+
+pub pages_more : (old mid new : Seq InnerPage) (page : InnerPage) (p : PagePart) (ps : Seq PagePart) → mid ≡ old ++ page ∷ [] → page_part page ≡ p → map page_part new ≡ map page_part mid ++ ps → map page_part new ≡ map page_part old ++ p ∷ ps
+pages_more old mid new page p ps is own rest =
+    rest
+    ∙ ap (λ (l : Seq InnerPage). map page_part l ++ ps) is
+    ∙ ap (λ (l : Seq PagePart). l ++ ps) (map-append page_part old (page ∷ []))
+    ∙ append_assoc (map page_part old) (page_part page ∷ []) ps
+    ∙ ap (λ (x : PagePart). map page_part old ++ x ∷ ps) own
+
+pub shown_more : (f : Hit → HitPart) (hits : Seq Hit) (i : ℕ) (h : Hit) (had new : Seq InnerHit) (one : InnerHit) → drop i hits ≡ h ∷ drop (i + 1) hits → hit_part one ≡ f h → new ≡ had ++ one ∷ []
+    → map hit_part had ++ map f (drop i hits) ≡ map f hits → map hit_part new ++ map f (drop (i + 1) hits) ≡ map f hits
+shown_more f hits i h had new one step own is goes =
+    ap (λ (l : Seq InnerHit). map hit_part l ++ map f (drop (i + 1) hits)) is
+    ∙ ap (λ (l : Seq HitPart). l ++ map f (drop (i + 1) hits)) (map-append hit_part had (one ∷ []))
+    ∙ append_assoc (map hit_part had) (hit_part one ∷ []) (map f (drop (i + 1) hits))
+    ∙ ap (λ (x : HitPart). map hit_part had ++ x ∷ map f (drop (i + 1) hits)) own
+    ∙ ap (λ (l : Seq Hit). map hit_part had ++ map f l) (sym step)
+    ∙ goes
+
+pub drop_step : (xs : Seq Hit) (k : ℕ) (x : Hit) → k < length xs → x ≡ get_or xs k x → drop k xs ≡ x ∷ drop (k + 1) xs
+drop_step [] k x low is = absurd (omega (arith, low))
+drop_step (y ∷ xs) zero x low is = ap (λ z. z ∷ xs) (sym is)
+drop_step (y ∷ xs) (suc k) x low is = let e : suc k + 1 ≡ suc (k + 1) = omega arith in rw e (drop_step xs k x (omega (arith, low)) is)
+

@@ -1,6 +1,8 @@
 -- Hits of one key among hits in the order of their keys.
-use Rattle.std.proofs.Common.{◌≡◌, ℕ, zero, suc, ◌+◌, ◌-◌, ◌<◌, ◌≤◌, ◌==◌, List as Seq, [], ◌∷◌, ◌++◌, length, map, filter, get_or, take, drop, Bool, true, false, cond, not, ◌&&◌, refl, sym, ap, ◌∙◌, arith, append_assoc}
+use Rattle.std.proofs.Common.{◌≡◌, ℕ, zero, suc, ◌+◌, ◌-◌, ◌<◌, ◌≤◌, ◌==◌, List as Seq, [], ◌∷◌, ◌++◌, length, map, filter, get_or, take, drop, Bool, true, false, cond, not, ltb, ◌&&◌, ◌⊎◌, inl, inr, refl, sym, ap, ◌∙◌, arith, append_assoc}
+use Rattle.std.proofs.lemmas.Bool.{cases_lt}
 use Rattle.std.proofs.lemmas.Bool.Decides.{nat_tests}
+use Rattle.std.proofs.lemmas.List.{append-nil}
 use Rattle.std.specs.List.Sorted.{IsStableByKey, ties}
 use Rattle.std.specs.Ordering.{is_lt, nat_cmp}
 use Rattle.inner_hits.specs.Kinship.{IsInKeyOrder, has_key, hit_of, key_of}
@@ -86,3 +88,32 @@ stays xs ys stable key =
     sym (same_filter (ties lt (of_key key)) (has_key key) (ties_are key) ys)
     ∙ stable (of_key key)
     ∙ same_filter (ties lt (of_key key)) (has_key key) (ties_are key) xs
+
+pub low_true : (a b : ℕ) → ltb a b ≡ true → a < b
+low_true a b h = grind (arith, nat_tests)
+
+pub low_false : (a b : ℕ) → ltb a b ≡ false → b ≤ a
+low_false a b h = grind (arith, nat_tests)
+
+-- no more of the key
+pub done_at : (kin : Seq Kin) (key at : ℕ) (d : Kin) (had all : Seq Hit) → IsInKeyOrder kin → key ≤ key_of (get_or kin at d) → (key_of (get_or kin at d) ≡ key → ⊥) → at < length kin → had ++ map hit_of (filter (has_key key) (drop at kin)) ≡ all → had ≡ all
+done_at kin key at d had all sorted up other low goes =
+    let greater : key < key_of (get_or kin at d) = above key (key_of (get_or kin at d)) up other in
+    sym (append-nil had) ∙ ap (λ (l : Seq Kin). had ++ map hit_of l) (sym (none_behind kin key at d sorted greater low)) ∙ goes
+  where
+    above : (a b : ℕ) → a ≤ b → (b ≡ a → ⊥) → a < b
+    above a b up other = by (cases_lt a b)
+      where
+        by : (a < b) ⊎ (b ≤ a) → a < b
+        by (inl less) = less
+        by (inr back) = absurd (other (omega (arith, up, back)))
+
+pub done_all : (kin : Seq Kin) (key at : ℕ) (had all : Seq Hit) → length kin ≤ at → had ++ map hit_of (filter (has_key key) (drop at kin)) ≡ all → had ≡ all
+done_all kin key at had all past goes = sym (append-nil had) ∙ ap (λ (l : Seq Kin). had ++ map hit_of (filter (has_key key) l)) (sym (end kin at past)) ∙ goes
+  where
+    end : (xs : Seq Kin) (k : ℕ) → length xs ≤ k → drop k xs ≡ []
+    end [] zero past = refl
+    end [] (suc k) past = refl
+    end (x ∷ xs) zero past = absurd (omega (arith, past))
+    end (x ∷ xs) (suc k) past = end xs k (omega (arith, past))
+

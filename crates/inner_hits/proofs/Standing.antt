@@ -91,7 +91,7 @@ seen_at m n given trees doc score is =
 
 -- ---- a root that a query hits
 
-pub live_root : (m : Mapping) (view : Seq EntryState) (trees : Seq (Seq (Marked Tree))) (given : Object → Option ℕ) (place doc score : ℕ) (it : Standing m view trees place) → IsInTree m (get_or trees place []) doc
+abbrev pub live_root : (m : Mapping) (view : Seq EntryState) (trees : Seq (Seq (Marked Tree))) (given : Object → Option ℕ) (place doc score : ℕ) (it : Standing m view trees place) → IsInTree m (get_or trees place []) doc
     → get_or (seen m (at_scope 0 given) (get_or trees place [])) doc None ≡ Some score → IsLiveRoot m view place (root_of (documents_of (scopes_of m (get_or trees place [])) 0) doc) (tree_of (object_at m trees place doc))
 live_root m view trees given place doc score it in_tree is =
     let seen_there = seen_at m 0 given (get_or trees place []) doc score is in

@@ -1,7 +1,7 @@
 -- What is evaluated once for a search, so that each hit finds its inner hits in it.
 pub mod View
 pub mod Falls
-use Rattle.std.specs.Prelude.{◌≡◌, ℕ, List, ◌++◌, Option, ⊤, ⊥}
+use Rattle.std.specs.Prelude.{◌≡◌, ℕ, Bool, true, false, List, ◌++◌, Option, ⊤}
 use Rattle.join_ordinals.specs.Ordinals.{Ordinals}
 use Rattle.mapping.specs.Mapping.{Mapping}
 use Rattle.query_ast.specs.Clause.{Clause}
@@ -21,20 +21,27 @@ use Rattle.inner_hits.specs.Kinship.{AreKin}
 abbrev pub IsAnswered : Mapping → List EntryState → ℕ → Clause → List Sort → List (List (Option ℕ)) → List (List (List (Option ℕ))) → Type 0
 IsAnswered m view n query sorts scores filters = IsFound m view n query scores × AreFound m view (filters_of sorts) filters
 
--- A definition is evaluated in the scope of its objects, and those that it owns in theirs; where it joins trees the hits
--- stand by their keys. Of an ignored one nothing is evaluated.
+-- what a definition is over decides what is evaluated for it, in the scope of its objects; where it joins trees the hits stand by
+-- their keys
+abbrev pub IsEvaluated : Mapping → List EntryState → Ordinals → InnerOver → Inner → Answer → Type 0
+IsEvaluated m view ordinals (Below p) def answer = IsAnswered m view p def.query def.sort answer.scores answer.filters
+IsEvaluated m view ordinals (ChildTrees r) def answer =
+    IsAnswered m view 0 def.query def.sort answer.scores answer.filters × AreKin m ordinals (Children r) view answer.scores answer.kin
+IsEvaluated m view ordinals (ParentTrees r) def answer =
+    IsAnswered m view 0 def.query def.sort answer.scores answer.filters × AreKin m ordinals (Parents r) view answer.scores answer.kin
+IsEvaluated m view ordinals Ignored def answer = ⊤
+
+abbrev pub is_ignored : InnerOver → Bool
+is_ignored (Below p) = false
+is_ignored (ChildTrees r) = false
+is_ignored (ParentTrees r) = false
+is_ignored Ignored = true
+
+-- A definition is evaluated, and those that it owns are; of an ignored one nothing is.
 abbrev mutual
   pub IsPrepared : Mapping → List EntryState → Ordinals → Definition Inner → Definition Answer → Type 0
-  IsPrepared m view ordinals (definition def owned) (definition answer inner) = IsPreparedOver m view ordinals def.over def owned answer inner
-
-  pub IsPreparedOver : Mapping → List EntryState → Ordinals → InnerOver → Inner → Definitions Inner → Answer → Definitions Answer → Type 0
-  IsPreparedOver m view ordinals (Below p) def owned answer inner =
-      IsAnswered m view p def.query def.sort answer.scores answer.filters × ArePrepared m view ordinals owned inner
-  IsPreparedOver m view ordinals (ChildTrees r) def owned answer inner =
-      IsAnswered m view 0 def.query def.sort answer.scores answer.filters × AreKin m ordinals (Children r) view answer.scores answer.kin × ArePrepared m view ordinals owned inner
-  IsPreparedOver m view ordinals (ParentTrees r) def owned answer inner =
-      IsAnswered m view 0 def.query def.sort answer.scores answer.filters × AreKin m ordinals (Parents r) view answer.scores answer.kin × ArePrepared m view ordinals owned inner
-  IsPreparedOver m view ordinals Ignored def owned answer inner = ⊤
+  IsPrepared m view ordinals (definition def owned) (definition answer inner) =
+      IsEvaluated m view ordinals def.over def answer × (is_ignored def.over ≡ false → ArePrepared m view ordinals owned inner)
 
   pub ArePrepared : Mapping → List EntryState → Ordinals → Definitions Inner → Definitions Answer → Type 0
   ArePrepared m view ordinals no_definitions no_definitions = ⊤

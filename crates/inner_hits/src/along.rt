@@ -43,8 +43,9 @@ fn counted_in<'a>(elements: &'a [Json], path: Option<&[u8]>, left: &mut u32) -> 
     ensures { IsCounted (objects_in (elements_of (values elements.now)) (names_left (option_map (λ p. p.now) path.entry))) left.old left.new (option_map (λ j. view j.now) result) }
 {
     'elements: for element in elements {
-        if let Some(found) = counted(element, path, left) {
-            return Some(found);
+        match counted(element, path, left) {
+            Some(found) => return Some(found),
+            None => {}
         }
     }
     None

@@ -76,7 +76,7 @@ fn inside<'a>(
     requires around { around < length mapping.now.scopes }
     requires scope { scope < length mapping.now.scopes }
     requires outer { outer mapping.now scope ≡ around }
-    ensures { IfOk result (λ it. (o child : Object) → IsLocated mapping.now o enclosing → ChildIs mapping.now o scope offset child → IsLocated mapping.now child it) }
+    ensures { IfOk result (λ it. (o child : Object) → IsLocated mapping.now o enclosing.entry → ChildIs mapping.now o scope offset child → IsLocated mapping.now child it) }
 {
     let path = path_between(mapping, around, scope);
     let mut levels = enclosing.levels;

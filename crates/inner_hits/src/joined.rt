@@ -117,7 +117,7 @@ fn add_one(
 }
 
 /// The key of the root of a document's block; None past the documents of the view.
-#[tactic(auto, unfolding(crate::specs::Kinship::key_in))]
+#[tactic(auto, using(crate::proofs::Gathering::keying))]
 fn key_at(
     entries: &[Entry],
     mapping: &Mapping,
@@ -169,7 +169,10 @@ fn of_key(alloc: Global, kin: &[Kin], key: u32) -> Result<Vec<Hit>, NoMemory>
 {
     let mut at = kin.partition_point(|one| one.key < key);
     let mut hits = Vec::new(alloc);
-    'kin: while at < kin.len() && kin[at].key == key {
+    'kin: while at < kin.len() {
+        if kin[at].key != key {
+            return Ok(hits);
+        }
         hits.push(kin[at].hit)?;
         at += 1;
     }

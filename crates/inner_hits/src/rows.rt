@@ -50,11 +50,18 @@ pub(crate) fn chosen(
     let columns = columns(alloc, view, mapping, hits, filters, scope, sorts)?;
     let places = places(alloc, view.entries(), hits)?;
     let page = top(alloc, KeyRows::of(columns, places), None, from, size)?;
-    let mut chosen = Vec::with_capacity(alloc, page.len())?;
+    Ok(picked(alloc, hits, &page)?)
+}
+
+/// The hits of rows, each by the index that stands for its place.
+fn picked(alloc: Global, hits: &[Hit], page: &KeyRows) -> Result<Vec<Hit>, NoMemory>
+    ensures { IfOk result (λ picked. picked.items ≡ map (λ row. get_or hits.now row.place no_hit) page.now.rows) }
+{
+    let mut picked = Vec::with_capacity(alloc, page.len())?;
     'rows: for at in 0..page.len() {
-        chosen.push(hit_at(hits, page.place(at).place))?;
+        picked.push(hit_at(hits, page.place(at).place))?;
     }
-    Ok(chosen)
+    Ok(picked)
 }
 
 /// The hit of a row.

@@ -6,7 +6,7 @@ use Rattle.inner_hits.proofs.joined.add_kin.Given as goal
 
 abbrev pub invariant-hits : goal.invariant-hits
 invariant-hits l =
-    (l.kin.items ++ kin_from l.mapping l.ordinals l.side l.entries (drop l.hit-index l.hits.items)
-    ≡ l.fn.kin.items ++ kin_from l.mapping l.ordinals l.side l.entries l.hits.items)
+    (l.kin.items ++ kin_from l.mapping l.ordinals l.side l.entries (drop l.hit-index l.hit-items)
+    ≡ l.fn.kin.items ++ kin_from l.mapping l.ordinals l.side l.entries l.hit-items)
     × (AreCapped l.fn.kin.items → AreCapped l.kin.items)
-    × All IsCapped l.hits.items
+    × All IsCapped l.hit-items
