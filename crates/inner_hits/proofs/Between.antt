@@ -71,4 +71,25 @@ long_in (e ∷ view) [] place doc own long is at = absurd long
 long_in (e ∷ view) (s ∷ scores) zero doc own long is at = let same : length own ≡ length s = ap length at in omega (arith, is, long.0, same)
 long_in (e ∷ view) (s ∷ scores) (suc place) doc own long is at = long_in view scores place doc own long.1 is at
 
-pub ruleset inside = (place_in, long_in)
+pub entry_at : (view : Seq EntryState) (place doc : ℕ) (entry : EntryState) → IsDocOf view place doc → entry ≡ get_or view place entry → slice_get view place ≡ Some entry
+entry_at [] place doc entry there is = absurd there
+entry_at (e ∷ view) zero doc entry there is = ap (λ (x : EntryState). Some x) (sym is)
+entry_at (e ∷ view) (suc place) doc entry there is = entry_at view place doc entry there is
+
+pub doc_low : (view : Seq EntryState) (place doc : ℕ) (entry : EntryState) → IsDocOf view place doc → entry ≡ get_or view place entry → doc < entry.columns.documents
+doc_low [] place doc entry there is = absurd there
+doc_low (e ∷ view) zero doc entry there is = subst (λ (x : EntryState). doc < x.columns.documents) (sym is) there
+doc_low (e ∷ view) (suc place) doc entry there is = doc_low view place doc entry there is
+
+pub place_there : (view : Seq EntryState) (place doc : ℕ) → IsDocOf view place doc → place < length view
+place_there [] place doc there = absurd there
+place_there (e ∷ view) zero doc there = omega arith
+place_there (e ∷ view) (suc place) doc there = let more = place_there view place doc there in omega (arith, more)
+
+pub below_docs : (view : Seq EntryState) (place start doc : ℕ) (own : Seq (Option ℕ)) (hits : Seq Hit) → hits ≡ hits_between place start doc own → start ≤ doc → IsDocOf view place doc → AreDocs view hits
+below_docs view place start doc own hits is up there = subst (λ (l : Seq Hit). AreDocs view l) (sym is) (between_docs view place start doc own up there)
+
+pub below_hits : (m : Mapping) (n : ℕ) (given : Object → Option ℕ) (trees : Seq (Seq (Marked Tree))) (place start doc : ℕ) (own : Seq (Option ℕ)) (hits : Seq Hit) → hits ≡ hits_between place start doc own → start ≤ doc → own ≡ seen m (at_scope n given) (get_or trees place []) → AreHits m n trees hits
+below_hits m n given trees place start doc own hits is up same = subst (λ (l : Seq Hit). AreHits m n trees l) (sym is) (between_hits m n given trees place start doc own up same)
+
+pub ruleset inside = (place_in, long_in, place_there, doc_low, below_docs)

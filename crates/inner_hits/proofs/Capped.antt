@@ -31,4 +31,7 @@ owner_capped (Some key) kin all = All-from_recursion IsCapped (map hit_of (filte
     by [] all = tt
     by (x ∷ xs) all = (all.0, by xs all.1)
 
+pub owners_capped : (key : Option ℕ) (kin : Seq Kin) (hits : Seq Hit) → AreCapped kin → hits ≡ owner_hits key kin → All IsCapped hits
+owners_capped key kin hits all is = All-same IsCapped hits (owner_hits key kin) is (owner_capped key kin all)
+
 pub ruleset capping = (capped_on, capped_none, capped_get, kin_capped_none, kin_capped_on)

@@ -41,6 +41,16 @@ long_view [] (s ∷ scores) long = absurd long
 long_view (e ∷ view) [] long = absurd long
 long_view (e ∷ view) (s ∷ scores) long = ap suc (long_view view scores long.1)
 
+drop_step : (xs : Seq Hit) (k : ℕ) (x : Hit) → k < length xs → x ≡ get_or xs k x → drop k xs ≡ x ∷ drop (k + 1) xs
+drop_step [] k x low is = absurd (omega (arith, low))
+drop_step (y ∷ xs) zero x low is = ap (λ z. z ∷ xs) (sym is)
+drop_step (y ∷ xs) (suc k) x low is = let e : suc k + 1 ≡ suc (k + 1) = omega arith in rw e (drop_step xs k x (omega (arith, low)) is)
+
+any_default : {A : Type 0} (xs : Seq A) (k : ℕ) (d e : A) → k < length xs → get_or xs k d ≡ get_or xs k e
+any_default [] k d e below = absurd (omega (arith, below))
+any_default (x ∷ xs) zero d e below = refl
+any_default (x ∷ xs) (suc k) d e below = any_default xs k d e (omega (arith, below))
+
 module _ (m : Mapping) (ordinals : Ordinals) (side : Side) (view : Seq EntryState) where
   pub kin_cons : (hit : Hit) (hits : Seq Hit) → kin_from m ordinals side view (hit ∷ hits) ≡ kin_from m ordinals side view (hit ∷ []) ++ kin_from m ordinals side view hits
   kin_cons hit hits = by (kin_if m ordinals side view hit)
@@ -91,4 +101,30 @@ module _ (m : Mapping) (ordinals : Ordinals) (side : Side) (view : Seq EntryStat
 
 pub ruleset keying = (key_in_absent, key_in_past, key_in_there)
 
-pub ruleset gathering = (kin_cons, kin_more, kin_all, whole_range)
+  pub kin_step : (hits : Seq Hit) (i : ℕ) (hit : Hit) (had new all : Seq Kin) → i < length hits → hit ≡ get_or hits i hit → new ≡ had ++ kin_from m ordinals side view (hit ∷ []) → had ++ kin_from m ordinals side view (drop i hits) ≡ all
+      → new ++ kin_from m ordinals side view (drop (i + 1) hits) ≡ all
+  kin_step hits i hit had new all low at is goes =
+      ap (λ (l : Seq Kin). l ++ kin_from m ordinals side view (drop (i + 1) hits)) is
+      ∙ append_assoc had (kin_from m ordinals side view (hit ∷ [])) (kin_from m ordinals side view (drop (i + 1) hits))
+      ∙ ap (λ (l : Seq Kin). had ++ l) (sym (kin_cons hit (drop (i + 1) hits)))
+      ∙ ap (λ (l : Seq Hit). had ++ kin_from m ordinals side view l) (sym (drop_step hits i hit low at))
+      ∙ goes
+
+  pub kin_end : (hits : Seq Hit) (i : ℕ) (had all : Seq Kin) → length hits ≤ i → had ++ kin_from m ordinals side view (drop i hits) ≡ all → had ≡ all
+  kin_end hits i had all past goes = sym (append-nil had) ∙ ap (λ (l : Seq Hit). had ++ kin_from m ordinals side view l) (sym (end hits i past)) ∙ goes
+    where
+      end : (xs : Seq Hit) (k : ℕ) → length xs ≤ k → drop k xs ≡ []
+      end [] zero past = refl
+      end [] (suc k) past = refl
+      end (x ∷ xs) zero past = absurd (omega (arith, past))
+      end (x ∷ xs) (suc k) past = end xs k (omega (arith, past))
+
+-- the hits of the entry at a place
+pub range_at : (place : ℕ) (all : Seq (Seq (Option ℕ))) (own : Seq (Option ℕ)) (len : ℕ) (hits : Seq Hit) → place < length all → own ≡ get_or all place own → len ≡ length own → hits ≡ hits_between place 0 len own → hits ≡ hits_from place 0 (get_or all place [])
+range_at place all own len hits low at long is =
+    is ∙ ap (λ (n : ℕ). hits_between place 0 n own) long ∙ whole_range place own ∙ ap (hits_from place 0) (at ∙ any_default all place own [] low)
+
+pub place_low : (view : Seq EntryState) (scores : Seq (Seq (Option ℕ))) (place : ℕ) → AreLong view scores → place < length view → place < length scores
+place_low view scores place long low = let e = long_view view scores long in omega (arith, e, low)
+
+pub ruleset gathering = (kin_cons, kin_more, kin_all, whole_range, place_low)

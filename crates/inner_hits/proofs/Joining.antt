@@ -168,6 +168,16 @@ module _ (m : Mapping) (ordinals : Ordinals) (view : Seq EntryState) where
       (each_map (λ (h : Hit). P h × (is_key (key_in m ordinals side view h.place h.doc) key ≡ true)) P (λ h it. it.0) (filter (λ (h : Hit). is_key (key_in m ordinals side view h.place h.doc) key) (hits_in scores))
       (each_filter P (λ (h : Hit). is_key (key_in m ordinals side view h.place h.doc) key) (hits_in scores) all))
 
+  pub owner_docs : (side : Side) (scores : Seq (Seq (Option ℕ))) (kin : Seq Kin) (key : Option ℕ) (hits : Seq Hit) → AreKin m ordinals side view scores kin → AreLong view scores → hits ≡ owner_hits key kin → AreDocs view hits
+  owner_docs side scores kin key hits are long is =
+      subst (λ (l : Seq Hit). AreDocs view l) (sym is)
+      (All-from_recursion (λ (h : Hit). IsDocOf view h.place h.doc) (owner_hits key kin) (of_owner (λ (h : Hit). IsDocOf view h.place h.doc) side scores kin key are (docs_at view scores long)))
+
+  pub owner_are_hits : (trees : Seq (Seq (Marked Tree))) (given : Object → Option ℕ) (side : Side) (scores : Seq (Seq (Option ℕ))) (kin : Seq Kin) (key : Option ℕ) (hits : Seq Hit) → AreKin m ordinals side view scores kin → scores ≡ map (seen m (at_scope 0 given)) trees → hits ≡ owner_hits key kin → AreHits m 0 trees hits
+  owner_are_hits trees given side scores kin key hits are same is =
+      subst (λ (l : Seq Hit). AreHits m 0 trees l) (sym is)
+      (All-from_recursion (λ (h : Hit). IsHitAt m 0 trees h.place h.doc) (owner_hits key kin) (of_owner (λ (h : Hit). IsHitAt m 0 trees h.place h.doc) side scores kin key are (hits_at m 0 given trees scores same)))
+
   module _ (trees : Seq (Seq (Marked Tree))) (own side : Side) (test : Tree → Bool) (place doc : ℕ) where
     abbrev Meets : Hit → Type 0
     Meets h = test (tree_of (hit_object m trees h).0) ≡ meet (key_in m ordinals own view place doc) (key_in m ordinals side view h.place h.doc)

@@ -5,7 +5,7 @@ use Rattle.std.proofs.lemmas.List.{length-append}
 use Rattle.std.proofs.lemmas.List.Elements.{recursion_from_All}
 use Rattle.flattener.specs.Block.{root_of_tree}
 use Rattle.flattener.specs.Fits.{AreRootsOf, EntryFits, ViewFits}
-use Rattle.flattener.specs.StandsFor.{Marked}
+use Rattle.flattener.specs.StandsFor.{EntryStandsFor, Marked}
 use Rattle.hit_order.specs.declared.column.RowPlace.{RowPlace}
 use Rattle.mapping.specs.Mapping.{Mapping}
 use Rattle.nested_sort.specs.Listed.{no_hit}
@@ -22,6 +22,7 @@ use Rattle.view_objects.specs.declared.hit.Hit.{Hit}
 use Rattle.inner_hits.specs.Roots.{IsRootOf}
 use Rattle.inner_hits.specs.Rows.{ArePlaces, IsPlaceOf}
 use Rattle.inner_hits.proofs.Joining.{all_get}
+use Rattle.inner_hits.proofs.Standing.{standing_at}
 
 rooted : (m : Mapping) (roots : Seq Root) (blocks : Seq (Seq FlatDocument)) (k : ℕ) → AreRootsOf m (map flat_root roots) blocks → k < length roots → (root_of roots k).number ≤ 2 ^ 62
 rooted m [] blocks k are low = absurd (omega (arith, low))
@@ -58,6 +59,16 @@ module _ (m : Mapping) (c : Columns) (bits : LiveState) (trees : Seq (Marked Tre
 
   pub source_is : (root_of c.roots root).source ≡ compact (tree_of (document_object m trees doc)).source
   source_is = ap (λ (r : FlatRoot). r.source) is.kept ∙ source_kept m (tree_of (document_object m trees doc))
+
+-- the place of a row
+pub place_is : (view : Seq EntryState) (at : ℕ) (hit : Hit) (place : RowPlace) (entry : EntryState) (root : ℕ) → slice_get view hit.place ≡ Some entry → place.place ≡ at → place.number ≡ pos (root_of entry.columns.roots root).number
+    → ((m : Mapping) (bits : LiveState) (trees : Seq (Marked Tree)) → EntryStandsFor m entry.columns bits trees → IsRootOf m entry.columns bits trees hit.doc root) → IsPlaceOf view at hit place
+place_is view at hit place entry root there index number is = record {
+  index = index;
+  number = λ m n trees stands asked.
+      number
+      ∙ ap pos (number_is m entry.columns entry.live (get_or trees hit.place []) hit.doc root (is m entry.live (get_or trees hit.place []) (standing_at m view trees hit.place entry stands there)));
+}
 
 -- ---- places, one after the other
 

@@ -171,4 +171,3 @@ pub drop_step : (xs : Seq Hit) (k : ℕ) (x : Hit) → k < length xs → x ≡ g
 drop_step [] k x low is = absurd (omega (arith, low))
 drop_step (y ∷ xs) zero x low is = ap (λ z. z ∷ xs) (sym is)
 drop_step (y ∷ xs) (suc k) x low is = let e : suc k + 1 ≡ suc (k + 1) = omega arith in rw e (drop_step xs k x (omega (arith, low)) is)
-

@@ -116,4 +116,3 @@ done_all kin key at had all past goes = sym (append-nil had) ∙ ap (λ (l : Seq
     end [] (suc k) past = refl
     end (x ∷ xs) zero past = absurd (omega (arith, past))
     end (x ∷ xs) (suc k) past = end xs k (omega (arith, past))
-

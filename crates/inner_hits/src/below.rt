@@ -86,7 +86,7 @@ pub(crate) fn children_of(
     let Some(parent) = mapping.parent_relation(relation) else {
         unreachable!()
     };
-    joined(
+    Ok(joined(
         alloc,
         view.entries(),
         mapping,
@@ -95,7 +95,7 @@ pub(crate) fn children_of(
         Side::Parents(parent),
         place,
         doc,
-    )
+    )?)
 }
 
 /// The parent tree of a relation, if the query hits it, of the tree of a root's document.
@@ -123,7 +123,7 @@ pub(crate) fn parents_of(
     documents_are_of_objects();
     keys_join_trees();
     let _scopes = mapping.scope_count();
-    joined(
+    Ok(joined(
         alloc,
         view.entries(),
         mapping,
@@ -132,5 +132,5 @@ pub(crate) fn parents_of(
         Side::ChildrenOf(relation),
         place,
         doc,
-    )
+    )?)
 }

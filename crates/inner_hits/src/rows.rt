@@ -93,6 +93,7 @@ fn places(alloc: Global, entries: &[Entry], hits: &[Hit]) -> Result<Vec<RowPlace
 }
 
 /// The place of one row, with the sequence number of its tree.
+#[tactic(auto, using(crate::proofs::Between::inside))]
 fn place(entries: &[Entry], at: u64, hit: Hit) -> RowPlace
     requires fits { (m : Meaning) × ViewFits m entries.now }
     requires doc { IsDocOf entries.now hit.place hit.doc }
