@@ -78,6 +78,24 @@ module _ (m : Mapping) (ordinals : Ordinals) (side : Side) (view : Seq EntryStat
       all [] = refl
       all (x ∷ xs) = ap (λ l. x ∷ l) (all xs)
 
+  pub kin_step : (hits : Seq Hit) (i : ℕ) (hit : Hit) (had new all : Seq Kin) → i < length hits → hit ≡ get_or hits i hit → new ≡ had ++ kin_from m ordinals side view (hit ∷ []) → had ++ kin_from m ordinals side view (drop i hits) ≡ all
+      → new ++ kin_from m ordinals side view (drop (i + 1) hits) ≡ all
+  kin_step hits i hit had new all low at is goes =
+      ap (λ (l : Seq Kin). l ++ kin_from m ordinals side view (drop (i + 1) hits)) is
+      ∙ append_assoc had (kin_from m ordinals side view (hit ∷ [])) (kin_from m ordinals side view (drop (i + 1) hits))
+      ∙ ap (λ (l : Seq Kin). had ++ l) (sym (kin_cons hit (drop (i + 1) hits)))
+      ∙ ap (λ (l : Seq Hit). had ++ kin_from m ordinals side view l) (sym (drop_step hits i hit low at))
+      ∙ goes
+
+  pub kin_end : (hits : Seq Hit) (i : ℕ) (had all : Seq Kin) → length hits ≤ i → had ++ kin_from m ordinals side view (drop i hits) ≡ all → had ≡ all
+  kin_end hits i had all past goes = sym (append-nil had) ∙ ap (λ (l : Seq Hit). had ++ kin_from m ordinals side view l) (sym (end hits i past)) ∙ goes
+    where
+      end : (xs : Seq Hit) (k : ℕ) → length xs ≤ k → drop k xs ≡ []
+      end [] zero past = refl
+      end [] (suc k) past = refl
+      end (x ∷ xs) zero past = absurd (omega (arith, past))
+      end (x ∷ xs) (suc k) past = end xs k (omega (arith, past))
+
 module _ (m : Mapping) (ordinals : Ordinals) (side : Side) (view : Seq EntryState) (place doc : ℕ) where
   pub key_in_absent : slice_get view place ≡ None → None ≡ key_in m ordinals side view place doc
   unfolding key_in
@@ -100,24 +118,6 @@ module _ (m : Mapping) (ordinals : Ordinals) (side : Side) (view : Seq EntryStat
       below a b low = grind (arith, nat_tests, low)
 
 pub ruleset keying = (key_in_absent, key_in_past, key_in_there)
-
-  pub kin_step : (hits : Seq Hit) (i : ℕ) (hit : Hit) (had new all : Seq Kin) → i < length hits → hit ≡ get_or hits i hit → new ≡ had ++ kin_from m ordinals side view (hit ∷ []) → had ++ kin_from m ordinals side view (drop i hits) ≡ all
-      → new ++ kin_from m ordinals side view (drop (i + 1) hits) ≡ all
-  kin_step hits i hit had new all low at is goes =
-      ap (λ (l : Seq Kin). l ++ kin_from m ordinals side view (drop (i + 1) hits)) is
-      ∙ append_assoc had (kin_from m ordinals side view (hit ∷ [])) (kin_from m ordinals side view (drop (i + 1) hits))
-      ∙ ap (λ (l : Seq Kin). had ++ l) (sym (kin_cons hit (drop (i + 1) hits)))
-      ∙ ap (λ (l : Seq Hit). had ++ kin_from m ordinals side view l) (sym (drop_step hits i hit low at))
-      ∙ goes
-
-  pub kin_end : (hits : Seq Hit) (i : ℕ) (had all : Seq Kin) → length hits ≤ i → had ++ kin_from m ordinals side view (drop i hits) ≡ all → had ≡ all
-  kin_end hits i had all past goes = sym (append-nil had) ∙ ap (λ (l : Seq Hit). had ++ kin_from m ordinals side view l) (sym (end hits i past)) ∙ goes
-    where
-      end : (xs : Seq Hit) (k : ℕ) → length xs ≤ k → drop k xs ≡ []
-      end [] zero past = refl
-      end [] (suc k) past = refl
-      end (x ∷ xs) zero past = absurd (omega (arith, past))
-      end (x ∷ xs) (suc k) past = end xs k (omega (arith, past))
 
 -- the hits of the entry at a place
 pub range_at : (place : ℕ) (all : Seq (Seq (Option ℕ))) (own : Seq (Option ℕ)) (len : ℕ) (hits : Seq Hit) → place < length all → own ≡ get_or all place own → len ≡ length own → hits ≡ hits_between place 0 len own → hits ≡ hits_from place 0 (get_or all place [])

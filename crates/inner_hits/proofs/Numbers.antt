@@ -99,3 +99,5 @@ places_more view hits at places new place hit are same own is = record {
         rw last (rw here (rw (sym same) own))
 
 pub ruleset placing = (places_none, places_more)
+
+pub ruleset kept = (id_is, source_is, number_is)

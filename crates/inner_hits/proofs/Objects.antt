@@ -58,14 +58,13 @@ of_children m t o n own =
     (λ yes. rw yes (of_numbered t o n 0 (filter is_object (items (content o) (scope_at m n).names)) own))
     (λ no. rw no tt)
 
-mutual
-  of_along : (m : Mapping) (t : Tree) (o : Object) (ns : Seq ℕ) → tree_of o ≡ t → OfTree t (below_along m o ns)
-  of_along m t o [] own = (own, tt)
-  of_along m t o (n ∷ ns) own = of_each m t ns (children m o n) (of_children m t o n own)
+of_each : (m : Mapping) (t : Tree) (ns : Seq ℕ) → ((c : Object) → tree_of c ≡ t → OfTree t (below_along m c ns)) → (os : Seq Object) → OfTree t os → OfTree t (flat_map (λ c. below_along m c ns) os)
+of_each m t ns inner [] are = tt
+of_each m t ns inner (c ∷ os) are = of_append t (below_along m c ns) (flat_map (λ c. below_along m c ns) os) (inner c are.0) (of_each m t ns inner os are.1)
 
-  of_each : (m : Mapping) (t : Tree) (ns : Seq ℕ) (os : Seq Object) → OfTree t os → OfTree t (flat_map (λ c. below_along m c ns) os)
-  of_each m t ns [] are = tt
-  of_each m t ns (c ∷ os) are = of_append t (below_along m c ns) (flat_map (λ c. below_along m c ns) os) (of_along m t c ns are.0) (of_each m t ns os are.1)
+of_along : (m : Mapping) (t : Tree) (o : Object) (ns : Seq ℕ) → tree_of o ≡ t → OfTree t (below_along m o ns)
+of_along m t o [] own = (own, tt)
+of_along m t o (n ∷ ns) own = of_each m t ns (λ c same. of_along m t c ns same) (children m o n) (of_children m t o n own)
 
 pub of_below : (m : Mapping) (o : Object) (p : ℕ) → OfTree (tree_of o) (below m o p)
 unfolding below

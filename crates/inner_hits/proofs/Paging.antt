@@ -4,7 +4,7 @@ use Rattle.std.specs.List.{All, AllByRecursion, Contains, range_with_len}
 use Rattle.std.proofs.lemmas.List.Elements.{All-from_recursion, Contains-get_or}
 use Rattle.std.proofs.lemmas.List.{drop-map, take-map}
 use Rattle.flattener.specs.StandsFor.{Marked}
-use Rattle.hit_order.specs.Table.{key_at, keys_of_row, number_of_row, place_at, row_at as table_row}
+use Rattle.hit_order.specs.Table.{KeyTable, directions_of, key_at, keys_of_row, number_of_row, place_at, row_at as table_row, table_of}
 use Rattle.hit_order.specs.declared.column.Column.{Column}
 use Rattle.hit_order.specs.declared.column.RowPlace.{RowPlace}
 use Rattle.mapping.specs.Mapping.{Mapping}
@@ -179,3 +179,22 @@ chosen_among hits columns places ds from size chosen long index is =
     each : (rows : Seq KeyRow) → AllByRecursion (λ (row : KeyRow). row.place < length hits) rows → AllByRecursion (Contains hits) (map (λ (row : KeyRow). get_or hits row.place no_hit) rows)
     each [] all = tt
     each (row ∷ rows) all = (Contains-get_or hits row.place no_hit all.0, each rows all.1)
+
+-- ---- the page of a table
+
+table_page : (columns : Seq Column) (places : Seq RowPlace) (from size : ℕ)
+    → page_of keys_of_row number_of_row (table_of columns places).directions None from size (table_of columns places).rows
+    ≡ page_of keys_of_row number_of_row (directions_of columns) None from size (map (table_row columns places) (range_with_len 0 (length places)))
+unfolding table_of
+table_page columns places from size = refl
+
+pub chosen_is : (hits : Seq Hit) (columns : Seq Column) (places : Seq RowPlace) (ds : Seq Direction) (rows : KeyTable) (page : Seq KeyRow) (from size : ℕ) (chosen : Seq Hit) → rows ≡ table_of columns places → directions_of columns ≡ ds
+    → page ≡ page_of keys_of_row number_of_row rows.directions None from size rows.rows → chosen ≡ map (λ (row : KeyRow). get_or hits row.place no_hit) page
+    → chosen ≡ map (λ (row : KeyRow). get_or hits row.place no_hit) (page_of keys_of_row number_of_row ds None from size (map (table_row columns places) (range_with_len 0 (length places))))
+chosen_is hits columns places ds rows page from size chosen table same is chose =
+    chose
+    ∙ ap (map (λ (row : KeyRow). get_or hits row.place no_hit))
+    (is
+    ∙ ap (λ (t : KeyTable). page_of keys_of_row number_of_row t.directions None from size t.rows) table
+    ∙ table_page columns places from size
+    ∙ ap (λ (l : Seq Direction). page_of keys_of_row number_of_row l None from size (map (table_row columns places) (range_with_len 0 (length places)))) same)

@@ -7,6 +7,7 @@ use Rattle.flattener.specs.StandsFor.{EntryStandsFor, Marked, ViewStandsFor, by_
 use Rattle.mapping.specs.Mapping.{Mapping}
 use Rattle.query_eval.specs.Meeting.{IsLiveRoot}
 use Rattle.segment.specs.Live.{EntryState, root_of}
+use Rattle.segment_parts.specs.declared.columns.Columns.{Columns}
 use Rattle.tree_joins.specs.Seen.{at_scope, if_live, scopes_of, seen}
 use Rattle.tree_objects.specs.Object.{Object, block_objects, root, scope, tree_of}
 use Rattle.tree_objects.specs.Tree.{Tree}
@@ -34,6 +35,10 @@ standing_at m [] trees place entry stands at = absurd (let no : ⊥ = cc in no)
 standing_at m (e ∷ view) [] place entry stands at = absurd stands
 standing_at m (e ∷ view) (ts ∷ trees) zero entry stands at = let same : e ≡ entry = cc in subst (λ (x : EntryState). EntryStandsFor m x.columns x.live ts) same stands.0
 standing_at m (e ∷ view) (ts ∷ trees) (suc place) entry stands at = standing_at m view trees place entry stands.1 at
+
+-- by an entry that was read, and its columns
+pub standing_of : (m : Mapping) (view : Seq EntryState) (trees : Seq (Seq (Marked Tree))) (place : ℕ) (entry : EntryState) (columns : Columns) → ViewStandsFor m view trees → slice_get view place ≡ Some entry → columns ≡ entry.columns → EntryStandsFor m columns entry.live (get_or trees place [])
+standing_of m view trees place entry columns stands at same = subst (λ (x : Columns). EntryStandsFor m x entry.live (get_or trees place [])) (sym same) (standing_at m view trees place entry stands at)
 
 -- ---- what a document has
 

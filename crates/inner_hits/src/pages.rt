@@ -96,6 +96,7 @@ pub fn inner<L: Ledger>(
 
 /// Adds a page for each definition.
 #[cycle(pages)]
+#[tactic(auto, using(crate::proofs::Arms::needs))]
 fn add_pages<L: Ledger>(
     alloc: Global,
     view: &View,
@@ -141,6 +142,7 @@ fn add_pages<L: Ledger>(
 
 /// The page of a definition.
 #[cycle(pages)]
+#[tactic(auto, using(crate::proofs::Arms::needs, crate::proofs::Arms::evaluated, crate::proofs::Arms::resolved))]
 fn page<L: Ledger>(
     alloc: Global,
     view: &View,
@@ -367,6 +369,7 @@ fn nested_hit<L: Ledger>(
 }
 
 /// The id of a document's tree.
+#[tactic(auto, using(crate::proofs::Numbers::kept))]
 fn root_id(alloc: Global, segment: &Segment, doc: u32) -> Result<Bytes, NoMemory>
     requires { doc < segment.now.documents }
     ensures { IfOk result (λ id. (m : Meaning) (bits : LiveState) (trees : List (Marked Tree)) → EntryStandsFor m segment.now bits trees → id ≡ (tree_of (document_object m trees doc)).id) }
@@ -438,6 +441,7 @@ fn tree_hit<L: Ledger>(
 }
 
 /// The stored source of a document's tree: one step.
+#[tactic(auto, using(crate::proofs::Numbers::kept))]
 fn fetched<L: Ledger>(
     alloc: Global,
     segment: &Segment,

@@ -19,7 +19,7 @@ use hit_order::{KeyRows, RowPlace, top};
 use mapping::Mapping;
 use nested_sort::columns;
 use query_ast::SortList;
-use segment_view::{Entry, View};
+use segment_view::View;
 use std::alloc::Global;
 use view_objects::Hit;
 
@@ -44,11 +44,8 @@ pub(crate) fn chosen(
     ensures page { IfOk result (λ page. (trees : List (List (Marked Tree))) → ViewStandsFor mapping.now view.now trees → AreHits mapping.now scope trees hits.now
         → map (row_at mapping.now trees sorts.now) page.items ≡ paged sorts.now None from size (map (row_at mapping.now trees sorts.now) hits.now)) }
 {
-    if hits.is_empty() {
-        return Ok(Vec::new(alloc));
-    }
     let columns = columns(alloc, view, mapping, hits, filters, scope, sorts)?;
-    let places = places(alloc, view.entries(), hits)?;
+    let places = places(alloc, view, hits)?;
     let page = top(alloc, KeyRows::of(columns, places), None, from, size)?;
     Ok(picked(alloc, hits, &page)?)
 }
@@ -80,26 +77,26 @@ fn hit_at(hits: &[Hit], at: u64) -> Hit
 
 /// The places of rows: each is the index of its hit.
 #[tactic(auto, using(crate::proofs::Numbers::placing))]
-fn places(alloc: Global, entries: &[Entry], hits: &[Hit]) -> Result<Vec<RowPlace>, NoMemory>
-    requires fits { (m : Meaning) × ViewFits m entries.now }
-    requires docs { AreDocs entries.now hits.now }
-    ensures { IfOk result (λ places. ArePlaces entries.now hits.now (length hits.now) places.items) }
+fn places(alloc: Global, view: &View, hits: &[Hit]) -> Result<Vec<RowPlace>, NoMemory>
+    requires fits { (m : Meaning) × ViewFits m view.now }
+    requires docs { AreDocs view.now hits.now }
+    ensures { IfOk result (λ places. ArePlaces view.now hits.now (length hits.now) places.items) }
 {
     let mut places = Vec::with_capacity(alloc, hits.len())?;
     'hits: for at in 0..hits.len() {
-        places.push(place(entries, at as u64, hits[at]))?;
+        places.push(place(view, at as u64, hits[at]))?;
     }
     Ok(places)
 }
 
 /// The place of one row, with the sequence number of its tree.
 #[tactic(auto, using(crate::proofs::Between::inside))]
-fn place(entries: &[Entry], at: u64, hit: Hit) -> RowPlace
-    requires fits { (m : Meaning) × ViewFits m entries.now }
-    requires doc { IsDocOf entries.now hit.place hit.doc }
-    ensures { IsPlaceOf entries.now at hit result }
+fn place(view: &View, at: u64, hit: Hit) -> RowPlace
+    requires fits { (m : Meaning) × ViewFits m view.now }
+    requires doc { IsDocOf view.now hit.place hit.doc }
+    ensures { IsPlaceOf view.now at hit result }
 {
-    let segment = entries[hit.place as usize].segment();
+    let segment = view.entries()[hit.place as usize].segment();
     RowPlace {
         place: at,
         doc: hit.doc,
