@@ -17,7 +17,7 @@ use Rattle.inner_hits.proofs.Scored.{HasScore, have_scores}
 
 doc_before : (entry : Option EntryState) (a b : ℕ) → a < b → IsSomeAnd entry (λ (e : EntryState). b < e.columns.documents) → IsSomeAnd entry (λ (e : EntryState). a < e.columns.documents)
 doc_before None a b low is = is
-doc_before (Some e) a b low is = omega (arith, low, is)
+doc_before (Some e) a b low is = let own : b < e.columns.documents = is in let there : a < e.columns.documents = omega (arith, low, own) in there
 
 pub between_docs : (view : Seq EntryState) (place start doc : ℕ) (scores : Seq (Option ℕ)) → start ≤ doc → IsDocOf view place doc → AreDocs view (hits_between place start doc scores)
 between_docs view place start doc scores up there =
@@ -68,7 +68,7 @@ pub long_in : (view : Seq EntryState) (scores : Seq (Seq (Option ℕ))) (place d
 long_in [] [] place doc own long is at = absurd is
 long_in [] (s ∷ scores) place doc own long is at = absurd long
 long_in (e ∷ view) [] place doc own long is at = absurd long
-long_in (e ∷ view) (s ∷ scores) zero doc own long is at = let same : length own ≡ length s = ap length at in omega (arith, is, long.0, same)
+long_in (e ∷ view) (s ∷ scores) zero doc own long is at = let same : length own ≡ length s = ap length at in let there : doc < e.columns.documents = is in let all : length s ≡ e.columns.documents = long.0 in omega (arith, there, all, same)
 long_in (e ∷ view) (s ∷ scores) (suc place) doc own long is at = long_in view scores place doc own long.1 is at
 
 pub entry_at : (view : Seq EntryState) (place doc : ℕ) (entry : EntryState) → IsDocOf view place doc → entry ≡ get_or view place entry → slice_get view place ≡ Some entry

@@ -52,7 +52,7 @@ all_get P (y ∷ xs) zero x is all = let same : y ≡ x = cc in subst P same all
 all_get P (y ∷ xs) (suc k) x is all = all_get P xs k x is all.1
 
 pub low_place : (m : Mapping) (f : Object → Option ℕ) (trees : Seq (Seq (Marked Tree))) (place doc s : ℕ) → get_or (seen m f (get_or trees place [])) doc None ≡ Some s → place < length trees
-low_place m f [] place doc s is = absurd (let no : ⊥ = cc in no)
+low_place m f [] place doc s is = absurd (false≢true (ap is_some is))
 low_place m f (ts ∷ trees) zero doc s is = omega arith
 low_place m f (ts ∷ trees) (suc place) doc s is = let more = low_place m f trees place doc s is in omega (arith, more)
 
@@ -71,7 +71,7 @@ own_first : (place : ℕ) (s : Seq (Option ℕ)) (more : Seq (Seq (Option ℕ)))
 own_first place s more end hit it =
     let none : hit.place - place ≡ 0 = (let at = it.at in omega (arith, at)) in
     let all : hit.doc - 0 ≡ hit.doc = omega arith in
-    record { from = (let at = it.at in omega (arith, at)); score = rw none (rw all at it.score) }
+    record { from = (let at = it.at in omega (arith, at)); score = rw none (subst (λ (k : ℕ). get_or s k None ≡ Some hit.score) all it.score) }
 
 own_later : (place : ℕ) (s : Seq (Option ℕ)) (more : Seq (Seq (Option ℕ))) (hit : Hit) → HasOwn (place + 1) more hit → HasOwn place (s ∷ more) hit
 own_later place s more hit it =
@@ -86,20 +86,20 @@ have_own place (s ∷ more) =
     (each_map (HasOwn (place + 1) more) (HasOwn place (s ∷ more)) (own_later place s more) (hits_of (place + 1) more) (have_own (place + 1) more))
 
 pub own_score : (scores : Seq (Seq (Option ℕ))) (hit : Hit) → HasOwn 0 scores hit → get_or (get_or scores hit.place []) hit.doc None ≡ Some hit.score
-own_score scores hit it = let all : hit.place - 0 ≡ hit.place = omega arith in rw all at it.score
+own_score scores hit it = let all : hit.place - 0 ≡ hit.place = omega arith in subst (λ (k : ℕ). get_or (get_or scores k []) hit.doc None ≡ Some hit.score) all it.score
 
 -- ---- they are documents of the view
 
 within : {A : Type 0} (xs : Seq (Option A)) (k : ℕ) (x : A) → get_or xs k None ≡ Some x → k < length xs
-within [] k x is = absurd (let no : ⊥ = cc in no)
+within [] k x is = absurd (false≢true (ap is_some is))
 within (y ∷ xs) zero x is = omega arith
 within (y ∷ xs) (suc k) x is = let more = within xs k x is in omega (arith, more)
 
 pub doc_there : (view : Seq EntryState) (scores : Seq (Seq (Option ℕ))) (place doc s : ℕ) → AreLong view scores → get_or (get_or scores place []) doc None ≡ Some s → IsDocOf view place doc
-doc_there [] [] place doc s long is = absurd (let no : ⊥ = cc in no)
+doc_there [] [] place doc s long is = absurd (false≢true (ap is_some is))
 doc_there [] (x ∷ scores) place doc s long is = absurd long
 doc_there (e ∷ view) [] place doc s long is = absurd long
-doc_there (e ∷ view) (x ∷ scores) zero doc s long is = let low = within x doc s is in omega (arith, low, long.0)
+doc_there (e ∷ view) (x ∷ scores) zero doc s long is = let low = within x doc s is in let same : length x ≡ e.columns.documents = long.0 in let there : doc < e.columns.documents = omega (arith, low, same) in there
 doc_there (e ∷ view) (x ∷ scores) (suc place) doc s long is = doc_there view scores place doc s long.1 is
 
 -- ---- live roots

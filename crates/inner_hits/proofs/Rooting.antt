@@ -41,7 +41,7 @@ pub root_flags_are : (c : Columns) (live : LiveState) → IsLiveOver c live → 
 root_flags_are c live over = set_is c 0 (root_flags c.scopes) (flags_long c live over) (λ doc low. each c.scopes doc low (flags_long c live over))
   where
     each : (sets : Seq (Seq Bool)) (doc : ℕ) → doc < c.documents → length (root_flags sets) ≡ c.documents → get_or (root_flags sets) doc false ≡ nat_eq (position_or_len (λ set. get_or set doc false) sets) 0
-    each [] doc low long = absurd (omega (arith, low, long))
+    each [] doc low long = absurd (let none : 0 ≡ c.documents = long in omega (arith, low, none))
     each (set ∷ sets) doc low long = first_is (λ s. get_or s doc false) set sets
 
 -- ---- what is kept of a root

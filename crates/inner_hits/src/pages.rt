@@ -17,6 +17,7 @@ ghost use Rattle.query_ast.specs.Joins.{inner_joins, some_inner_joins};
 ghost use Rattle.query_ast.specs.Pages.{hits_of, pages_of};
 ghost use Rattle.query_ast.specs.Pages.View.{hit_part, page_part};
 ghost use Rattle.query_ast.specs.Resolved.{AreInnerDefinitions, AreSorts, IsInnerDefinition};
+ghost use Rattle.query_ast.specs.declared.inner.InnerOver.{InnerOver as Over};
 ghost use Rattle.mapping.specs.Mapping.{Mapping as Meaning};
 ghost use Rattle.segment.specs.Live.{LiveState};
 ghost use Rattle.tree_json.specs.Reading.{reading, value};
@@ -167,36 +168,135 @@ fn page<L: Ledger>(
     ensures steps { (trees : List (List (Marked Tree))) → IsAsked mapping.now view.now trees scope place doc (seen_as source.now)
         → steps.new ≤ steps.old + joined_among (inner_page mapping.now (live_trees trees) (inner_of def.now) (object_at mapping.now trees place doc)).hits }
 {
-    scopes_form_chains();
     match def.over {
-        InnerOver::Below(path) => {
-            let hits = hits_below(alloc, view, &prepared.hits, scope, place, doc)?;
-            Ok(shown_page(
-                alloc, view, mapping, ordinals, def, prepared, path, hits, source, steps,
-            )?)
-        }
-        InnerOver::Children(relation) => {
-            if scope != 0 {
-                return Ok(empty_page(alloc, def)?);
-            }
-            let kin = prepared.kin.as_slice();
-            let hits = children_of(alloc, view, mapping, ordinals, kin, relation, place, doc)?;
-            Ok(shown_page(
-                alloc, view, mapping, ordinals, def, prepared, 0, hits, source, steps,
-            )?)
-        }
-        InnerOver::Parents(relation) => {
-            if scope != 0 {
-                return Ok(empty_page(alloc, def)?);
-            }
-            let kin = prepared.kin.as_slice();
-            let hits = parents_of(alloc, view, mapping, ordinals, kin, relation, place, doc)?;
-            Ok(shown_page(
-                alloc, view, mapping, ordinals, def, prepared, 0, hits, source, steps,
-            )?)
-        }
+        InnerOver::Below(path) => Ok(below_page(
+            alloc, view, mapping, ordinals, def, prepared, path, scope, place, doc, source, steps,
+        )?),
+        InnerOver::Children(relation) => Ok(children_page(
+            alloc, view, mapping, ordinals, def, prepared, relation, scope, place, doc, source,
+            steps,
+        )?),
+        InnerOver::Parents(relation) => Ok(parents_page(
+            alloc, view, mapping, ordinals, def, prepared, relation, scope, place, doc, source,
+            steps,
+        )?),
         InnerOver::Ignored => Ok(empty_page(alloc, def)?),
     }
+}
+
+/// The page of a definition over the objects at a nested path.
+#[cycle(pages)]
+#[tactic(auto, using(crate::proofs::Arms::needs, crate::proofs::Arms::evaluated, crate::proofs::Arms::resolved))]
+fn below_page<L: Ledger>(
+    alloc: Global,
+    view: &View,
+    mapping: &Mapping,
+    ordinals: &JoinOrdinals,
+    def: &InnerDef,
+    prepared: &PreparedDef,
+    path: u32,
+    scope: u32,
+    place: usize,
+    doc: u32,
+    source: &Json,
+    steps: &mut Steps<L>,
+) -> Result<InnerPage, NoMemory>
+    requires fits { ViewFits mapping.now view.now }
+    requires scope { scope < length mapping.now.scopes }
+    requires over { def.now.over ≡ Over.Below path }
+    requires resolved { IsInnerDefinition mapping.now scope (inner_of def.now) }
+    requires prepared { IsPrepared mapping.now view.now ordinals.now (inner_of def.now) (prepared_of prepared.now) }
+    requires joined { inner_joins (inner_of def.now) ≡ true → AreOrdinals view.now ordinals.now }
+    requires doc { IsDocOf view.now place doc }
+    ensures page { IfOk result (λ page. (trees : List (List (Marked Tree))) → IsAsked mapping.now view.now trees scope place doc (seen_as source.now)
+        → page_part page ≡ inner_page mapping.now (live_trees trees) (inner_of def.now) (object_at mapping.now trees place doc)) }
+    ensures steps { (trees : List (List (Marked Tree))) → IsAsked mapping.now view.now trees scope place doc (seen_as source.now)
+        → steps.new ≤ steps.old + joined_among (inner_page mapping.now (live_trees trees) (inner_of def.now) (object_at mapping.now trees place doc)).hits }
+{
+    scopes_form_chains();
+    let _scopes = mapping.scope_count();
+    let hits = hits_below(alloc, view, &prepared.hits, scope, place, doc)?;
+    Ok(shown_page(
+        alloc, view, mapping, ordinals, def, prepared, path, hits, source, steps,
+    )?)
+}
+
+/// The page of a definition over the child trees of a relation.
+#[cycle(pages)]
+#[tactic(auto, using(crate::proofs::Arms::needs, crate::proofs::Arms::evaluated, crate::proofs::Arms::resolved))]
+fn children_page<L: Ledger>(
+    alloc: Global,
+    view: &View,
+    mapping: &Mapping,
+    ordinals: &JoinOrdinals,
+    def: &InnerDef,
+    prepared: &PreparedDef,
+    relation: u32,
+    scope: u32,
+    place: usize,
+    doc: u32,
+    source: &Json,
+    steps: &mut Steps<L>,
+) -> Result<InnerPage, NoMemory>
+    requires fits { ViewFits mapping.now view.now }
+    requires scope { scope < length mapping.now.scopes }
+    requires over { def.now.over ≡ Over.Children relation }
+    requires resolved { IsInnerDefinition mapping.now scope (inner_of def.now) }
+    requires prepared { IsPrepared mapping.now view.now ordinals.now (inner_of def.now) (prepared_of prepared.now) }
+    requires joined { inner_joins (inner_of def.now) ≡ true → AreOrdinals view.now ordinals.now }
+    requires doc { IsDocOf view.now place doc }
+    ensures page { IfOk result (λ page. (trees : List (List (Marked Tree))) → IsAsked mapping.now view.now trees scope place doc (seen_as source.now)
+        → page_part page ≡ inner_page mapping.now (live_trees trees) (inner_of def.now) (object_at mapping.now trees place doc)) }
+    ensures steps { (trees : List (List (Marked Tree))) → IsAsked mapping.now view.now trees scope place doc (seen_as source.now)
+        → steps.new ≤ steps.old + joined_among (inner_page mapping.now (live_trees trees) (inner_of def.now) (object_at mapping.now trees place doc)).hits }
+{
+    if scope != 0 {
+        return Ok(empty_page(alloc, def)?);
+    }
+    let kin = prepared.kin.as_slice();
+    let hits = children_of(alloc, view, mapping, ordinals, kin, relation, place, doc)?;
+    Ok(shown_page(
+        alloc, view, mapping, ordinals, def, prepared, 0, hits, source, steps,
+    )?)
+}
+
+/// The page of a definition over the parent tree of a relation.
+#[cycle(pages)]
+#[tactic(auto, using(crate::proofs::Arms::needs, crate::proofs::Arms::evaluated, crate::proofs::Arms::resolved))]
+fn parents_page<L: Ledger>(
+    alloc: Global,
+    view: &View,
+    mapping: &Mapping,
+    ordinals: &JoinOrdinals,
+    def: &InnerDef,
+    prepared: &PreparedDef,
+    relation: u32,
+    scope: u32,
+    place: usize,
+    doc: u32,
+    source: &Json,
+    steps: &mut Steps<L>,
+) -> Result<InnerPage, NoMemory>
+    requires fits { ViewFits mapping.now view.now }
+    requires scope { scope < length mapping.now.scopes }
+    requires over { def.now.over ≡ Over.Parents relation }
+    requires resolved { IsInnerDefinition mapping.now scope (inner_of def.now) }
+    requires prepared { IsPrepared mapping.now view.now ordinals.now (inner_of def.now) (prepared_of prepared.now) }
+    requires joined { inner_joins (inner_of def.now) ≡ true → AreOrdinals view.now ordinals.now }
+    requires doc { IsDocOf view.now place doc }
+    ensures page { IfOk result (λ page. (trees : List (List (Marked Tree))) → IsAsked mapping.now view.now trees scope place doc (seen_as source.now)
+        → page_part page ≡ inner_page mapping.now (live_trees trees) (inner_of def.now) (object_at mapping.now trees place doc)) }
+    ensures steps { (trees : List (List (Marked Tree))) → IsAsked mapping.now view.now trees scope place doc (seen_as source.now)
+        → steps.new ≤ steps.old + joined_among (inner_page mapping.now (live_trees trees) (inner_of def.now) (object_at mapping.now trees place doc)).hits }
+{
+    if scope != 0 {
+        return Ok(empty_page(alloc, def)?);
+    }
+    let kin = prepared.kin.as_slice();
+    let hits = parents_of(alloc, view, mapping, ordinals, kin, relation, place, doc)?;
+    Ok(shown_page(
+        alloc, view, mapping, ordinals, def, prepared, 0, hits, source, steps,
+    )?)
 }
 
 /// A page without hits.
