@@ -270,7 +270,7 @@ module _ (m : Mapping) (trees : Seq (Marked Tree)) (doc n : ℕ) (some : 0 < n) 
     (low : doc < length (objects_in m trees)) (here : scope (document_object m trees doc) ≡ n)
     (down : spread (outer m n) n (zip (scopes_of m (map alive trees)) (seen m (at_scope (outer m n) one) (map alive trees))) ≡ seen m (at_scope n one) (map alive trees))
     (inside : (parent score : ℕ) → get_or (seen m (at_scope (outer m n) one) (map alive trees)) parent None ≡ Some score
-        → map (hit_object m (map alive trees ∷ [])) (hits_between 0 (start_before (outer m n) parent (scopes_of m (map alive trees))) parent (seen m (at_scope n one) (map alive trees))) ≡ filter_map (scored one) (below m (document_object m (map alive trees) parent) n)) where
+    → map (hit_object m (map alive trees ∷ [])) (hits_between 0 (start_before (outer m n) parent (scopes_of m (map alive trees))) parent (seen m (at_scope n one) (map alive trees))) ≡ filter_map (scored one) (below m (document_object m (map alive trees) parent) n)) where
   abbrev a : ℕ
   a = outer m n
 
