@@ -402,16 +402,45 @@ fn shown_hits<L: Ledger>(
 {
     let mut shown = Vec::with_capacity(alloc, hits.len())?;
     'hits: for hit in hits {
-        let one = if scope == 0 {
-            tree_hit(alloc, view, mapping, ordinals, def, prepared, *hit, steps)?
-        } else {
-            nested_hit(
-                alloc, view, mapping, ordinals, def, prepared, scope, *hit, source, steps,
-            )?
-        };
+        let one = shown_hit(
+            alloc, view, mapping, ordinals, def, prepared, scope, *hit, source, steps,
+        )?;
         shown.push(one)?;
     }
     Ok(shown)
+}
+
+/// A hit as it is shown: at the scope of roots a tree, else an object inside one.
+#[cycle(pages)]
+fn shown_hit<L: Ledger>(
+    alloc: Global,
+    view: &View,
+    mapping: &Mapping,
+    ordinals: &JoinOrdinals,
+    def: &InnerDef,
+    prepared: &PreparedDef,
+    scope: u32,
+    hit: Hit,
+    source: &Json,
+    steps: &mut Steps<L>,
+) -> Result<InnerHit, NoMemory>
+    requires fits { ViewFits mapping.now view.now }
+    requires scope { scope < length mapping.now.scopes }
+    requires resolved { AreInnerDefinitions mapping.now scope (definitions_of def.now.owned) }
+    requires prepared { ArePrepared mapping.now view.now ordinals.now (definitions_of def.now.owned) (definitions_of prepared.now.owned) }
+    requires joined { some_inner_joins (definitions_of def.now.owned) ≡ true → AreOrdinals view.now ordinals.now }
+    requires doc { IsDocOf view.now hit.place hit.doc }
+    ensures hit { IfOk result (λ shown. (trees : List (List (Marked Tree))) → ViewStandsFor mapping.now view.now trees → AllReadBack (live_trees trees) → IsHitAt mapping.now scope trees hit.place hit.doc
+        → (0 < scope → seen_as source.now ≡ (tree_of (object_at mapping.now trees hit.place hit.doc)).source) → hit_part shown ≡ shown_as mapping.now trees (inner_of def.now) hit) }
+    ensures steps { (trees : List (List (Marked Tree))) → ViewStandsFor mapping.now view.now trees → AllReadBack (live_trees trees) → IsHitAt mapping.now scope trees hit.place hit.doc
+        → (0 < scope → seen_as source.now ≡ (tree_of (object_at mapping.now trees hit.place hit.doc)).source) → steps.new ≤ steps.old + joined_among (hits_of (shown_as mapping.now trees (inner_of def.now) hit ∷ [])) }
+{
+    if scope == 0 {
+        return Ok(tree_hit(alloc, view, mapping, ordinals, def, prepared, hit, steps)?);
+    }
+    Ok(nested_hit(
+        alloc, view, mapping, ordinals, def, prepared, scope, hit, source, steps,
+    )?)
 }
 
 /// A nested object as it is shown.

@@ -13,31 +13,34 @@ use Rattle.inner_hits.specs.Steps.{joined_among}
 use Rattle.inner_hits.proofs.pages.+pages.Given as goal
 
 abbrev pub decreases-add_pages : goal.decreases-add_pages
-decreases-add_pages g l = 6 * definitions_size (definitions_of (map inner_of l.definitions.now)) + 5
+decreases-add_pages g l = 7 * definitions_size (definitions_of (map inner_of l.definitions.now)) + 6
 
 abbrev pub decreases-page : goal.decreases-page
-decreases-page g l = 6 * definition_size (inner_of l.def.now) + 4
+decreases-page g l = 7 * definition_size (inner_of l.def.now) + 5
 
 abbrev pub decreases-below_page : goal.decreases-below_page
-decreases-below_page g l = 6 * definition_size (inner_of l.def.now) + 3
+decreases-below_page g l = 7 * definition_size (inner_of l.def.now) + 4
 
 abbrev pub decreases-children_page : goal.decreases-children_page
-decreases-children_page g l = 6 * definition_size (inner_of l.def.now) + 3
+decreases-children_page g l = 7 * definition_size (inner_of l.def.now) + 4
 
 abbrev pub decreases-parents_page : goal.decreases-parents_page
-decreases-parents_page g l = 6 * definition_size (inner_of l.def.now) + 3
+decreases-parents_page g l = 7 * definition_size (inner_of l.def.now) + 4
 
 abbrev pub decreases-shown_page : goal.decreases-shown_page
-decreases-shown_page g l = 6 * definition_size (inner_of l.def.now) + 2
+decreases-shown_page g l = 7 * definition_size (inner_of l.def.now) + 3
 
 abbrev pub decreases-shown_hits : goal.decreases-shown_hits
-decreases-shown_hits g l = 6 * definition_size (inner_of l.def.now) + 1
+decreases-shown_hits g l = 7 * definition_size (inner_of l.def.now) + 2
+
+abbrev pub decreases-shown_hit : goal.decreases-shown_hit
+decreases-shown_hit g l = 7 * definition_size (inner_of l.def.now) + 1
 
 abbrev pub decreases-nested_hit : goal.decreases-nested_hit
-decreases-nested_hit g l = 6 * definition_size (inner_of l.def.now)
+decreases-nested_hit g l = 7 * definition_size (inner_of l.def.now)
 
 abbrev pub decreases-tree_hit : goal.decreases-tree_hit
-decreases-tree_hit g l = 6 * definition_size (inner_of l.def.now)
+decreases-tree_hit g l = 7 * definition_size (inner_of l.def.now)
 
 abbrev pub invariant-shown_hits-hits : goal.invariant-shown_hits-hits
 invariant-shown_hits-hits g l =
