@@ -1,16 +1,26 @@
 -- The place and the content of a child.
-use Rattle.std.proofs.Common.{◌≡◌, ℕ, zero, suc, ◌+◌, ◌<◌, List as Seq, [], ◌∷◌, ◌++◌, length, get_or, slice_get, Option, Some, None, refl, sym, ap, ◌∙◌, arith}
+use Rattle.std.proofs.Common.{◌≡◌, ℕ, zero, suc, ◌+◌, ◌<◌, List as Seq, [], ◌∷◌, ◌++◌, length, get_or, slice_get, Option, Some, None, is_some, refl, sym, ap, subst, ◌∙◌, arith}
+use Rattle.std.proofs.lemmas.Bool.{false≢true}
+use Rattle.std.proofs.lemmas.Option.{same_Some}
 use Rattle.std.specs.List.{join_with_byte}
-use Rattle.mapping.specs.Mapping.{Mapping, scope_at}
+use Rattle.block_bits.specs.Blocks.{has_scope}
+use Rattle.block_bits.specs.Places.{next_place}
+use Rattle.flattener.specs.StandsFor.{Marked}
+use Rattle.mapping.specs.Mapping.{Mapping, around_of, outer, scope_at}
 use Rattle.mapping_body.specs.Names.{dot}
 use Rattle.query_ast.specs.InnerHits.{levels_of}
 use Rattle.query_ast.specs.declared.hit.Level.{Level}
+use Rattle.query_eval.specs.Folds.{scopes_in}
+use Rattle.segment_parts.specs.declared.columns.Columns.{Columns}
+use Rattle.tree_joins.specs.Seen.{scopes_of}
 use Rattle.tree_json.specs.Value.{JsonValue, null}
 use Rattle.tree_json.specs.View.{view}
-use Rattle.tree_objects.specs.Object.{Object, children, content, given, inside, numbered}
-use Rattle.view_objects.specs.Hits.{no_object}
+use Rattle.tree_objects.specs.Object.{Object, children, content, given, inside, numbered, root, scope, tree_of}
+use Rattle.tree_objects.specs.Tree.{Tree}
+use Rattle.view_objects.specs.Hits.{IsChildAt, IsInTree, count_between, document_object, no_object, start_before}
 use Rattle.inner_hits.specs.Along.{objects_along}
-use Rattle.inner_hits.specs.Contents.{ChildIs, IsLocated}
+use Rattle.inner_hits.specs.Contents.{ChildIs, IsChildOf, IsLocated}
+use Rattle.inner_hits.specs.declared.content.ChildDoc.{ChildDoc}
 use Rattle.inner_hits.specs.declared.content.ObjectAt.{ObjectAt}
 use Rattle.inner_hits.proofs.Paging.{by_test}
 
@@ -47,26 +57,69 @@ child_is m parent n k o low at =
     })
     (λ no. absurd (let none : k < 0 = rw no at low in omega (arith, none)))
 
+pub read_found : (values : Seq JsonValue) (k : ℕ) (v : JsonValue) → Some v ≡ slice_get values k → k < length values → v ≡ get_or values k null
+read_found values k v is low = read_there values k v null is
+
+pub read_none : (values : Seq JsonValue) (k : ℕ) (v : JsonValue) → None ≡ slice_get values k → k < length values → v ≡ get_or values k null
+read_none values k v is low = absurd (none_there values k low is)
+
+pub ruleset reading = (read_found, read_none)
+
 -- a step further in
-pub step_in : (m : Mapping) (o child : Object) (n k : ℕ) (outer it : ObjectAt) (level : Level) (names : Seq (Seq ℕ)) (found : JsonValue) → names ≡ (scope_at m n).names → IsLocated m o outer → ChildIs m o n k child
-    → level.field ≡ join_with_byte dot names → level.offset ≡ k → it.levels.items ≡ outer.levels.items ++ level ∷ [] → Some found ≡ slice_get (objects_along (view outer.content.now) names) k → view it.content.now ≡ found → IsLocated m child it
-step_in m o child n k outer it level names found same from is field offset levels at holds =
-    let names_here : slice_get (objects_along (view outer.content.now) names) k ≡ slice_get (objects_along (content o) (scope_at m n).names) k =
-    ap (λ (v : JsonValue). slice_get (objects_along v names) k) from.holds ∙ ap (λ (ns : Seq (Seq ℕ)). slice_get (objects_along (content o) ns) k) same in
-    let value : found ≡ get_or (objects_along (content o) (scope_at m n).names) k null = read_there (objects_along (content o) (scope_at m n).names) k found null (at ∙ names_here) in
+pub step_in : (m : Mapping) (o child : Object) (n k : ℕ) (outer it : ObjectAt) (level : Level) (names : Seq (Seq ℕ)) → names ≡ (scope_at m n).names → IsLocated m o outer → ChildIs m o n k child
+    → level.field ≡ join_with_byte dot names → level.offset ≡ k → it.levels.items ≡ outer.levels.items ++ level ∷ []
+    → (k < length (objects_along (view outer.content.now) names) → view it.content.now ≡ get_or (objects_along (view outer.content.now) names) k null) → IsLocated m child it
+step_in m o child n k outer it level names same from is field offset levels read =
+    let values : objects_along (view outer.content.now) names ≡ objects_along (content o) (scope_at m n).names =
+    ap (λ (v : JsonValue). objects_along v names) from.holds ∙ ap (λ (ns : Seq (Seq ℕ)). objects_along (content o) ns) same in
+    let low : k < length (objects_along (view outer.content.now) names) = subst (λ (l : Seq JsonValue). k < length l) (sym values) is.low in
     record {
       levels =
           levels ∙ ap (λ (l : Seq Level). l ++ level ∷ []) from.levels
           ∙ ap (λ (f : Seq ℕ). levels_of m o ++ record { field = f; offset = level.offset } ∷ []) (field ∙ ap (join_with_byte dot) same)
           ∙ ap (λ (j : ℕ). levels_of m o ++ record { field = join_with_byte dot (scope_at m n).names; offset = j } ∷ []) offset
           ∙ sym (ap (levels_of m) is.is);
-      holds = holds ∙ value ∙ sym (ap content is.is);
+      holds = read low ∙ ap (λ (l : Seq JsonValue). get_or l k null) values ∙ sym (ap content is.is);
     }
 
--- and there is one
-pub step_found : (m : Mapping) (o child : Object) (n k : ℕ) (outer : ObjectAt) (names : Seq (Seq ℕ)) → names ≡ (scope_at m n).names → IsLocated m o outer → ChildIs m o n k child → None ≡ slice_get (objects_along (view outer.content.now) names) k → ⊥
-step_found m o child n k outer names same from is none =
-    none_there (objects_along (content o) (scope_at m n).names) k is.low
-    (none ∙ ap (λ (v : JsonValue). slice_get (objects_along v names) k) from.holds ∙ ap (λ (ns : Seq (Seq ℕ)). slice_get (objects_along (content o) ns) k) same)
+pub ruleset steps = (step_in)
 
-pub ruleset steps = (step_in, step_found)
+-- at the root
+pub root_located : (m : Mapping) (trees : Seq (Marked Tree)) (doc : ℕ) (it : ObjectAt) → IsInTree m trees doc → scope (document_object m trees doc) ≡ 0 → it.levels.items ≡ [] → view it.content.now ≡ (tree_of (document_object m trees doc)).source → IsLocated m (document_object m trees doc) it
+root_located m trees doc it in_tree here levels holds =
+    let same : document_object m trees doc ≡ root (tree_of (document_object m trees doc)) = in_tree.at_root here ∙ ap (λ (t : Tree). root t) (sym in_tree.tree) in
+    record { levels = levels ∙ sym (ap (levels_of m) same); holds = holds ∙ sym (ap content same) }
+
+-- a child by what a walk over documents finds
+module _ (m : Mapping) (columns : Columns) (trees : Seq (Marked Tree)) (doc n : ℕ) (scopes : scopes_in columns ≡ scopes_of m trees) (at : IsChildAt m trees doc n) where
+  pub child_there : next_place (has_scope (outer m n)) (doc + 1) (scopes_in columns) ≡ None → ⊥
+  child_there none = false≢true (ap is_some (sym none ∙ ap (next_place (has_scope (outer m n)) (doc + 1)) scopes ∙ at.next))
+
+  pub same_parent : (child : ChildDoc) → IsChildOf (outer m n) n doc columns child → child.parent ≡ at.parent
+  same_parent child is = same_Some child.parent at.parent (sym is.next ∙ ap (next_place (has_scope (outer m n)) (doc + 1)) scopes ∙ at.next)
+
+  pub child_found : (child : ChildDoc) → IsChildOf (outer m n) n doc columns child → ChildIs m (document_object m trees child.parent) n child.offset (document_object m trees doc)
+  child_found child is =
+      let parent = same_parent child is in
+      let offset : child.offset ≡ count_between n (start_before (outer m n) at.parent (scopes_of m trees)) doc (scopes_of m trees) =
+      is.offset
+      ∙ ap (λ (l : Seq ℕ). count_between n (start_before (outer m n) child.parent l) doc l) scopes
+      ∙ ap (λ (k : ℕ). count_between n (start_before (outer m n) k (scopes_of m trees)) doc (scopes_of m trees)) parent in
+      subst (λ (k : ℕ). ChildIs m (document_object m trees k) n child.offset (document_object m trees doc)) (sym parent)
+      (subst (λ (k : ℕ). ChildIs m (document_object m trees at.parent) n k (document_object m trees doc)) (sym offset)
+      (child_is m (document_object m trees at.parent) n (count_between n (start_before (outer m n) at.parent (scopes_of m trees)) doc (scopes_of m trees)) (document_object m trees doc) at.counted at.child))
+
+  pub parent_around : (child : ChildDoc) → IsChildOf (outer m n) n doc columns child → scope (document_object m trees child.parent) ≡ outer m n
+  parent_around child is = ap (λ (k : ℕ). scope (document_object m trees k)) (same_parent child is) ∙ at.around
+
+-- and it is of one tree with the object around it
+pub same_tree : (m : Mapping) (o child : Object) (n k : ℕ) → ChildIs m o n k child → tree_of child ≡ tree_of o
+same_tree m o child n k is = ap tree_of is.is
+
+pub around_none : (m : Mapping) (n : ℕ) → around_of m n ≡ None → n ≡ 0
+around_none m zero is = refl
+around_none m (suc n) is = absurd (false≢true (ap is_some (sym is)))
+
+pub around_some : (m : Mapping) (n a : ℕ) → around_of m n ≡ Some a → (0 < n) × (outer m n ≡ a)
+around_some m zero a is = absurd (false≢true (ap is_some is))
+around_some m (suc n) a is = (omega arith, same_Some (outer m (suc n)) a is)

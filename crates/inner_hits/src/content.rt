@@ -1,13 +1,15 @@
 //! The content of a nested object, from the source of its root, and its place.
-ghost use Rattle.std.specs.Prelude.{◌≡◌, ◌<◌, List, length, option_map, IfOk, IfSome, Some, None, if◌then◌else◌};
+ghost use Rattle.std.specs.Prelude.{◌≡◌, ◌<◌, List, get_or, length, option_map, IfOk, IfSome, Some, None, if◌then◌else◌};
 ghost use Rattle.std.specs.List.{join_with_byte};
 ghost use Rattle.flattener.specs.StandsFor.{EntryStandsFor, Marked};
 ghost use Rattle.flattener.specs.Walked.{names_left, start_below};
+ghost use Rattle.inner_hits.specs.Along.{objects_along};
 ghost use Rattle.inner_hits.specs.Contents.{ChildIs, IsChildDoc, IsLocated};
 ghost use Rattle.mapping.specs.Mapping.{outer, scope_at};
 ghost use Rattle.mapping_body.specs.Names.{dot};
 ghost use Rattle.segment.specs.Live.{LiveState};
 ghost use Rattle.tree_json.specs.Text.{compact};
+ghost use Rattle.tree_json.specs.Value.{null};
 ghost use Rattle.tree_json.specs.View.{view};
 ghost use Rattle.tree_objects.specs.Object.{Object, scope as scope_of, tree_of};
 ghost use Rattle.tree_objects.specs.Tree.{Tree};
@@ -32,6 +34,7 @@ pub(crate) struct ObjectAt<'a> {
 }
 
 /// The place and the content of the object of a document, from the source of its tree's root.
+#[cycle(located)]
 pub(crate) fn located<'a>(
     alloc: Global,
     segment: &Segment,
@@ -47,20 +50,45 @@ pub(crate) fn located<'a>(
 {
     documents_are_of_objects();
     let _scopes = mapping.scope_count();
-    let Some(around) = mapping.around(scope) else {
-        return Ok(ObjectAt {
+    match mapping.around(scope) {
+        None => Ok(ObjectAt {
             levels: Vec::new(alloc),
             content: source,
-        });
-    };
-    let Some(child) = child_doc(segment, around, scope, doc) else {
-        return Ok(ObjectAt {
+        }),
+        Some(around) => Ok(located_inside(alloc, segment, mapping, source, around, scope, doc)?),
+    }
+}
+
+/// The same for a nested path, inside the object of the scope around it.
+#[cycle(located)]
+fn located_inside<'a>(
+    alloc: Global,
+    segment: &Segment,
+    mapping: &Mapping,
+    source: &'a Json,
+    around: u32,
+    scope: u32,
+    doc: u32,
+) -> Result<ObjectAt<'a>, NoMemory>
+    requires nested { 0 < scope }
+    requires scope { scope < length mapping.now.scopes }
+    requires outer { outer mapping.now scope ≡ around }
+    requires doc { doc < segment.now.documents }
+    ensures { IfOk result (λ it. (bits : LiveState) (trees : List (Marked Tree)) → EntryStandsFor mapping.now segment.now bits trees → scope_of (document_object mapping.now trees doc) ≡ scope
+        → view source.now ≡ (tree_of (document_object mapping.now trees doc)).source → IsLocated mapping.now (document_object mapping.now trees doc) it) }
+{
+    documents_are_of_objects();
+    let _scopes = mapping.scope_count();
+    match child_doc(segment, around, scope, doc) {
+        None => Ok(ObjectAt {
             levels: Vec::new(alloc),
             content: source,
-        });
-    };
-    let enclosing = located(alloc, segment, mapping, source, around, child.parent)?;
-    Ok(inside(alloc, mapping, around, scope, enclosing, child.offset)?)
+        }),
+        Some(child) => {
+            let enclosing = located(alloc, segment, mapping, source, around, child.parent)?;
+            Ok(inside(alloc, mapping, around, scope, enclosing, child.offset)?)
+        }
+    }
 }
 
 /// A step further in.
@@ -79,13 +107,21 @@ fn inside<'a>(
     ensures { IfOk result (λ it. (o child : Object) → IsLocated mapping.now o enclosing.entry → ChildIs mapping.now o scope offset child → IsLocated mapping.now child it) }
 {
     let path = path_between(mapping, around, scope);
+    let content = content_along(enclosing.content, path, offset);
     let mut levels = enclosing.levels;
     levels.push(level(alloc, path, offset)?)?;
-    let content = match object_along(enclosing.content, path, offset) {
-        Some(content) => content,
-        None => enclosing.content,
-    };
     Ok(ObjectAt { levels, content })
+}
+
+/// The object with this number along the names of a path; past the last the value itself.
+#[tactic(auto, using(crate::proofs::Contents::reading))]
+fn content_along<'a>(value: &'a Json, path: Option<&[u8]>, at: u32) -> &'a Json
+    ensures { at < length (objects_along (view value.now) (names_left (option_map (λ p. p.now) path.entry))) → view result.now ≡ get_or (objects_along (view value.now) (names_left (option_map (λ p. p.now) path.entry))) at null }
+{
+    match object_along(value, path, at) {
+        Some(content) => content,
+        None => value,
+    }
 }
 
 /// The names from a scope to a nested path inside it, joined by dots; None for the root.
