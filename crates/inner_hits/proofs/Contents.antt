@@ -1,6 +1,6 @@
 -- The place and the content of a child.
-use Rattle.std.proofs.Common.{◌≡◌, ℕ, zero, suc, ◌+◌, ◌<◌, List as Seq, [], ◌∷◌, ◌++◌, length, get_or, slice_get, Option, Some, None, is_some, refl, sym, ap, subst, ◌∙◌, arith}
-use Rattle.std.proofs.lemmas.Bool.{false≢true}
+use Rattle.std.proofs.Common.{◌≡◌, ℕ, zero, suc, ◌+◌, ◌<◌, ◌==◌, Bool, true, false, List as Seq, [], ◌∷◌, ◌++◌, length, get_or, slice_get, Option, Some, None, is_some, refl, sym, ap, subst, ◌∙◌, arith}
+use Rattle.std.proofs.lemmas.Bool.{eqb-true, false≢true}
 use Rattle.std.proofs.lemmas.Option.{same_Some}
 use Rattle.std.specs.List.{join_with_byte}
 use Rattle.block_bits.specs.Blocks.{has_scope}
@@ -116,10 +116,16 @@ module _ (m : Mapping) (columns : Columns) (trees : Seq (Marked Tree)) (doc n : 
 pub same_tree : (m : Mapping) (o child : Object) (n k : ℕ) → ChildIs m o n k child → tree_of child ≡ tree_of o
 same_tree m o child n k is = ap tree_of is.is
 
-pub around_none : (m : Mapping) (n : ℕ) → around_of m n ≡ None → n ≡ 0
-around_none m zero is = refl
-around_none m (suc n) is = absurd (false≢true (ap is_some (sym is)))
+positive : (n : ℕ) → (n == 0) ≡ false → 0 < n
+positive n no = grind arith
 
-pub around_some : (m : Mapping) (n a : ℕ) → around_of m n ≡ Some a → (0 < n) × (outer m n ≡ a)
-around_some m zero a is = absurd (false≢true (ap is_some is))
-around_some m (suc n) a is = (omega arith, same_Some (outer m (suc n)) a is)
+pub around_none : (m : Mapping) (n : ℕ) → around_of m n ≡ None → n ≡ 0
+around_none m n is = by_test (n == 0) (λ yes. eqb-true n 0 yes) (λ no. absurd (false≢true (ap is_some (sym (rw no at is)))))
+
+pub around_positive : (m : Mapping) (n a : ℕ) → Some a ≡ around_of m n → 0 < n
+around_positive m n a is = by_test (n == 0) (λ yes. absurd (false≢true (sym (ap is_some (rw yes at is))))) (λ no. positive n no)
+
+pub around_is : (m : Mapping) (n a : ℕ) → Some a ≡ around_of m n → outer m n ≡ a
+around_is m n a is = by_test (n == 0) (λ yes. absurd (false≢true (sym (ap is_some (rw yes at is))))) (λ no. sym (same_Some a (outer m n) (rw no at is)))
+
+pub ruleset arounds = (around_positive, around_is)

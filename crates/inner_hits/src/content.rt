@@ -35,6 +35,7 @@ pub(crate) struct ObjectAt<'a> {
 
 /// The place and the content of the object of a document, from the source of its tree's root.
 #[cycle(located)]
+#[tactic(auto, using(crate::proofs::Contents::arounds))]
 pub(crate) fn located<'a>(
     alloc: Global,
     segment: &Segment,

@@ -2,7 +2,7 @@ use Rattle.std.proofs.Common.{◌≡◌, ◌<◌, ℕ, length, sym, ap, ◌∙�
 use Rattle.tree_objects.specs.Object.{scope, tree_of}
 use Rattle.tree_objects.specs.Tree.{Tree}
 use Rattle.view_objects.specs.Hits.{document_object, objects_in}
-use Rattle.inner_hits.proofs.Contents.{around_none, around_some, child_found, child_there, parent_around, root_located, same_tree}
+use Rattle.inner_hits.proofs.Contents.{around_none, child_found, child_there, parent_around, root_located, same_tree}
 use Rattle.inner_hits.proofs.content.+located.Goals as goal
 
 pub located-returns-in-None : goal.located-returns-in-None
