@@ -1,7 +1,8 @@
 -- Pages and hits as they are shown.
 use Rattle.std.proofs.Common.{◌≡◌, ℕ, zero, suc, ℤ, ◌+◌, ◌<◌, ◌≤◌, List as Seq, [], ◌∷◌, ◌++◌, length, get_or, map, take, drop, Bool, true, false, Option, Some, None, refl, sym, ap, ◌∙◌, arith, append_assoc, if◌then◌else◌}
 use Rattle.std.proofs.lemmas.List.{append-nil, length-map, map-append}
-use Rattle.std.specs.List.{filter_map}
+use Rattle.std.proofs.lemmas.List.Elements.{All-contains, All-weaker}
+use Rattle.std.specs.List.{All, Contains, filter_map}
 use Rattle.flattener.specs.StandsFor.{Marked}
 use Rattle.mapping.specs.Mapping.{Mapping}
 use Rattle.query_ast.specs.Clause.{Clause}
@@ -12,7 +13,7 @@ use Rattle.query_ast.specs.Inner.View.{inner_of}
 use Rattle.query_ast.specs.InnerHits.{hit_by, inner_page, inner_pages, levels_of, objects_over, page_by, source_of}
 use Rattle.query_ast.specs.Joined.{child_trees, parent_trees, roots}
 use Rattle.query_ast.specs.Page.{direction_of, page_of}
-use Rattle.query_ast.specs.Pages.{HitPart, InnerHead, PagePart, hits_of, pages_of}
+use Rattle.query_ast.specs.Pages.{HitPart, Hits, InnerHead, PagePart, hits_of, no_hits, pages_of, with_hit}
 use Rattle.query_ast.specs.Rows.{Row, keys_of as row_keys, number_of as row_number, paged, rows_of}
 use Rattle.query_ast.specs.declared.hit.Level.{Level}
 use Rattle.query_ast.specs.Pages.View.{hit_part, page_part}
@@ -171,3 +172,26 @@ pub drop_step : (xs : Seq Hit) (k : ℕ) (x : Hit) → k < length xs → x ≡ g
 drop_step [] k x low is = absurd (omega (arith, low))
 drop_step (y ∷ xs) zero x low is = ap (λ z. z ∷ xs) (sym is)
 drop_step (y ∷ xs) (suc k) x low is = let e : suc k + 1 ≡ suc (k + 1) = omega arith in rw e (drop_step xs k x (omega (arith, low)) is)
+
+-- ---- a page and a hit by their parts
+
+pub shown_is : (m : Mapping) (trees : Seq (Seq (Marked Tree))) (def : InnerDef) (name : Seq ℕ) (hits shown : Seq HitPart) (total : ℕ) (found page : Seq Hit) → name ≡ def.name → hits ≡ shown → total ≡ length found
+    → map (row_at m trees def.sort) page ≡ paged def.sort None def.from def.size (map (row_at m trees def.sort) found) → shown ≡ map (shown_as m trees (inner_of def)) page
+    → record { name = name; hits = hits_of hits; total = total } ≡ page_in m (live_trees trees) (inner_of def) (map (row_at m trees def.sort) found)
+shown_is m trees def name hits shown total found page named same counted rows are =
+    ap (λ (n : Seq ℕ). record { name = n; hits = hits_of hits; total = total }) named
+    ∙ ap (λ (l : Seq HitPart). record { name = def.name; hits = hits_of l; total = total }) same
+    ∙ ap (λ (n : ℕ). record { name = def.name; hits = hits_of shown; total = n }) counted
+    ∙ page_shown m trees def found page shown rows are
+
+-- what is so of all hits is so of those among them
+pub among_all : (P : Hit → Type 0) (hits page : Seq Hit) → All (Contains hits) page → All P hits → All P page
+among_all P hits page among all = All-weaker (Contains hits) P (λ x there. All-contains P hits x all there) page among
+
+-- one hit more costs what it shows
+pub joined_step : (f : Hit → HitPart) (hits : Seq Hit) (i : ℕ) (h : Hit) → drop i hits ≡ h ∷ drop (i + 1) hits → joined_among (hits_of (map f (drop i hits))) ≡ joined_among (hits_of (f h ∷ [])) + joined_among (hits_of (map f (drop (i + 1) hits)))
+joined_step f hits i h step =
+    ap (λ (l : Seq Hit). joined_among (hits_of (map f l))) step ∙ more (f h) (hits_of (map f (drop (i + 1) hits)))
+  where
+    more : (p : HitPart) (rest : Hits) → joined_among (with_hit p.head p.inner rest) ≡ joined_among (with_hit p.head p.inner no_hits) + joined_among rest
+    more p rest = omega arith

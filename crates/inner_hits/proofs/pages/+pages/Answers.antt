@@ -1,4 +1,4 @@
-use Rattle.std.proofs.Common.{◌≡◌, ℕ, ◌+◌, ◌<◌, ◌≤◌, List, sym, ap, subst, ◌∙◌, arith}
+use Rattle.std.proofs.Common.{◌≡◌, ℕ, ◌+◌, ◌<◌, ◌≤◌, ◌++◌, List, [], map, get_or, sym, ap, subst, ◌∙◌, arith}
 use Rattle.std.proofs.lemmas.List.Elements.{All-from_recursion}
 use Rattle.nested_sort.specs.Listed.{IsHitAt}
 use Rattle.query_ast.specs.Pages.{PagePart}
@@ -10,11 +10,16 @@ use Rattle.tree_objects.specs.Object.{below, tree_of}
 use Rattle.tree_objects.specs.Tree.{Tree}
 use Rattle.view_objects.specs.Hits.{hit_object, live_trees, object_at}
 use Rattle.view_objects.specs.declared.hit.Hit.{Hit}
+use Rattle.query_ast.specs.Inner.View.{inner_of}
+use Rattle.query_ast.specs.Pages.View.{hit_part}
+use Rattle.query_ast.specs.declared.hit.InnerHit.{InnerHit}
+use Rattle.inner_hits.specs.Hits.{shown_as}
 use Rattle.inner_hits.specs.Kinship.{AreKin}
 use Rattle.inner_hits.specs.Steps.{joined_among}
 use Rattle.inner_hits.proofs.Arms.{below_above, below_answered, children_answered, children_kin, parents_answered, parents_kin}
 use Rattle.inner_hits.proofs.Objects.{hits_of_tree, of_below}
-use Rattle.inner_hits.proofs.Showing.{page_below, page_children, page_parents}
+use Rattle.inner_hits.proofs.Showing.{among_all, drop_step, empty_children, empty_ignored, empty_parents, joined_step, page_below, page_children, page_parents, same_steps, shown_is, shown_more}
+use Rattle.inner_hits.proofs.Standing.{seen_at}
 use Rattle.inner_hits.proofs.pages.+pages.Goals as goal
 
 pub below_page-returns-in_ok-shown_page-clause-page : goal.below_page-returns-in_ok-shown_page-clause-page
@@ -118,3 +123,56 @@ parents_page-returns-in_ok-shown_page-clause-steps g t c = λ trees asked.
     let least = c.in_ok-shown_page.ensures.steps trees asked.stands asked.kept those source in
     let same = ap (λ (p : PagePart). joined_among p.hits) (page_parents m trees def (object_at m trees c.args.place c.args.doc) hits c.args.relation c.requires.over are) in
     omega (arith, least, same)
+
+pub page-returns-in_ok-empty_page-in-Ignored-clause-page : goal.page-returns-in_ok-empty_page-in-Ignored-clause-page
+page-returns-in_ok-empty_page-in-Ignored-clause-page g t c = λ trees asked.
+    c.in_ok-empty_page-in-Ignored.ensures ∙ empty_ignored c.args.mapping.now (live_trees trees) c.args.def.now (object_at c.args.mapping.now trees c.args.place c.args.doc) c.in-Ignored.is
+
+pub children_page-returns-then-scope-ne0-clause-page : goal.children_page-returns-then-scope-ne0-clause-page
+children_page-returns-then-scope-ne0-clause-page g t c = λ trees asked.
+    let m = c.args.mapping.now in
+    let here = (seen_at m c.args.scope asked.hit.given (get_or trees c.args.place []) c.args.doc asked.hit.score asked.hit.is).stands_at in
+    c.in_ok-empty_page.ensures ∙ empty_children m (live_trees trees) c.args.def.now (object_at m trees c.args.place c.args.doc) c.args.relation c.args.scope c.requires.over here c.if-scope-ne0.true
+
+pub parents_page-returns-then-scope-ne0-clause-page : goal.parents_page-returns-then-scope-ne0-clause-page
+parents_page-returns-then-scope-ne0-clause-page g t c = λ trees asked.
+    let m = c.args.mapping.now in
+    let here = (seen_at m c.args.scope asked.hit.given (get_or trees c.args.place []) c.args.doc asked.hit.score asked.hit.is).stands_at in
+    c.in_ok-empty_page.ensures ∙ empty_parents m (live_trees trees) c.args.def.now (object_at m trees c.args.place c.args.doc) c.args.relation c.args.scope c.requires.over here c.if-scope-ne0.true
+
+pub shown_page-returns-clause-page : goal.shown_page-returns-clause-page
+shown_page-returns-clause-page g t c = λ trees stands kept are source.
+    let m = c.args.mapping.now in
+    let found = c.args.hits.items in
+    let page = c.in_ok-page.page.items in
+    let hit_there = among_all (λ (h : Hit). IsHitAt m c.args.scope trees h.place h.doc) found page c.in_ok-page.ensures.among are in
+    let held = (λ (some : 0 < c.args.scope). among_all (λ (h : Hit). seen_as c.args.source.now ≡ (tree_of (object_at m trees h.place h.doc)).source) found page c.in_ok-page.ensures.among (source some)) in
+    shown_is m trees c.args.def.now c.in_ok-copied.field-0 c.of.result (map hit_part c.in_ok-shown.shown.items) c.len.result found page c.in_ok-copied.ensures c.of.ensures c.len.ensures
+    (c.in_ok-page.ensures.page trees stands are) (c.in_ok-shown.ensures.hits trees stands kept hit_there held)
+
+pub shown_page-returns-clause-steps : goal.shown_page-returns-clause-steps
+shown_page-returns-clause-steps g t c = λ trees stands kept are source.
+    let m = c.args.mapping.now in
+    let found = c.args.hits.items in
+    let page = c.in_ok-page.page.items in
+    let hit_there = among_all (λ (h : Hit). IsHitAt m c.args.scope trees h.place h.doc) found page c.in_ok-page.ensures.among are in
+    let held = (λ (some : 0 < c.args.scope). among_all (λ (h : Hit). seen_as c.args.source.now ≡ (tree_of (object_at m trees h.place h.doc)).source) found page c.in_ok-page.ensures.among (source some)) in
+    omega (arith, c.in_ok-shown.ensures.steps trees stands kept hit_there held, same_steps m trees c.args.def.now found page (c.in_ok-page.ensures.page trees stands are))
+
+pub shown_hits-hits-init : goal.shown_hits-hits-init
+shown_hits-hits-init g t c = λ trees stands kept are source. (ap (λ (l : List InnerHit). map hit_part l ++ map (shown_as c.args.mapping.now trees (inner_of c.args.def.now)) c.args.hits.now) c.with_capacity-shown.ensures.items, omega arith)
+
+pub shown_hits-hits-preserved : goal.shown_hits-hits-preserved
+shown_hits-hits-preserved g t c = λ trees stands kept are source.
+    let m = c.args.mapping.now in
+    let hits = c.args.hits.now in
+    let i = c.hits.hit-index in
+    let h = c.hit-item.result in
+    let f = shown_as m trees (inner_of c.args.def.now) in
+    let prior = c.hits.invariant trees stands kept are source in
+    let step = drop_step hits i h c.hits-test.true c.hit-item.is in
+    let own = subst (λ (x : Hit). IsHitAt m c.args.scope trees x.place x.doc) (sym c.hit-item.is) (are i h c.hits-test.true) in
+    let held = (λ (some : 0 < c.args.scope). subst (λ (x : Hit). seen_as c.args.source.now ≡ (tree_of (object_at m trees x.place x.doc)).source) (sym c.hit-item.is) (source some i h c.hits-test.true)) in (
+      shown_more f hits i h c.hits.shown.items c.push.new.self.items c.in_ok-one.one step (c.in_ok-one.ensures.hit trees stands kept own held) c.in_ok-push.ensures.items prior.0,
+      omega (arith, prior.1, c.in_ok-one.ensures.steps trees stands kept own held, joined_step f hits i h step),
+    )
