@@ -1,5 +1,5 @@
 //! The pages of inner hits.
-ghost use Rattle.std.specs.Prelude.{◌≡◌, ◌++◌, ◌+◌, ◌<◌, ◌≤◌, ◌∷◌, [], ℕ, true, List, length, map, IfOk, OnOk};
+ghost use Rattle.std.specs.Prelude.{◌≡◌, ◌++◌, ◌+◌, ◌<◌, ◌≤◌, ◌∷◌, [], true, List, get_or, length, map, Some, None, if◌then◌else◌, IfOk, OnOk};
 ghost use Rattle.flattener.specs.StandsFor.{EntryStandsFor, Marked, ViewStandsFor};
 ghost use Rattle.flattener.specs.Fits.{ViewFits};
 ghost use Rattle.inner_hits.specs.Hits.{AllReadBack, HaveSource, IsAsked, page_in, row_at, shown_as};
@@ -24,7 +24,7 @@ ghost use Rattle.tree_json.specs.Reading.{reading, value};
 ghost use Rattle.tree_json.specs.Text.{compact};
 ghost use Rattle.tree_json.specs.Value.{JsonValue};
 ghost use Rattle.tree_json.specs.View.{view as seen_as};
-ghost use Rattle.tree_objects.specs.Object.{tree_of};
+ghost use Rattle.tree_objects.specs.Object.{root, tree_of};
 ghost use Rattle.tree_objects.specs.Tree.{Tree};
 ghost use Rattle.view_objects.specs.Hits.{document_object, live_trees, object_at};
 
@@ -470,7 +470,8 @@ fn nested_hit<L: Ledger>(
         → steps.new ≤ steps.old + joined_among (hits_of (shown_as mapping.now trees (inner_of def.now) hit ∷ [])) }
 {
     documents_are_of_objects();
-    let segment = view.entries()[hit.place as usize].segment();
+    let place = hit.place as usize;
+    let segment = view.entries()[place].segment();
     let found = located(alloc, segment, mapping, source, scope, hit.doc)?;
     let text = text_of(alloc, def.source, found.content)?;
     let mut pages = Vec::new(alloc);
@@ -530,43 +531,86 @@ fn tree_hit<L: Ledger>(
         → steps.new ≤ steps.old + joined_among (hits_of (shown_as mapping.now trees (inner_of def.now) hit ∷ [])) }
 {
     documents_are_of_objects();
-    let _scopes = mapping.scope_count();
-    let segment = view.entries()[hit.place as usize].segment();
-    let owned = def.owned.as_slice();
-    let text = if def.source || !owned.is_empty() {
-        fetched(alloc, segment, hit.doc, steps)?
-    } else {
-        Vec::new(alloc)
-    };
-    let mut pages = Vec::new(alloc);
-    if !owned.is_empty() {
-        let source = source_in(alloc, text.as_slice())?;
-        add_pages(
-            alloc,
-            view,
-            mapping,
-            ordinals,
-            owned,
-            prepared.owned.as_slice(),
-            0,
-            hit.place as usize,
-            hit.doc,
-            &source,
-            &mut pages,
-            steps,
-        )?;
+    let place = hit.place as usize;
+    let segment = view.entries()[place].segment();
+    if def.owned.as_slice().is_empty() {
+        return Ok(bare_hit(alloc, segment, def, hit, steps)?);
     }
+    let _scopes = mapping.scope_count();
+    let text = fetched(alloc, segment, hit.doc, steps)?;
+    let source = source_in(alloc, text.as_slice())?;
+    let mut pages = Vec::new(alloc);
+    add_pages(
+        alloc,
+        view,
+        mapping,
+        ordinals,
+        def.owned.as_slice(),
+        prepared.owned.as_slice(),
+        0,
+        place,
+        hit.doc,
+        &source,
+        &mut pages,
+        steps,
+    )?;
     Ok(InnerHit {
         id: root_id(alloc, segment, hit.doc)?,
         levels: LevelList::of(Vec::new(alloc)),
         score: hit.score,
-        source: if def.source {
-            Some(Bytes::of(text))
-        } else {
-            None
-        },
+        source: if_asked(def.source, text),
         inner: InnerPageList::of(pages),
     })
+}
+
+/// A joined tree as it is shown, of a definition that owns none. Its source is read only where it is asked for.
+fn bare_hit<L: Ledger>(
+    alloc: Global,
+    segment: &Segment,
+    def: &InnerDef,
+    hit: Hit,
+    steps: &mut Steps<L>,
+) -> Result<InnerHit, NoMemory>
+    requires none { def.now.owned ≡ [] }
+    requires doc { hit.doc < segment.now.documents }
+    ensures hit { IfOk result (λ shown. (m : Meaning) (bits : LiveState) (trees : List (List (Marked Tree))) → EntryStandsFor m segment.now bits (get_or trees hit.place []) → object_at m trees hit.place hit.doc ≡ root (tree_of (object_at m trees hit.place hit.doc))
+        → hit_part shown ≡ shown_as m trees (inner_of def.now) hit) }
+    ensures step { steps.new ≤ steps.old + 1 }
+{
+    let text = if_wanted(alloc, segment, hit.doc, def.source, steps)?;
+    Ok(InnerHit {
+        id: root_id(alloc, segment, hit.doc)?,
+        levels: LevelList::of(Vec::new(alloc)),
+        score: hit.score,
+        source: text,
+        inner: InnerPageList::of(Vec::new(alloc)),
+    })
+}
+
+/// A text, where it is asked for. Takes no memory.
+fn if_asked(asked: bool, text: Vec<u8>) -> Option<Bytes>
+    ensures { result ≡ (if asked then Some text.items else None) }
+{
+    if asked { Some(Bytes::of(text)) } else { None }
+}
+
+/// The stored source of a document's tree, where it is asked for: at most one step.
+fn if_wanted<L: Ledger>(
+    alloc: Global,
+    segment: &Segment,
+    doc: u32,
+    asked: bool,
+    steps: &mut Steps<L>,
+) -> Result<Option<Bytes>, NoMemory>
+    requires { doc < segment.now.documents }
+    ensures text { IfOk result (λ text. (m : Meaning) (bits : LiveState) (trees : List (Marked Tree)) → EntryStandsFor m segment.now bits trees → text ≡ (if asked then Some (compact (tree_of (document_object m trees doc)).source) else None)) }
+    ensures step { steps.new ≤ steps.old + 1 }
+{
+    if !asked {
+        return Ok(None);
+    }
+    let text = fetched(alloc, segment, doc, steps)?;
+    Ok(Some(Bytes::of(text)))
 }
 
 /// The stored source of a document's tree: one step.

@@ -96,7 +96,8 @@ fn place(view: &View, at: u64, hit: Hit) -> RowPlace
     requires doc { IsDocOf view.now hit.place hit.doc }
     ensures { IsPlaceOf view.now at hit result }
 {
-    let segment = view.entries()[hit.place as usize].segment();
+    let entry = hit.place as usize;
+    let segment = view.entries()[entry].segment();
     RowPlace {
         place: at,
         doc: hit.doc,
