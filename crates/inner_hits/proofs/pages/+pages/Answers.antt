@@ -1,7 +1,14 @@
-use Rattle.std.proofs.Common.{◌≡◌, ℕ, ◌+◌, ◌<◌, ◌≤◌, ◌++◌, List, [], map, get_or, sym, ap, subst, ◌∙◌, arith}
+use Rattle.std.proofs.Common.{◌≡◌, ℕ, ◌+◌, ◌<◌, ◌≤◌, ◌++◌, List, [], map, get_or, Some, None, if◌then◌else◌, sym, ap, subst, ◌∙◌, arith}
 use Rattle.std.proofs.lemmas.List.Elements.{All-from_recursion}
 use Rattle.nested_sort.specs.Listed.{IsHitAt}
-use Rattle.query_ast.specs.Pages.{PagePart}
+use Rattle.query_ast.specs.Definition.{Definition, definitions_of}
+use Rattle.query_ast.specs.Inner.{Inner}
+use Rattle.query_ast.specs.InnerHits.{inner_pages}
+use Rattle.query_ast.specs.Pages.{PagePart, pages_of}
+use Rattle.query_ast.specs.declared.hit.InnerPage.{InnerPage}
+use Rattle.segment.specs.Live.{EntryState}
+use Rattle.tree_json.specs.Text.{compact}
+use Rattle.tree_json.specs.Value.{JsonValue}
 use Rattle.query_eval.specs.Found.{score_by}
 use Rattle.query_eval.specs.declared.side.Side.TheVariants.{Children, Parents}
 use Rattle.tree_joins.proofs.Each.{each_map}
@@ -11,15 +18,16 @@ use Rattle.tree_objects.specs.Tree.{Tree}
 use Rattle.view_objects.specs.Hits.{hit_object, live_trees, object_at}
 use Rattle.view_objects.specs.declared.hit.Hit.{Hit}
 use Rattle.query_ast.specs.Inner.View.{inner_of}
-use Rattle.query_ast.specs.Pages.View.{hit_part}
+use Rattle.query_ast.specs.Pages.View.{hit_part, page_part}
 use Rattle.query_ast.specs.declared.hit.InnerHit.{InnerHit}
 use Rattle.inner_hits.specs.Hits.{shown_as}
 use Rattle.inner_hits.specs.Kinship.{AreKin}
-use Rattle.inner_hits.specs.Steps.{joined_among}
+use Rattle.inner_hits.specs.Steps.{joined_among, joined_in}
+use Rattle.inner_hits.proofs.Between.{entry_at}
 use Rattle.inner_hits.proofs.Arms.{below_above, below_answered, children_answered, children_kin, parents_answered, parents_kin}
 use Rattle.inner_hits.proofs.Objects.{hits_of_tree, of_below}
-use Rattle.inner_hits.proofs.Showing.{among_all, drop_step, empty_children, empty_ignored, empty_parents, joined_step, page_below, page_children, page_parents, same_steps, shown_is, shown_more}
-use Rattle.inner_hits.proofs.Standing.{seen_at}
+use Rattle.inner_hits.proofs.Showing.{among_all, drop_step, empty_children, empty_ignored, empty_parents, hit_is, joined_shown, joined_step, page_below, page_children, page_parents, same_steps, shown_is, shown_more}
+use Rattle.inner_hits.proofs.Standing.{seen_at, standing_of}
 use Rattle.inner_hits.proofs.pages.+pages.Goals as goal
 
 pub below_page-returns-in_ok-shown_page-clause-page : goal.below_page-returns-in_ok-shown_page-clause-page
@@ -176,3 +184,27 @@ shown_hits-hits-preserved g t c = λ trees stands kept are source.
       shown_more f hits i h c.hits.shown.items c.push.new.self.items c.in_ok-one.one step (c.in_ok-one.ensures.hit trees stands kept own held) c.in_ok-push.ensures.items prior.0,
       omega (arith, prior.1, c.in_ok-one.ensures.steps trees stands kept own held, joined_step f hits i h step),
     )
+
+pub nested_hit-returns-clause-hit : goal.nested_hit-returns-clause-hit
+nested_hit-returns-clause-hit g t c = λ trees asked.
+    let m = c.args.mapping.now in
+    let hit = c.args.hit in
+    let entry = c.index-entries-place.result in
+    let ts = get_or trees hit.place [] in
+    let o = object_at m trees hit.place hit.doc in
+    let at = entry_at c.args.view.now hit.place hit.doc entry c.requires.doc (c.index-entries-place.is ∙ ap (λ (l : List EntryState). get_or l hit.place entry) c.entries.ensures.entries) in
+    let there = standing_of m c.args.view.now trees hit.place entry c.segment-segment.result.now asked.stands at c.segment-segment.ensures in
+    let here = (seen_at m c.args.scope asked.hit.given ts hit.doc asked.hit.score asked.hit.is).stands_at in
+    let found = c.in_ok-found.ensures entry.live ts there here asked.holds in
+    hit_is m trees c.args.def.now hit c.in_ok-root_id.field-0 c.of.result c.in_ok-text.text c.of-2.result
+    (c.in_ok-root_id.ensures m entry.live ts there) (c.of.ensures ∙ found.levels)
+    (c.in_ok-text.ensures ∙ ap (λ (v : JsonValue). if c.args.def.now.source then Some (compact v) else None) found.holds)
+    (c.of-2.ensures ∙ c.in_ok-add_pages.ensures.pages trees asked
+    ∙ ap (λ (l : List InnerPage). map page_part l ++ inner_pages m (live_trees trees) (definitions_of (map inner_of c.as_slice.result.now)) o) c.new-pages.ensures.items
+    ∙ ap (λ (ds : List (Definition Inner)). inner_pages m (live_trees trees) (definitions_of ds) o) c.as_slice.ensures)
+
+pub nested_hit-returns-clause-steps : goal.nested_hit-returns-clause-steps
+nested_hit-returns-clause-steps g t c = λ trees asked.
+    let m = c.args.mapping.now in
+    let o = object_at m trees c.args.hit.place c.args.hit.doc in
+    omega (arith, c.in_ok-add_pages.ensures.steps trees asked, joined_shown m trees c.args.def.now c.args.hit, ap (λ (ds : List (Definition Inner)). joined_in (pages_of (inner_pages m (live_trees trees) (definitions_of ds) o))) c.as_slice.ensures)
