@@ -114,11 +114,11 @@ no_parents m live r (inside outer nested offset v) n is other = refl
 pub joined_shown : (m : Mapping) (trees : Seq (Seq (Marked Tree))) (def : InnerDef) (hit : Hit)
     → joined_among (hits_of (shown_as m trees (inner_of def) hit ∷ [])) ≡ is_tree (levels_of m (object_at m trees hit.place hit.doc)) + joined_in (pages_of (inner_pages m (live_trees trees) (definitions_of def.owned) (object_at m trees hit.place hit.doc)))
 unfolding shown_as
-joined_shown m trees def hit = omega arith
-
-pub joined_more : (m : Mapping) (trees : Seq (Seq (Marked Tree))) (def : InnerDef) (hit : Hit) (hits : Seq Hit)
-    → joined_among (hits_of (map (shown_as m trees (inner_of def)) (hit ∷ hits))) ≡ joined_among (hits_of (shown_as m trees (inner_of def) hit ∷ [])) + joined_among (hits_of (map (shown_as m trees (inner_of def)) hits))
-joined_more m trees def hit hits = omega arith
+joined_shown m trees def hit =
+    let own = is_tree (levels_of m (object_at m trees hit.place hit.doc)) in
+    let inner = joined_in (pages_of (inner_pages m (live_trees trees) (definitions_of def.owned) (object_at m trees hit.place hit.doc))) in
+    let e : own + inner + 0 ≡ own + inner = omega arith in
+    e
 
 -- ---- the page of a definition, by what it is over
 
@@ -194,4 +194,7 @@ joined_step f hits i h step =
     ap (λ (l : Seq Hit). joined_among (hits_of (map f l))) step ∙ more (f h) (hits_of (map f (drop (i + 1) hits)))
   where
     more : (p : HitPart) (rest : Hits) → joined_among (with_hit p.head p.inner rest) ≡ joined_among (with_hit p.head p.inner no_hits) + joined_among rest
-    more p rest = omega arith
+    more p rest =
+        let own = is_tree p.head.levels + joined_in p.inner in
+        let e : own + joined_among rest ≡ own + 0 + joined_among rest = omega arith in
+        e
