@@ -198,3 +198,7 @@ joined_step f hits i h step =
         let own = is_tree p.head.levels + joined_in p.inner in
         let e : own + joined_among rest ≡ own + 0 + joined_among rest = omega arith in
         e
+
+pub positive : (n : ℕ) → (n ≡ 0 → ⊥) → 0 < n
+positive zero other = absurd (other refl)
+positive (suc n) other = omega arith

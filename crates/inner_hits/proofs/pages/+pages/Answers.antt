@@ -26,7 +26,7 @@ use Rattle.inner_hits.specs.Steps.{joined_among, joined_in}
 use Rattle.inner_hits.proofs.Between.{entry_at}
 use Rattle.inner_hits.proofs.Arms.{below_above, below_answered, children_answered, children_kin, parents_answered, parents_kin}
 use Rattle.inner_hits.proofs.Objects.{hits_of_tree, of_below}
-use Rattle.inner_hits.proofs.Showing.{among_all, drop_step, empty_children, empty_ignored, empty_parents, hit_is, joined_shown, joined_step, page_below, page_children, page_parents, same_steps, shown_is, shown_more}
+use Rattle.inner_hits.proofs.Showing.{among_all, drop_step, empty_children, empty_ignored, empty_parents, hit_is, joined_shown, joined_step, positive, page_below, page_children, page_parents, same_steps, shown_is, shown_more}
 use Rattle.inner_hits.proofs.Standing.{seen_at, standing_of}
 use Rattle.inner_hits.proofs.pages.+pages.Goals as goal
 
@@ -208,3 +208,11 @@ nested_hit-returns-clause-steps g t c = λ trees asked.
     let m = c.args.mapping.now in
     let o = object_at m trees c.args.hit.place c.args.hit.doc in
     omega (arith, c.in_ok-add_pages.ensures.steps trees asked, joined_shown m trees c.args.def.now c.args.hit, ap (λ (ds : List (Definition Inner)). joined_in (pages_of (inner_pages m (live_trees trees) (definitions_of ds) o))) c.as_slice.ensures)
+
+pub shown_hit-returns-in_ok-nested_hit-clause-hit : goal.shown_hit-returns-in_ok-nested_hit-clause-hit
+shown_hit-returns-in_ok-nested_hit-clause-hit g t c = λ trees stands kept hit holds.
+    c.in_ok-nested_hit.ensures.hit trees (record { stands = stands; kept = kept; hit = hit; holds = holds (positive c.args.scope c.if-scope-eq0.false) })
+
+pub shown_hit-returns-in_ok-nested_hit-clause-steps : goal.shown_hit-returns-in_ok-nested_hit-clause-steps
+shown_hit-returns-in_ok-nested_hit-clause-steps g t c = λ trees stands kept hit holds.
+    c.in_ok-nested_hit.ensures.steps trees (record { stands = stands; kept = kept; hit = hit; holds = holds (positive c.args.scope c.if-scope-eq0.false) })
