@@ -1,9 +1,9 @@
-use Rattle.std.proofs.Common.{◌≡◌, ℕ, ◌+◌, ◌<◌, ◌≤◌, ◌++◌, List, [], map, get_or, Some, None, if◌then◌else◌, sym, ap, subst, ◌∙◌, arith}
+use Rattle.std.proofs.Common.{◌≡◌, ℕ, ◌+◌, ◌<◌, ◌≤◌, ◌++◌, List, [], map, get_or, true, refl, Some, None, if◌then◌else◌, sym, ap, subst, ◌∙◌, arith}
 use Rattle.std.proofs.lemmas.List.Elements.{All-from_recursion}
 use Rattle.nested_sort.specs.Listed.{IsHitAt}
 use Rattle.query_ast.specs.Definition.{Definition, definitions_of}
 use Rattle.query_ast.specs.Inner.{Inner}
-use Rattle.query_ast.specs.InnerHits.{inner_pages}
+use Rattle.query_ast.specs.InnerHits.{inner_pages, levels_of}
 use Rattle.query_ast.specs.Pages.{PagePart, pages_of}
 use Rattle.query_ast.specs.declared.hit.InnerPage.{InnerPage}
 use Rattle.segment.specs.Live.{EntryState}
@@ -13,21 +13,26 @@ use Rattle.query_eval.specs.Found.{score_by}
 use Rattle.query_eval.specs.declared.side.Side.TheVariants.{Children, Parents}
 use Rattle.tree_joins.proofs.Each.{each_map}
 use Rattle.tree_json.specs.View.{view as seen_as}
-use Rattle.tree_objects.specs.Object.{below, tree_of}
+use Rattle.tree_objects.specs.Object.{Object, below, content, root, tree_of}
 use Rattle.tree_objects.specs.Tree.{Tree}
 use Rattle.view_objects.specs.Hits.{hit_object, live_trees, object_at}
 use Rattle.view_objects.specs.declared.hit.Hit.{Hit}
 use Rattle.query_ast.specs.Inner.View.{inner_of}
 use Rattle.query_ast.specs.Pages.View.{hit_part, page_part}
 use Rattle.query_ast.specs.declared.hit.InnerHit.{InnerHit}
-use Rattle.inner_hits.specs.Hits.{shown_as}
+use Rattle.block_bits.specs.Blocks.{documents_of}
+use Rattle.segment.specs.Live.{root_of}
+use Rattle.tree_joins.specs.Seen.{at_scope, scopes_of}
+use Rattle.tree_json.specs.Reading.{reading}
+use Rattle.inner_hits.specs.Hits.{ReadsBack, shown_as}
 use Rattle.inner_hits.specs.Kinship.{AreKin}
-use Rattle.inner_hits.specs.Steps.{joined_among, joined_in}
+use Rattle.inner_hits.specs.Steps.{is_tree, joined_among, joined_in}
 use Rattle.inner_hits.proofs.Between.{entry_at}
 use Rattle.inner_hits.proofs.Arms.{below_above, below_answered, children_answered, children_kin, parents_answered, parents_kin}
-use Rattle.inner_hits.proofs.Objects.{hits_of_tree, of_below}
+use Rattle.inner_hits.proofs.Objects.{hits_of_tree, kept_tree, of_below}
 use Rattle.inner_hits.proofs.Showing.{among_all, drop_step, empty_children, empty_ignored, empty_parents, hit_is, joined_shown, joined_step, positive, page_below, page_children, page_parents, same_steps, shown_is, shown_more}
-use Rattle.inner_hits.proofs.Standing.{seen_at, standing_of}
+use Rattle.inner_hits.proofs.Standing.{live_root, seen_at, standing, standing_of}
+use Rattle.inner_hits.proofs.Joining.{low_place}
 use Rattle.inner_hits.proofs.pages.+pages.Goals as goal
 
 pub below_page-returns-in_ok-shown_page-clause-page : goal.below_page-returns-in_ok-shown_page-clause-page
@@ -216,3 +221,89 @@ shown_hit-returns-in_ok-nested_hit-clause-hit g t c = λ trees stands kept hit h
 pub shown_hit-returns-in_ok-nested_hit-clause-steps : goal.shown_hit-returns-in_ok-nested_hit-clause-steps
 shown_hit-returns-in_ok-nested_hit-clause-steps g t c = λ trees stands kept hit holds.
     c.in_ok-nested_hit.ensures.steps trees (record { stands = stands; kept = kept; hit = hit; holds = holds (positive c.args.scope c.if-scope-eq0.false) })
+
+pub tree_hit-returns-then-as_slice-is_empty-clause-hit : goal.tree_hit-returns-then-as_slice-is_empty-clause-hit
+tree_hit-returns-then-as_slice-is_empty-clause-hit g t c = λ trees stands kept hit.
+    let m = c.args.mapping.now in
+    let view = c.args.view.now in
+    let place = c.args.hit.place in
+    let doc = c.args.hit.doc in
+    let ts = get_or trees place [] in
+    let o = object_at m trees place doc in
+    let entry = c.index-entries-place.result in
+    let at = entry_at view place doc entry c.requires.doc (c.index-entries-place.is ∙ ap (λ (l : List EntryState). get_or l place entry) c.entries.ensures.entries) in
+    let there = standing_of m view trees place entry c.segment-segment.result.now stands at c.segment-segment.ensures in
+    let seen = seen_at m 0 hit.given ts doc hit.score hit.is in
+    let it = standing m view trees place stands (low_place m (at_scope 0 hit.given) trees place doc hit.score hit.is) in
+    let in_tree = c.documents_are_of_objects.ensures.trees m ts doc it.stands.mapping seen.low in
+    let at_root = in_tree.at_root seen.stands_at ∙ ap (λ (t : Tree). root t) (sym in_tree.tree) in
+    c.in_ok-bare_hit.ensures.hit m entry.live trees there at_root
+
+pub tree_hit-returns-then-as_slice-is_empty-clause-steps : goal.tree_hit-returns-then-as_slice-is_empty-clause-steps
+tree_hit-returns-then-as_slice-is_empty-clause-steps g t c = λ trees stands kept hit.
+    let m = c.args.mapping.now in
+    let view = c.args.view.now in
+    let place = c.args.hit.place in
+    let doc = c.args.hit.doc in
+    let ts = get_or trees place [] in
+    let o = object_at m trees place doc in
+    let entry = c.index-entries-place.result in
+    let at = entry_at view place doc entry c.requires.doc (c.index-entries-place.is ∙ ap (λ (l : List EntryState). get_or l place entry) c.entries.ensures.entries) in
+    let there = standing_of m view trees place entry c.segment-segment.result.now stands at c.segment-segment.ensures in
+    let seen = seen_at m 0 hit.given ts doc hit.score hit.is in
+    let it = standing m view trees place stands (low_place m (at_scope 0 hit.given) trees place doc hit.score hit.is) in
+    let in_tree = c.documents_are_of_objects.ensures.trees m ts doc it.stands.mapping seen.low in
+    let at_root = in_tree.at_root seen.stands_at ∙ ap (λ (t : Tree). root t) (sym in_tree.tree) in
+    omega (arith, c.in_ok-bare_hit.ensures.step, joined_shown m trees c.args.def.now c.args.hit, ap (λ (x : Object). is_tree (levels_of m x)) at_root)
+
+pub tree_hit-returns-clause-hit : goal.tree_hit-returns-clause-hit
+tree_hit-returns-clause-hit g t c = λ trees stands kept hit.
+    let m = c.args.mapping.now in
+    let view = c.args.view.now in
+    let place = c.args.hit.place in
+    let doc = c.args.hit.doc in
+    let ts = get_or trees place [] in
+    let o = object_at m trees place doc in
+    let entry = c.index-entries-place.result in
+    let at = entry_at view place doc entry c.requires.doc (c.index-entries-place.is ∙ ap (λ (l : List EntryState). get_or l place entry) c.entries.ensures.entries) in
+    let there = standing_of m view trees place entry c.segment-segment.result.now stands at c.segment-segment.ensures in
+    let seen = seen_at m 0 hit.given ts doc hit.score hit.is in
+    let it = standing m view trees place stands (low_place m (at_scope 0 hit.given) trees place doc hit.score hit.is) in
+    let in_tree = c.documents_are_of_objects.ensures.trees m ts doc it.stands.mapping seen.low in
+    let at_root = in_tree.at_root seen.stands_at ∙ ap (λ (t : Tree). root t) (sym in_tree.tree) in
+    let live = live_root m view trees hit.given place doc hit.score it in_tree hit.is in
+    let reads = kept_tree ReadsBack trees place (root_of (documents_of (scopes_of m ts) 0) doc) (record { item = tree_of o; live = true }) live.tree_at refl kept in
+    let text = c.in_ok-text.ensures.source m entry.live ts there in
+    let holds = c.in_ok-source.ensures (tree_of o).source (ap reading (c.as_slice-2.ensures.value ∙ text) ∙ reads) in
+    let asked = record { stands = stands; kept = kept; hit = hit; holds = holds } in
+    hit_is m trees c.args.def.now c.args.hit c.in_ok-root_id.field-0 c.of.result c.if_asked.result c.of-2.result
+    (c.in_ok-root_id.ensures m entry.live ts there)
+    (c.of.ensures ∙ c.new.ensures.items ∙ sym (ap (levels_of m) at_root))
+    (c.if_asked.ensures ∙ ap (λ (s : List ℕ). if c.args.def.now.source then Some s else None) text ∙ ap (λ (v : JsonValue). if c.args.def.now.source then Some (compact v) else None) (sym (ap content at_root)))
+    (c.of-2.ensures ∙ c.in_ok-add_pages.ensures.pages trees asked
+    ∙ ap (λ (l : List InnerPage). map page_part l ++ inner_pages m (live_trees trees) (definitions_of (map inner_of c.as_slice-3.result.now)) o) c.new-pages.ensures.items
+    ∙ ap (λ (ds : List (Definition Inner)). inner_pages m (live_trees trees) (definitions_of ds) o) c.as_slice-3.ensures)
+
+pub tree_hit-returns-clause-steps : goal.tree_hit-returns-clause-steps
+tree_hit-returns-clause-steps g t c = λ trees stands kept hit.
+    let m = c.args.mapping.now in
+    let view = c.args.view.now in
+    let place = c.args.hit.place in
+    let doc = c.args.hit.doc in
+    let ts = get_or trees place [] in
+    let o = object_at m trees place doc in
+    let entry = c.index-entries-place.result in
+    let at = entry_at view place doc entry c.requires.doc (c.index-entries-place.is ∙ ap (λ (l : List EntryState). get_or l place entry) c.entries.ensures.entries) in
+    let there = standing_of m view trees place entry c.segment-segment.result.now stands at c.segment-segment.ensures in
+    let seen = seen_at m 0 hit.given ts doc hit.score hit.is in
+    let it = standing m view trees place stands (low_place m (at_scope 0 hit.given) trees place doc hit.score hit.is) in
+    let in_tree = c.documents_are_of_objects.ensures.trees m ts doc it.stands.mapping seen.low in
+    let at_root = in_tree.at_root seen.stands_at ∙ ap (λ (t : Tree). root t) (sym in_tree.tree) in
+    let live = live_root m view trees hit.given place doc hit.score it in_tree hit.is in
+    let reads = kept_tree ReadsBack trees place (root_of (documents_of (scopes_of m ts) 0) doc) (record { item = tree_of o; live = true }) live.tree_at refl kept in
+    let text = c.in_ok-text.ensures.source m entry.live ts there in
+    let holds = c.in_ok-source.ensures (tree_of o).source (ap reading (c.as_slice-2.ensures.value ∙ text) ∙ reads) in
+    let asked = record { stands = stands; kept = kept; hit = hit; holds = holds } in
+    omega (arith, c.in_ok-text.ensures.step, c.in_ok-add_pages.ensures.steps trees asked, joined_shown m trees c.args.def.now c.args.hit, ap (λ (x : Object). is_tree (levels_of m x)) at_root,
+    ap (λ (ds : List (Definition Inner)). joined_in (pages_of (inner_pages m (live_trees trees) (definitions_of ds) o))) c.as_slice-3.ensures)
+
