@@ -1,0 +1,9 @@
+-- Lists that agree, and pages of them; the rows of a view; the page of a search; what filters find; scores in another order;
+-- roots' documents; what is given row by row.
+mod Agreeing
+mod Rows
+mod Paged
+mod Found
+mod Reading
+mod Marks
+mod Shown
