@@ -118,6 +118,9 @@ fn add_numbers(
 {
     let values = numbers(alloc, kind, items)?;
     if !values.is_empty() {
+        if into.numbers.is_empty() {
+            into.numbers.reserve_exact(1)?;
+        }
         into.numbers.push(NumberField { field, values })?;
     }
     Ok(())
@@ -134,6 +137,9 @@ fn add_keywords(
 {
     let values = keywords(alloc, items)?;
     if !values.is_empty() {
+        if into.keywords.is_empty() {
+            into.keywords.reserve_exact(1)?;
+        }
         into.keywords.push(KeywordField { field, values })?;
     }
     Ok(())

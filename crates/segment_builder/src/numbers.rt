@@ -40,7 +40,7 @@ fn columns_from(
     requires { All (IsColumn int_cmp (FitsSigned w64)) (number_groups groups.now) }
     ensures { IfOk result (λ columns. columns.items ≡ number_groups groups.now) }
 {
-    let mut columns = Vec::new(alloc);
+    let mut columns = Vec::with_capacity(alloc, groups.len())?;
     'groups: for (field, members) in groups {
         columns.push(column_of(alloc, *field, members.as_slice())?)?;
     }
@@ -52,7 +52,7 @@ fn column_of(alloc: Global, field: u32, members: &[(u32, &[i64])]) -> Result<Row
     requires { IsColumn int_cmp (FitsSigned w64) (field, number_rows members.now) }
     ensures { IfOk result (λ column. column ≡ (field, number_rows members.now)) }
 {
-    let mut rows = Vec::new(alloc);
+    let mut rows = Vec::with_capacity(alloc, members.len())?;
     'members: for (doc, values) in members {
         rows.push((*doc, numbers_of(alloc, *values)?))?;
     }

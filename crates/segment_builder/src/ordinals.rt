@@ -49,7 +49,7 @@ fn columns_from(
     ensures terms { IfOk result (λ columns. map (column_terms (terms_in terms.now)) columns.items ≡ map named_group (keyword_groups groups.now)) }
     ensures are { IfOk result (λ columns. All (IsColumn nat_cmp IsOrdinal) columns.items) }
 {
-    let mut columns = Vec::new(alloc);
+    let mut columns = Vec::with_capacity(alloc, groups.len())?;
     'groups: for (field, members) in groups {
         columns.push(column_of(alloc, terms, *field, members.as_slice())?)?;
     }
@@ -86,7 +86,7 @@ fn rows_from(
     ensures terms { IfOk result (λ rows. map (row_terms (terms_in terms.now)) rows.items ≡ map (named_row field) (keyword_rows members.now)) }
     ensures are { IfOk result (λ rows. All (λ row. AreValues nat_cmp row.1 × All IsOrdinal row.1) rows.items) }
 {
-    let mut rows = Vec::new(alloc);
+    let mut rows = Vec::with_capacity(alloc, members.len())?;
     'members: for (doc, values) in members {
         rows.push((*doc, ordinals_of(alloc, terms, field, *values)?))?;
     }
@@ -123,7 +123,7 @@ fn places_of(
     ensures terms { IfOk result (λ places. map (slice_get (terms_in terms.now)) places.items ≡ named field (bytes_lent values.now)) }
     ensures fit { IfOk result (λ places. All IsOrdinal places.items) }
 {
-    let mut places = Vec::new(alloc);
+    let mut places = Vec::with_capacity(alloc, values.len())?;
     'values: for value in values {
         places.push(find(terms, field, value.as_slice()) as u64)?;
     }

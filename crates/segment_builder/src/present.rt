@@ -40,7 +40,7 @@ fn sets_of(
     requires { All (λ group. All (λ doc. doc < documents) group.1) (groups_seen groups.now) }
     ensures { IfOk result (λ sets. sets.items ≡ marked_groups documents (groups_seen groups.now)) }
 {
-    let mut sets = Vec::new(alloc);
+    let mut sets = Vec::with_capacity(alloc, groups.len())?;
     'groups: for (field, docs) in groups {
         sets.push((*field, set_of(alloc, documents, docs.as_slice())?))?;
     }
