@@ -1,16 +1,27 @@
-//! The entry of a document, by binary search over the entries in place.
+//! The entry of a document, by a search over the entries in place: first by guesses, then by halves.
 
-ghost use Rattle.std.specs.Prelude.{◌≡◌, ◌+◌, ◌<◌, length, drop, slice_index, Contains, IfSome, IfNone};
+ghost use Rattle.std.specs.Prelude.{◌≡◌, ◌+◌, ◌<◌, ◌≤◌, length, drop, slice_index, Contains, IfSome, IfNone};
 ghost use Rattle.part_text.specs.Front.{first_u32};
 ghost use Rattle.part_text.specs.Places.{row};
 ghost use Rattle.doc_values.specs.Kept.{documents_in, AreEntriesAt};
 
 use part_text::{first_u32, row};
 
+/// How many places are guessed before the search goes by halves.
+const MOST_GUESSES: u32 = 3;
+
+/// An entry whose document is known.
+#[derive(Clone, Copy, Debug, PartialEq, Eq)]
+struct Known {
+    at: usize,
+    document: u32,
+}
+
 /// The index of a document's entry.
 ///
 /// Documents ascend by one at least. So no entry stands further from the first one than its document does, nor further from
-/// the last: where all documents have an entry, it is found at once.
+/// the last: where all documents have an entry, it is found at once. Where they lie about evenly apart, it is found by a few
+/// guesses; else the search goes by halves.
 pub(crate) fn index_of(places: &[u64], bytes: &[u8], doc: u32) -> Option<usize>
     requires { AreEntriesAt places.now bytes.now }
     ensures found { IfSome result (λ at. (at + 1 < length places.now) × (slice_index (documents_in places.now bytes.now) at ≡ doc)) }
@@ -30,19 +41,57 @@ pub(crate) fn index_of(places: &[u64], bytes: &[u8], doc: u32) -> Option<usize>
     }
     let mut low = (count - 1).saturating_sub((last - doc) as usize);
     let mut high = count.min((doc - first) as usize + 1);
+    let mut before = Known {
+        at: 0,
+        document: first,
+    };
+    let mut behind = Known {
+        at: count - 1,
+        document: last,
+    };
+    let mut guesses = MOST_GUESSES;
     'halves: while low < high {
-        let middle = low + (high - low) / 2;
+        let middle = next_place(low, high, guesses, guess(before, behind, doc));
         let found = document(places, bytes, middle);
         if found == doc {
             return Some(middle);
         }
+        let known = Known {
+            at: middle,
+            document: found,
+        };
         if found < doc {
             low = middle + 1;
+            before = known;
         } else {
             high = middle;
+            behind = known;
         }
+        guesses = guesses.saturating_sub(1);
     }
     None
+}
+
+/// The place to look at next, among those from `low` on and below `high`: the guessed one or the nearest to it, as long as
+/// there are guesses, and then the middle.
+fn next_place(low: usize, high: usize, guesses: u32, guessed: usize) -> usize
+    requires { low < high }
+    ensures from { low ≤ result }
+    ensures below { result < high }
+{
+    if guesses > 0 {
+        guessed.max(low).min(high - 1)
+    } else {
+        low + (high - low) / 2
+    }
+}
+
+/// Where a document would stand if those between two known ones lay evenly apart.
+fn guess(before: Known, behind: Known, doc: u32) -> usize {
+    let apart = behind.document.saturating_sub(before.document).max(1) as u64;
+    let ahead = doc.saturating_sub(before.document) as u64;
+    let places = behind.at.saturating_sub(before.at) as u64;
+    before.at.saturating_add((ahead.saturating_mul(places) / apart) as usize)
 }
 
 /// The document of an entry.

@@ -1,4 +1,4 @@
-use Rattle.std.proofs.Common.{◌-◌, ◌+◌, ◌/◌, ◌<◌, length, arith}
+use Rattle.std.proofs.Common.{◌-◌, ◌+◌, ◌<◌, length, arith}
 use Rattle.doc_values.specs.Kept.{documents_in}
 use Rattle.doc_values.proofs.Entries.{length-documents_in, all_below, all_above, found_nowhere, ascend_to}
 use Rattle.doc_values.proofs.search.index_of.Goals as goal
@@ -44,22 +44,22 @@ halves-init c =
 pub halves-preserved-then-found-doc-2 : goal.halves-preserved-then-found-doc-2
 halves-preserved-then-found-doc-2 c =
     let docs = documents_in c.args.places.now c.args.bytes.now in
-    let middle = c.halves.low + (c.halves.high - c.halves.low) / 2 in
+    let middle = c.next_place-middle.result in
     let long = length-documents_in c.args.places.now c.args.bytes.now in
     record {
-      order = omega (arith, c.halves-test.true);
+      order = omega (arith, c.halves-test.true, c.next_place-middle.ensures.below);
       within = c.halves.invariant.within;
-      before = all_below docs middle c.args.doc c.requires.ascending (omega (arith, long, c.halves-test.true, c.halves.invariant.within)) (omega (arith, c.document-found.ensures, c.if-found-doc-2.true));
+      before = all_below docs middle c.args.doc c.requires.ascending (omega (arith, long, c.halves-test.true, c.halves.invariant.within, c.next_place-middle.ensures.below)) (omega (arith, c.document-found.ensures, c.if-found-doc-2.true));
       after = c.halves.invariant.after;
     }
 
 pub halves-preserved : goal.halves-preserved
 halves-preserved c =
     let docs = documents_in c.args.places.now c.args.bytes.now in
-    let middle = c.halves.low + (c.halves.high - c.halves.low) / 2 in
+    let middle = c.next_place-middle.result in
     record {
-      order = omega (arith, c.halves-test.true);
-      within = omega (arith, c.halves-test.true, c.halves.invariant.within);
+      order = omega (arith, c.halves-test.true, c.next_place-middle.ensures.from);
+      within = omega (arith, c.halves-test.true, c.halves.invariant.within, c.next_place-middle.ensures.below);
       before = c.halves.invariant.before;
       after = all_above docs middle c.args.doc c.requires.ascending (omega (arith, c.document-found.ensures, c.if-found-doc-2.false, c.if-found-doc.false));
     }
