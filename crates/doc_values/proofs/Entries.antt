@@ -1,5 +1,5 @@
 -- Entries in place: their documents, and a search among them.
-use Rattle.std.proofs.Common.{◌≡◌, ℕ, zero, suc, ◌+◌, ◌-◌, ◌<◌, ◌≤◌, List, [], length, get_or, map, sym, ap, ◌∙◌, arith, inl, inr, Contains, le_of_eq}
+use Rattle.std.proofs.Common.{◌≡◌, ◌⊎◌, ℕ, zero, suc, ◌+◌, ◌-◌, ◌<◌, ◌≤◌, List, [], length, get_or, map, sym, ap, ◌∙◌, arith, inl, inr, Contains, le_of_eq}
 use Rattle.std.specs.List.Sorted.{IsStrictlyIncreasing}
 use Rattle.std.proofs.lemmas.Bool.{cases_lt}
 use Rattle.std.proofs.lemmas.List.{length-map, get_or-map, same_lists, get_or_default}
@@ -85,3 +85,18 @@ ascend_to docs one other ascend order inside =
     let all = ascend_by docs one (other - one) ascend (omega (arith, inside)) in
     let here : get_or docs (one + (other - one)) 0 ≡ get_or docs other 0 = ap (λ k. get_or docs k 0) same in
     omega (arith, all, here)
+
+-- no entry further behind one than their documents lie apart has a document
+pub near_end : (docs : List ℕ) (middle doc high end : ℕ) → IsStrictlyIncreasing docs → get_or docs middle 0 < doc → ((k : ℕ) → high ≤ k → k < length docs → doc < get_or docs k 0)
+    → (end ≡ high) ⊎ (end ≡ middle + (doc - get_or docs middle 0) + 1) → (k : ℕ) → end ≤ k → k < length docs → doc < get_or docs k 0
+near_end docs middle doc high end ascend less after which k from inside = elim which [
+  | inl same ↦ after k (omega (arith, from, same)) inside
+  | inr near ↦ let up = ascend_to docs middle k ascend (omega (arith, from, near)) inside in omega (arith, up, from, near, less)
+]
+
+pub near_begin : (docs : List ℕ) (middle doc low begin : ℕ) → IsStrictlyIncreasing docs → middle < length docs → doc < get_or docs middle 0 → ((k : ℕ) → k < low → get_or docs k 0 < doc)
+    → (begin ≡ low) ⊎ (begin + (get_or docs middle 0 - doc) ≡ middle) → (k : ℕ) → k < begin → get_or docs k 0 < doc
+near_begin docs middle doc low begin ascend there more before which k below = elim which [
+  | inl same ↦ before k (omega (arith, below, same))
+  | inr near ↦ let up = ascend_to docs k middle ascend (omega (arith, below, near)) there in omega (arith, up, below, near, more)
+]

@@ -1,6 +1,6 @@
 //! The entry of a document, by a search over the entries in place: first by guesses, then by halves.
 
-ghost use Rattle.std.specs.Prelude.{◌≡◌, ◌+◌, ◌<◌, ◌≤◌, length, drop, slice_index, Contains, IfSome, IfNone};
+ghost use Rattle.std.specs.Prelude.{◌≡◌, ◌⊎◌, ◌+◌, ◌<◌, ◌≤◌, length, drop, slice_index, Contains, IfSome, IfNone};
 ghost use Rattle.part_text.specs.Front.{first_u32};
 ghost use Rattle.part_text.specs.Places.{row};
 ghost use Rattle.doc_values.specs.Kept.{documents_in, AreEntriesAt};
@@ -62,8 +62,10 @@ pub(crate) fn index_of(places: &[u64], bytes: &[u8], doc: u32) -> Option<usize>
         };
         if found < doc {
             low = middle + 1;
+            high = end_near(high, middle, (doc - found) as usize);
             before = known;
         } else {
+            low = begin_near(low, middle, (found - doc) as usize);
             high = middle;
             behind = known;
         }
@@ -83,6 +85,35 @@ fn next_place(low: usize, high: usize, guesses: u32, guessed: usize) -> usize
         guessed.max(low).min(high - 1)
     } else {
         low + (high - low) / 2
+    }
+}
+
+/// The end of the places where a document may stand, if one that is so far before it stands in the middle.
+fn end_near(high: usize, middle: usize, apart: usize) -> usize
+    requires order { middle < high }
+    requires some { 0 < apart }
+    ensures within { result ≤ high }
+    ensures behind { middle < result }
+    ensures which { (result ≡ high) ⊎ (result ≡ middle + apart + 1) }
+{
+    if high - middle - 1 > apart {
+        middle + apart + 1
+    } else {
+        high
+    }
+}
+
+/// The first of the places where a document may stand, if one that is so far behind it stands in the middle.
+fn begin_near(low: usize, middle: usize, apart: usize) -> usize
+    requires order { low ≤ middle }
+    ensures within { low ≤ result }
+    ensures before { result ≤ middle }
+    ensures which { (result ≡ low) ⊎ (result + apart ≡ middle) }
+{
+    if middle - low > apart {
+        middle - apart
+    } else {
+        low
     }
 }
 

@@ -1,6 +1,6 @@
-use Rattle.std.proofs.Common.{◌-◌, ◌+◌, ◌<◌, length, arith}
+use Rattle.std.proofs.Common.{◌-◌, ◌+◌, ◌<◌, length, get_or, arith}
 use Rattle.doc_values.specs.Kept.{documents_in}
-use Rattle.doc_values.proofs.Entries.{length-documents_in, all_below, all_above, found_nowhere, ascend_to}
+use Rattle.doc_values.proofs.Entries.{length-documents_in, all_below, all_above, found_nowhere, ascend_to, near_end, near_begin}
 use Rattle.doc_values.proofs.search.index_of.Goals as goal
 
 pub returns-then-count-eq0-clause-missing : goal.returns-then-count-eq0-clause-missing
@@ -46,22 +46,28 @@ halves-preserved-then-found-doc-2 c =
     let docs = documents_in c.args.places.now c.args.bytes.now in
     let middle = c.next_place-middle.result in
     let long = length-documents_in c.args.places.now c.args.bytes.now in
+    let less : get_or docs middle 0 < c.args.doc = omega (arith, c.document-found.ensures, c.if-found-doc-2.true) in
     record {
-      order = omega (arith, c.halves-test.true, c.next_place-middle.ensures.below);
-      within = c.halves.invariant.within;
-      before = all_below docs middle c.args.doc c.requires.ascending (omega (arith, long, c.halves-test.true, c.halves.invariant.within, c.next_place-middle.ensures.below)) (omega (arith, c.document-found.ensures, c.if-found-doc-2.true));
-      after = c.halves.invariant.after;
+      order = omega (arith, c.end_near-high.ensures.behind);
+      within = omega (arith, c.halves.invariant.within, c.end_near-high.ensures.within);
+      before = all_below docs middle c.args.doc c.requires.ascending (omega (arith, long, c.halves-test.true, c.halves.invariant.within, c.next_place-middle.ensures.below)) less;
+      after = near_end docs middle c.args.doc c.halves.high c.end_near-high.result c.requires.ascending less c.halves.invariant.after
+          (rw c.document-found.ensures c.end_near-high.ensures.which);
     }
 
 pub halves-preserved : goal.halves-preserved
 halves-preserved c =
     let docs = documents_in c.args.places.now c.args.bytes.now in
     let middle = c.next_place-middle.result in
+    let long = length-documents_in c.args.places.now c.args.bytes.now in
+    let there : middle < length docs = omega (arith, long, c.halves-test.true, c.halves.invariant.within, c.next_place-middle.ensures.below) in
+    let more : c.args.doc < get_or docs middle 0 = omega (arith, c.document-found.ensures, c.if-found-doc-2.false, c.if-found-doc.false) in
     record {
-      order = omega (arith, c.halves-test.true, c.next_place-middle.ensures.from);
+      order = omega (arith, c.begin_near-low.ensures.before);
       within = omega (arith, c.halves-test.true, c.halves.invariant.within, c.next_place-middle.ensures.below);
-      before = c.halves.invariant.before;
-      after = all_above docs middle c.args.doc c.requires.ascending (omega (arith, c.document-found.ensures, c.if-found-doc-2.false, c.if-found-doc.false));
+      before = near_begin docs middle c.args.doc c.halves.low c.begin_near-low.result c.requires.ascending there more c.halves.invariant.before
+          (rw c.document-found.ensures c.begin_near-low.ensures.which);
+      after = all_above docs middle c.args.doc c.requires.ascending more;
     }
 
 pub returns-clause-missing : goal.returns-clause-missing
