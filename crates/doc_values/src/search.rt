@@ -10,6 +10,9 @@ use part_text::{first_u32, row};
 /// How many places are guessed before the search goes by halves.
 const MOST_GUESSES: u32 = 3;
 
+/// How many places are halved at once, without a guess.
+const FEW_PLACES: usize = 16;
+
 /// An entry whose document is known.
 #[derive(Clone, Copy, Debug, PartialEq, Eq)]
 struct Known {
@@ -51,7 +54,7 @@ pub(crate) fn index_of(places: &[u64], bytes: &[u8], doc: u32) -> Option<usize>
     };
     let mut guesses = MOST_GUESSES;
     'halves: while low < high {
-        let middle = next_place(low, high, guesses, guess(before, behind, doc));
+        let middle = next_place(low, high, guesses, before, behind, doc);
         let found = document(places, bytes, middle);
         if found == doc {
             return Some(middle);
@@ -75,14 +78,21 @@ pub(crate) fn index_of(places: &[u64], bytes: &[u8], doc: u32) -> Option<usize>
 }
 
 /// The place to look at next, among those from `low` on and below `high`: the guessed one or the nearest to it, as long as
-/// there are guesses, and then the middle.
-fn next_place(low: usize, high: usize, guesses: u32, guessed: usize) -> usize
+/// there are guesses and many places, and then the middle.
+fn next_place(
+    low: usize,
+    high: usize,
+    guesses: u32,
+    before: Known,
+    behind: Known,
+    doc: u32,
+) -> usize
     requires { low < high }
     ensures from { low ≤ result }
     ensures below { result < high }
 {
-    if guesses > 0 {
-        guessed.max(low).min(high - 1)
+    if guesses > 0 && high - low > FEW_PLACES {
+        guess(before, behind, doc).max(low).min(high - 1)
     } else {
         low + (high - low) / 2
     }
