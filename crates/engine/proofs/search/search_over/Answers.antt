@@ -14,12 +14,12 @@ returns-then-is_some-clause-answers g c = λ state f.
     refusal_ends (Some c.args.mapping.now) c.args.index.now state (search_by c.args.limits.now c.args.mapping.now c.args.search.now (sealed_state state)) UnknownPit c.refuse.result c.refuse.new.out.bytes f
     (no_pit c.args.limits.now c.args.mapping.now c.args.search.now c.args.index.now state f some) c.refuse.ensures.refused
 
-pub returns-then-is_built-clause-answers : goal.returns-then-is_built-clause-answers
-returns-then-is_built-clause-answers g c = λ state f.
+pub returns-then-not-is_built-clause-answers : goal.returns-then-not-is_built-clause-answers
+returns-then-not-is_built-clause-answers g c = λ state f.
     let none : is_some c.args.search.now.pit ≡ false = first_of (cc, search rules, grind arith) in
     let other : is_built c.args.search.now ≡ false = first_of (cc, search rules, grind arith) in
-    refusal_ends (Some c.args.mapping.now) c.args.index.now state (search_by c.args.limits.now c.args.mapping.now c.args.search.now (sealed_state state)) BadRequest c.refuse-then-is_built.result
-    c.refuse-then-is_built.new.out.bytes f (not_built c.args.limits.now c.args.mapping.now c.args.search.now state none other) c.refuse-then-is_built.ensures.refused
+    refusal_ends (Some c.args.mapping.now) c.args.index.now state (search_by c.args.limits.now c.args.mapping.now c.args.search.now (sealed_state state)) BadRequest c.refuse-then-not-is_built.result
+    c.refuse-then-not-is_built.new.out.bytes f (not_built c.args.limits.now c.args.mapping.now c.args.search.now state none other) c.refuse-then-not-is_built.ensures.refused
 
 pub returns-in_err-found-clause-answers : goal.returns-in_err-found-clause-answers
 returns-in_err-found-clause-answers g c = λ state f.
