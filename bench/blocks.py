@@ -13,6 +13,8 @@ import subprocess
 import sys
 import tempfile
 
+from made import Draws, product
+
 PROGRAM = r'''//! Reads the lines of the standard input as often as the first line says, in the way that it says.
 #![tactic(auto)]
 
@@ -164,34 +166,10 @@ BELOW = (
 HERE = os.path.dirname(os.path.dirname(os.path.abspath(__file__)))
 
 
-class Draws:
-    """Numbers that are the same on each machine."""
-
-    def __init__(self, seed):
-        self.state = seed
-
-    def draw(self, below):
-        self.state = (self.state * 6364136223846793005 + 1442695040888963407) % 2**64
-        return (self.state // 2**33) % below
-
-
-def stock(draws):
-    count = draws.draw(10)
-    return '{"n":%d,"site":"%s"}' % (count, "ab"[draws.draw(2)])
-
-
-def offer(draws):
-    color = ("red", "blue", "green")[draws.draw(3)]
-    price = draws.draw(100)
-    stocks = ",".join(stock(draws) for _ in range(draws.draw(3)))
-    return '{"color":"%s","price":%d,"stock":[%s]}' % (color, price, stocks)
-
-
 def sources(count):
     draws = Draws(7)
     for number in range(count):
-        offers = ",".join(offer(draws) for _ in range(draws.draw(4)))
-        yield '{"name":"item %d","offers":[%s]}\n' % (number, offers)
+        yield product(number, draws) + "\n"
 
 
 def built(work):

@@ -17,34 +17,13 @@ import sys
 import tempfile
 import time
 
+from made import Draws, product
+
 TOP = os.path.dirname(os.path.dirname(os.path.abspath(__file__)))
 MAPPING = ('{"mapping":{"properties":{"name":{"type":"text"},"offers":{"type":"nested","properties":'
            '{"color":{"type":"keyword"},"price":{"type":"long"},"stock":{"type":"nested","properties":'
            '{"n":{"type":"long"},"site":{"type":"keyword"}}}}},"rel":{"type":"join","relations":'
            '{"question":"answer"}}}}}')
-
-
-class Draws:
-    """Numbers that are the same on each machine."""
-
-    def __init__(self, number):
-        self.state = number
-
-    def draw(self, below):
-        self.state = (self.state * 6364136223846793005 + 1442695040888963407) % 2**64
-        return self.state // 2**33 % below
-
-
-def stock(draws):
-    count = draws.draw(10)
-    return '{"n":%d,"site":"%s"}' % (count, "ab"[draws.draw(2)])
-
-
-def offer(draws):
-    color = ("red", "blue", "green")[draws.draw(3)]
-    price = draws.draw(100)
-    stocks = ",".join(stock(draws) for _ in range(draws.draw(3)))
-    return '{"color":"%s","price":%d,"stock":[%s]}' % (color, price, stocks)
 
 
 def writes(count):
@@ -54,8 +33,7 @@ def writes(count):
         if draws.draw(10) == 0 and number > 0:
             yield str(draws.draw(number)), None
         else:
-            offers = ",".join(offer(draws) for _ in range(draws.draw(4)))
-            yield str(number), '{"name":"item %d","offers":[%s]}' % (number, offers)
+            yield str(number), product(number, draws)
 
 
 def lines_of(made):
