@@ -5,6 +5,5 @@ pub mod Faithful
 pub mod View
 pub mod Reads
 pub mod Answers
--- These serve contracts of private calls and proofs alone: how commands end, and roots as hits.
+-- This serves contracts of private calls and proofs alone: how commands end.
 pub mod Parts
-pub mod Hits

@@ -1,14 +1,14 @@
 //! The engine: an index of documents with their mapping, and what answers requests on it.
 //!
-//! Stands on `machine`, the plain machine over trees, on `index_core`, which keeps trees as blocks, and on `write_plan` for
-//! writes and mapping lines. The contract that others use: where what an engine keeps is faithful to a state of the machine,
-//! `Engine::answer` answers as the machine may, and is faithful to the state afterwards; a refusal leaves it as it was, or
-//! sealed, whatever it keeps. Begin with `specs/Faithful` and `specs/Answers`, then `Engine::answer`.
+//! Stands on `machine`, the plain machine over trees, on `index_core`, which keeps trees as blocks, on `write_plan` for writes
+//! and mapping lines, and on `search_page` for searches. The contract that others use: where what an engine keeps is faithful
+//! to a state of the machine, `Engine::answer` answers as the machine may, and is faithful to the state afterwards; a refusal
+//! leaves it as it was, or sealed, whatever it keeps. Begin with `specs/Faithful` and `specs/Answers`, then `Engine::answer`.
 #![tactic(auto)]
 
 mod change;
 mod engine;
-mod everything;
+mod entries;
 mod mapping_line;
 mod no_memory;
 mod refresh;

@@ -35,3 +35,9 @@ impl From<stored_sources::NoMemory> for NoMemory {
         NoMemory
     }
 }
+
+impl From<search_page::NoMemory> for NoMemory {
+    fn from(_error: search_page::NoMemory) -> NoMemory {
+        NoMemory
+    }
+}

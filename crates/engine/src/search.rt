@@ -1,9 +1,11 @@
 //! Searches.
 
 ghost use Rattle.std.specs.Prelude.{◌≡◌, ◌≤◌, ◌+◌, [], true, length, Option, Some, OnOk, IfOk};
+ghost use Rattle.index_core.specs.Kept.{IndexFits};
 ghost use Rattle.machine.specs.Answer.{outcome_of};
-ghost use Rattle.machine.specs.Searching.{boost_in, boost_of_all, is_by_score, is_last, is_plain, is_score, refusal_of, search_by, search_step, within};
+ghost use Rattle.machine.specs.Searching.{found_by, is_built, refusal_of, search_by, search_step, within};
 ghost use Rattle.machine.specs.State.{State, sealed_state};
+ghost use Rattle.query_ast.specs.Resolved.{IsSearch};
 ghost use Rattle.query_ast.specs.Search.{hit_page};
 ghost use Rattle.query_parser.specs.Search.{search_of};
 ghost use Rattle.reply_text.specs.Text.{reply_text};
@@ -16,18 +18,17 @@ ghost use Rattle.engine.specs.Kept.{IsIndexOf};
 ghost use Rattle.engine.specs.Parts.{Leaves, IsRefusedAs, answered_of};
 
 use crate::engine::Answered;
-use crate::everything::everything;
 use crate::no_memory::NoMemory;
 use crate::reply::{Ended, refuse};
+use crate::entries::entries_stand;
 use index_core::IndexCore;
 use machine::Limits;
 use mapping::Mapping;
-use query_ast::{
-    Missing, Query, QueryBox, SearchBody, Sort, SortKey, everything_is_found_in_order,
-};
+use query_ast::{AggReplies, SearchBody};
 use query_parser::{SearchRefusal, resolved};
 use reply_text::{Refusal, Reply, TextRefusal, text};
 use search_form::ShapeRefusal;
+use search_page::page;
 use source_steps::Steps;
 use std::alloc::Global;
 use std::sync::ledger::Ledger;
@@ -85,7 +86,8 @@ fn refuse_search(why: SearchRefusal, out: &mut OutText) -> Result<Ended, NoMemor
     }
 }
 
-/// Answers a search whose body isn't refused. Searches for everything are all that is answered until queries are evaluated.
+/// Answers a search whose body isn't refused. Searches for hits alone are all that is answered until inner hits and buckets
+/// are built.
 #[tactic(auto, using(crate::proofs::Answering::left, crate::proofs::Answering::same_faithful))]
 fn search_over<L: Ledger>(
     alloc: Global,
@@ -97,6 +99,7 @@ fn search_over<L: Ledger>(
     steps: &mut Steps<L>,
 ) -> Result<Ended, NoMemory>
     requires index { IsIndexOf mapping.now index.old }
+    requires resolved { IsSearch mapping.now search.now }
     requires empty { out.old.bytes ≡ [] }
     ensures answers { (state : State) → AreFaithful (Some mapping.now) index.old state
         → Answers state (outcome_of state (search_by limits.now mapping.now search.now (sealed_state state))) (answered_of result) out.new.bytes (Some mapping.now) index.new }
@@ -104,17 +107,48 @@ fn search_over<L: Ledger>(
     ensures reads { (state : State) → AreFaithful (Some mapping.now) index.old state → steps.new ≤ steps.old + length (hit_page mapping.now state.content.live search.now).hits }
     ensures room { room_of out.old ≤ room_of out.new }
 {
-    everything_is_found_in_order();
     if search.pit.is_some() {
         return refuse(Refusal::UnknownPit, out);
     }
-    let Some(boost) = boost_of_all(search) else {
+    if !is_built(search) {
         return refuse(Refusal::BadRequest, out);
-    };
+    }
     index.seal(mapping)?;
-    let entries = index.view().entries();
-    let found = everything(alloc, entries, boost, search.size, search.source, steps)?;
+    let found = found_by(alloc, mapping, index, search, steps)?;
     write_within(limits, &found, out)
+}
+
+/// Whether hits alone are asked for.
+fn is_built(search: &SearchBody) -> bool
+    ensures { result ≡ is_built search.now }
+{
+    search.inner.as_slice().is_empty() && search.aggs.as_slice().is_empty()
+}
+
+/// What a search for hits alone finds in a sealed index.
+fn found_by<L: Ledger>(
+    alloc: Global,
+    mapping: &Mapping,
+    index: &IndexCore,
+    search: &SearchBody,
+    steps: &mut Steps<L>,
+) -> Result<Reply, NoMemory>
+    requires fits { IndexFits mapping.now index.now }
+    requires resolved { IsSearch mapping.now search.now }
+    requires built { is_built search.now ≡ true }
+    ensures done { IfOk result (λ reply. answered_by reply ≡ Answered.Written) }
+    ensures found { (state : State) → AreFaithful (Some mapping.now) index.now state → index.now.buffer ≡ [] → IfOk result (λ reply. reply ≡ found_by mapping.now state.content.live search.now) }
+    ensures reads { (state : State) → AreFaithful (Some mapping.now) index.now state → index.now.buffer ≡ [] → steps.new ≤ steps.old + length (hit_page mapping.now state.content.live search.now).hits }
+{
+    let _scopes = mapping.scope_count();
+    let view = index.view();
+    entries_stand(view.entries());
+    let mut ordinals = None;
+    let page = page(alloc, view, mapping, search, &mut ordinals, steps)?;
+    Ok(Reply::Found {
+        page,
+        answers: AggReplies::of(Vec::new(alloc)),
+    })
 }
 
 /// Writes a reply, or that its line is longer than the limit.
@@ -130,64 +164,5 @@ fn write_within(limits: &Limits, reply: &Reply, out: &mut OutText) -> Result<End
         Ok(()) => Ok(Ended::Accepted),
         Err(TextRefusal::TooLarge) => refuse(Refusal::ReplyTooLarge, out),
         Err(TextRefusal::NoMemory) => Err(NoMemory),
-    }
-}
-
-/// The boost of a search for everything, which asks for hits alone, from the first one on.
-fn boost_of_all(search: &SearchBody) -> Option<u32>
-    ensures { result ≡ boost_of_all search.now }
-{
-    if is_plain(search) {
-        boost_in(&search.query)
-    } else {
-        None
-    }
-}
-
-fn boost_in(query: &QueryBox) -> Option<u32>
-    ensures { result ≡ boost_in query.now }
-{
-    match query.get() {
-        Query::MatchAll { boost } => Some(*boost),
-        _ => None,
-    }
-}
-
-fn is_plain(search: &SearchBody) -> bool
-    ensures { result ≡ is_plain search.now }
-{
-    is_by_score(search.sort.as_slice())
-        && search.after.is_none()
-        && search.from == 0
-        && search.aggs.as_slice().is_empty()
-        && search.inner.as_slice().is_empty()
-        && search.pit.is_none()
-}
-
-fn is_by_score(sorts: &[Sort]) -> bool
-    ensures { result ≡ is_by_score sorts.now }
-{
-    match sorts {
-        [sort] => is_score(&sort.key) && sort.descending && is_last(&sort.missing),
-        _ => false,
-    }
-}
-
-fn is_score(key: &SortKey) -> bool
-    ensures { result ≡ is_score key.now }
-{
-    match key {
-        SortKey::Score => true,
-        SortKey::Field { .. } => false,
-    }
-}
-
-fn is_last(missing: &Missing) -> bool
-    ensures { result ≡ is_last missing.now }
-{
-    match missing {
-        Missing::Last => true,
-        Missing::First => false,
-        Missing::Given(_) => false,
     }
 }

@@ -14,8 +14,6 @@ mod law;
 mod names;
 mod refusal;
 mod shown;
-#[cfg(test)]
-mod tests;
 mod texts;
 mod values;
 mod walk;

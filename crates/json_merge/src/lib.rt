@@ -8,8 +8,6 @@
 mod coming;
 mod merge;
 mod same;
-#[cfg(test)]
-mod tests;
 
 pub use merge::{members_are_merged, merged, merged_values_nest_no_deeper};
 pub use same::{is_same, same_values_are_equal};

@@ -1,5 +1,5 @@
 -- What stays true of the states of the machine, whatever is asked for.
-use Rattle.std.proofs.Common.{◌≡◌, ℕ, List, [], ◌∷◌, Option, Some, None, refl}
+use Rattle.std.proofs.Common.{◌≡◌, ℕ, Bool, true, false, List, [], ◌∷◌, Option, Some, None, refl}
 use Rattle.line_reader.specs.Request.{Request}
 use Rattle.mapping.specs.Mapping.{Mapping}
 use Rattle.reply_text.specs.declared.refusal.Refusal.{Refusal}
@@ -15,7 +15,7 @@ use Rattle.search_walk.specs.Refusal.{first_refusal}
 use Rattle.machine.specs.Answer.{Answer, refuses, answers, outcome_of, first_of, refused_if, unless, with_mapping}
 use Rattle.machine.specs.declared.limits.Limits.{Limits}
 use Rattle.machine.specs.MappingLine.{first_refusals, first_done, first_mapping, growing_refusals, growing_done, grown_mapping, mapping_by, mapping_step, with_content_mapping}
-use Rattle.machine.specs.Searching.{boost_of_all, searched, search_all, search_over, search_by, body_refusal, search_step}
+use Rattle.machine.specs.Searching.{is_built, searched, search_all, search_over, search_by, body_refusal, search_step}
 use Rattle.machine.specs.State.{State, sealed_state}
 use Rattle.machine.specs.Step.{refresh_step, action_step, asked_step, step}
 use Rattle.machine.specs.Write.{live_tree, live_number, early_refusals, nothing_to_do, leaves_source, new_source, added_body, grown_by, put_refusals, put_result, changed, changed_state, put_tree, new_tree, full, with_put, take_out, change, answered_or, change_or_nothing, write_step}
@@ -84,13 +84,13 @@ line_so : (P : State → Type 0) (body : JsonValue) (state : State) → Stays P 
 unfolding mapping_step
 line_so P body state stays so = mapping_so P body state.content.mapping state stays so
 
-all_so : (P : State → Type 0) (limits : Limits) (m : Mapping) (body : SearchBody) (live : List Tree) (boost : Option ℕ) (state : State) → P state → After P (search_all limits m body live boost state)
-all_so P limits m body live None state so = tt
-all_so P limits m body live (Some boost) state so = so
+all_so : (P : State → Type 0) (limits : Limits) (m : Mapping) (body : SearchBody) (live : List Tree) (built : Bool) (state : State) → P state → After P (search_all limits m body live built state)
+all_so P limits m body live false state so = tt
+all_so P limits m body live true state so = so
 
 over_so : (P : State → Type 0) (limits : Limits) (m : Mapping) (body : SearchBody) (live : Option (List Tree)) (state : State) → P state → After P (search_over limits m body live state)
 over_so P limits m body None state so = tt
-over_so P limits m body (Some live) state so = all_so P limits m body live (boost_of_all body) state so
+over_so P limits m body (Some live) state so = all_so P limits m body live (is_built body) state so
 
 search_so : (P : State → Type 0) (limits : Limits) (body : JsonValue) (m : Mapping) (state : State) → P state → After P (search_step limits body m state)
 unfolding search_step

@@ -1,15 +1,9 @@
 -- What a search answers: its first refusal under the mapping, or what it finds among the live trees or those of a point in
 -- time.
-use Rattle.std.specs.Prelude.{ℕ, ◌==◌, nat_lt, Bool, true, false, not, ◌&&◌, if◌then◌else◌, List, [], ◌∷◌, length, find, Option, Some, None, is_some, option_map}
+use Rattle.std.specs.Prelude.{ℕ, ◌==◌, nat_lt, Bool, true, false, ◌&&◌, if◌then◌else◌, List, [], ◌∷◌, length, find, Option, Some, None, option_map}
 use Rattle.mapping.specs.Mapping.{Mapping}
-use Rattle.query_ast.specs.Clause.{Leaf, match_all, match_none, ids, on_field, parent_id, Clause, leaf, bool, constant_score, dis_max, nested, to_child, has_child, has_parent}
 use Rattle.query_ast.specs.Search.{hit_page, found_buckets}
 use Rattle.query_ast.specs.declared.search.SearchBody.{SearchBody}
-use Rattle.query_ast.specs.declared.sort.Missing.{Missing}
-use Rattle.query_ast.specs.declared.sort.Missing.TheVariants.{Last, First, Given}
-use Rattle.query_ast.specs.declared.sort.Sort.{Sort}
-use Rattle.query_ast.specs.declared.sort.SortKey.{SortKey}
-use Rattle.query_ast.specs.declared.sort.SortKey.TheVariants.{Score, Field}
 use Rattle.query_parser.specs.Search.{search_of}
 use Rattle.reply_text.specs.Text.{line_of}
 use Rattle.reply_text.specs.declared.refusal.Refusal.{Refusal}
@@ -44,58 +38,15 @@ abbrev pub body_refusal : Option SearchRefusal → Option Refusal
 body_refusal None = None
 body_refusal (Some refusal) = refusal_of refusal
 
--- ---- searches for everything: all that is answered until queries are evaluated
-
-abbrev pub boost_at : Leaf → ℕ → Option ℕ
-boost_at match_all boost = Some boost
-boost_at match_none boost = None
-boost_at (ids listed) boost = None
-boost_at (on_field field test) boost = None
-boost_at (parent_id relation id) boost = None
-
--- the boost of `match_all`
-abbrev pub boost_in : Clause → Option ℕ
-boost_in (leaf at boost) = boost_at at boost
-boost_in (bool must filter should must_not least) = None
-boost_in (constant_score filter boost) = None
-boost_in (dis_max queries) = None
-boost_in (nested scope query mode) = None
-boost_in (to_child scope query) = None
-boost_in (has_child relation query mode least most) = None
-boost_in (has_parent relation query score boost) = None
-
-abbrev pub is_score : SortKey → Bool
-is_score Score = true
-is_score (Field field mode chain) = false
-
-abbrev pub is_last : Missing → Bool
-is_last Last = true
-is_last First = false
-is_last (Given value) = false
-
--- no other sort than that by score
-abbrev pub is_by_score : List Sort → Bool
-is_by_score [] = false
-is_by_score (sort ∷ []) = is_score sort.key && (sort.descending && is_last sort.missing)
-is_by_score (sort ∷ second ∷ sorts) = false
+-- ---- what is answered until inner hits and buckets are built
 
 abbrev pub is_none : {A : Type 0} → List A → Bool
 is_none {A} [] = true
 is_none {A} (x ∷ xs) = false
 
--- the page begins with the first hit, and nothing else than hits is asked for
-abbrev pub is_plain : SearchBody → Bool
-is_plain search =
-    is_by_score search.sort
-    && (not (is_some search.after)
-    && ((search.from == 0)
-    && (is_none search.aggs
-    && (is_none search.inner
-    && not (is_some search.pit)))))
-
--- the boost of a search for everything, of any size, with or without sources
-abbrev pub boost_of_all : SearchBody → Option ℕ
-boost_of_all search = if is_plain search then boost_in search.query else None
+-- hits alone are asked for
+abbrev pub is_built : SearchBody → Bool
+is_built search = is_none search.inner && is_none search.aggs
 
 -- ---- what is found
 
@@ -114,14 +65,14 @@ found_by m live search = Found (hit_page m live search) (found_buckets m live se
 abbrev pub within : Limits → Reply → Reply
 within limits reply = if nat_lt limits.reply_bytes (length (line_of reply)) then Refused why.ReplyTooLarge else reply
 
--- any other search than one for everything is refused, as it was before it was built
-abbrev pub search_all : Limits → Mapping → SearchBody → List Tree → Option ℕ → State → Answer
-search_all limits m search live None state = refuses why.BadRequest
-search_all limits m search live (Some boost) state = answers (within limits (found_by m live search)) state
+-- a search that asks for more than hits is refused until that is built
+abbrev pub search_all : Limits → Mapping → SearchBody → List Tree → Bool → State → Answer
+search_all limits m search live false state = refuses why.BadRequest
+search_all limits m search live true state = answers (within limits (found_by m live search)) state
 
 abbrev pub search_over : Limits → Mapping → SearchBody → Option (List Tree) → State → Answer
 search_over limits m search None state = refuses why.UnknownPit
-search_over limits m search (Some live) state = search_all limits m search live (boost_of_all search) state
+search_over limits m search (Some live) state = search_all limits m search live (is_built search) state
 
 abbrev pub search_by : Limits → Mapping → SearchBody → State → Answer
 search_by limits m search state = search_over limits m search (searched search.pit state) state

@@ -8,8 +8,6 @@
 mod law;
 mod mapping;
 mod scope;
-#[cfg(test)]
-mod tests;
 
 pub use law::{
     further_bodies_stand_behind, growth_keeps_numbers, inclusion_goes_by_flags,

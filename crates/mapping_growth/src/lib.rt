@@ -17,8 +17,6 @@ mod property;
 mod relation;
 mod said;
 mod taken;
-#[cfg(test)]
-mod tests;
 
 pub use bodies::Bodies;
 pub use draft::Draft;

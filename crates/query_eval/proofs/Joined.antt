@@ -51,7 +51,7 @@ pub and_no : (b : Bool) → (b && false) ≡ false
 and_no true = refl
 and_no false = refl
 
-same_bytes : (a b : List ℕ) → bytes_eq a b ≡ bytes_eq b a
+pub same_bytes : (a b : List ℕ) → bytes_eq a b ≡ bytes_eq b a
 same_bytes a b = by_two (bytes_eq a b) (bytes_eq b a)
     (λ is. (bytes_eq-Decides b a).1 (sym ((bytes_eq-Decides a b).0 is)))
     (λ is. (bytes_eq-Decides a b).1 (sym ((bytes_eq-Decides b a).0 is)))

@@ -12,3 +12,4 @@ pub mod Walking
 pub mod Telling
 pub mod Relations
 pub mod Meeting
+pub mod Related

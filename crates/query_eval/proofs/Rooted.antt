@@ -153,12 +153,12 @@ module _ (one_root : OneRoot) (view : List EntryState) (ordinals : Ordinals) (o 
       ap (λ (s : Scores). s ∷ given_by m ordinals to asked pairs (place + 1) entries) own
       ∙ ap (λ (l : List Scores). seen m (at_scope 0 given) t ∷ l) (given_view from to asked pairs live f given speaks (place + 1) entries trees (rest_stand place e entries all) stand.1)
 
-whole_view : (view : List EntryState) (i : ℕ) (e : EntryState) → slice_get view i ≡ Some e → slice_get view (0 + i) ≡ Some e
+pub whole_view : (view : List EntryState) (i : ℕ) (e : EntryState) → slice_get view i ≡ Some e → slice_get view (0 + i) ≡ Some e
 whole_view view i e at = let same : 0 + i ≡ i = omega arith in ap (slice_get view) same ∙ at
 
 module _ (one_root : OneRoot) (view : List EntryState) (ordinals : Ordinals) (o : AreOrdinals view ordinals) (m : Mapping) (is : IsMapping m) (hits made : List Scores) (given : List Tree → Object → Option ℕ) (long : AreLong view made) (seen_hits : IsSeen m view 0 given hits) where
   -- the scores that are told, where the view stands for trees
-  told_is : (from : Side) (trees : List Trees) → ViewStandsFor m view trees → (k : ℕ) (id : List ℕ) → slice_get o.ids k ≡ Some id
+  pub told_is : (from : Side) (trees : List Trees) → ViewStandsFor m view trees → (k : ℕ) (id : List ℕ) → slice_get o.ids k ≡ Some id
       → scores_of k (told_by m ordinals from 0 view hits) ≡ scores_among (given (live_trees trees)) (takes m from id) (live_trees trees)
   told_is from trees stand k id at =
       ap (λ (l : List Scores). scores_of k (told_by m ordinals from 0 view l)) (seen_hits.are trees stand)

@@ -1,17 +1,17 @@
 -- Joins of trees by the ordinals of ids: which roots take part, by which id, and what they are given.
-use Rattle.std.specs.Prelude.{◌≡◌, ℕ, ◌+◌, ◌==◌, ◌<◌, ◌≤◌, Bool, true, false, cond, if◌then◌else◌, List, [], ◌∷◌, ◌++◌, length, map, filter_map, get_or, Option, Some, None, IfSome, ⊤}
-use Rattle.std.specs.List.{range_with_len}
+use Rattle.std.specs.Prelude.{◌≡◌, ℕ, ◌+◌, ◌==◌, ◌<◌, ◌≤◌, Bool, true, false, cond, if◌then◌else◌, List, [], ◌∷◌, ◌++◌, length, map, filter_map, get_or, Option, Some, None, is_some, ◌&&◌, IfSome, ⊤}
+use Rattle.std.specs.List.{list_any, range_with_len}
 use Rattle.join_ordinals.specs.Ordinals.{Ordinals, ordinal_at}
 use Rattle.mapping.specs.Mapping.{Mapping, relation_at}
 use Rattle.query_ast.specs.Hit.{children_score, parent_score}
-use Rattle.query_ast.specs.Joined.{is_number, roots, child_trees, parent_trees}
+use Rattle.query_ast.specs.Joined.{is_child_by, is_number, roots, child_trees, parent_trees}
 use Rattle.score_math.specs.declared.score.ScoreMode.{ScoreMode}
 use Rattle.segment.specs.Live.{EntryState}
 use Rattle.segment_parts.specs.declared.columns.Columns.{Columns}
 use Rattle.stored_sources.specs.Roots.{root_of}
 use Rattle.stored_sources.specs.declared.root.Join.{Join}
 use Rattle.stored_sources.specs.declared.root.Join.TheVariants.{Unjoined, Named, Child}
-use Rattle.tree_objects.specs.Object.{Object}
+use Rattle.tree_objects.specs.Object.{Object, root as root_of_tree, tree_of}
 use Rattle.tree_objects.specs.Tree.{Tree}
 use Rattle.block_bits.specs.Blocks.{documents_of}
 use Rattle.query_eval.specs.Folds.{scopes_in}
@@ -128,6 +128,13 @@ children_by m relation mode least most given live o = children_score mode least 
 
 abbrev pub parent_by : Mapping → ℕ → Bool → ℕ → (List Tree → Object → Option ℕ) → List Tree → Object → Option ℕ
 parent_by m relation score boost given live o = parent_score score boost (filter_map (given live) (roots (parent_trees m live relation o)))
+
+-- a root is a child by this relation of a live tree whose root is given something
+abbrev pub has_given_parent : Mapping → ℕ → List Tree → (Object → Option ℕ) → Object → Bool
+has_given_parent m r live given o = list_any (λ parent. is_child_by m r parent (tree_of o) && is_some (given (root_of_tree parent))) live
+
+abbrev pub by_relation : Mapping → ℕ → (List Tree → Object → Option ℕ) → List Tree → Object → Option ℕ
+by_relation m r given live o = if has_given_parent m r live (given live) o then Some 1 else None
 
 -- what the roots of all entries are given, from a place on, by the scores that were told
 abbrev pub given_by : Mapping → Ordinals → Side → Answer → List (ℕ × ℕ) → ℕ → List EntryState → List (List (Option ℕ))

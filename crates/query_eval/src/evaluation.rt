@@ -48,9 +48,9 @@ pub fn matches<L: Ledger>(
     Ok(found(alloc, view.entries(), mapping, ordinals, query, scope)?)
 }
 
-/// What a query finds.
+/// What a query finds in the entries of a view, as `matches` has it; no counter is handed in.
 #[cycle(found)]
-fn found(
+pub fn found(
     alloc: Global,
     entries: &[Entry],
     mapping: &Mapping,

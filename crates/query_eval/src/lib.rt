@@ -16,7 +16,10 @@ mod side;
 mod tally;
 mod trees;
 
-pub use evaluation::matches;
+pub use evaluation::{found, matches};
 pub use law::keys_join_trees;
+pub use merges::merges as merged_hits;
+pub use nests::{downs, ups};
 pub use no_memory::NoMemory;
 pub use side::{Side, key_of};
+pub use trees::{with_children, with_parent_by};

@@ -51,7 +51,7 @@ pub(crate) fn narrows(rule: Rule) -> bool
 }
 
 /// The scores of one list and another put together, document by document.
-pub(crate) fn merges(
+pub fn merges(
     alloc: Global,
     entries: &[Entry],
     one: &Matches,

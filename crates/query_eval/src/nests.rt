@@ -24,7 +24,7 @@ use std::alloc::Global;
 use tree_joins::joins_are_of_trees;
 
 /// The objects of a scope that have hits inside them, each with the mode of their scores.
-pub(crate) fn ups(
+pub fn ups(
     alloc: Global,
     entries: &[Entry],
     hits: &Matches,
@@ -64,7 +64,7 @@ fn up_scores(
 }
 
 /// The objects of a scope inside hits of one above it, each with the score of the hit around it.
-pub(crate) fn downs(
+pub fn downs(
     alloc: Global,
     entries: &[Entry],
     hits: &Matches,

@@ -4,7 +4,7 @@ ghost use Rattle.std.specs.Prelude.{◌≡◌, ◌<◌, ◌≤◌, ◌+◌, ◌^
 ghost use Rattle.join_ordinals.specs.Ordinals.{AreOrdinals};
 ghost use Rattle.query_ast.specs.Resolved.{IsChildRelation, IsParentRelation};
 ghost use Rattle.query_eval.specs.Found.{AreLong, IsSeen};
-ghost use Rattle.query_eval.specs.Sides.{AreTallies, HaveTallies, answer_for, at_roots, children_by, given_by, keys_at, of_roots, pair_if, parent_by, told, told_by};
+ghost use Rattle.query_eval.specs.Sides.{AreTallies, HaveTallies, answer_for, at_roots, by_relation, children_by, given_by, keys_at, of_roots, pair_if, parent_by, told, told_by};
 ghost use Rattle.score_math.specs.declared.score.TheConstants.{SCORE_CAP};
 ghost use Rattle.tree_objects.specs.Object.{Object};
 ghost use Rattle.tree_objects.specs.Tree.{Tree};
@@ -25,7 +25,7 @@ use std::alloc::Global;
 use tree_objects::objects_nest;
 
 /// The roots with so many child trees of a relation whose roots are hits, each with the mode of their scores.
-pub(crate) fn with_children(
+pub fn with_children(
     alloc: Global,
     entries: &[Entry],
     mapping: &Mapping,
@@ -39,7 +39,8 @@ pub(crate) fn with_children(
     requires long { AreLong entries.now hits.now }
     requires joined { AreOrdinals entries.now joins.now }
     requires child { IsChildRelation mapping.now child }
-    ensures { (given : List Tree → Object → Option ℕ) → IsSeen mapping.now entries.now 0 given hits.now → IfOk result (IsSeen mapping.now entries.now 0 (children_by mapping.now child mode least most given)) }
+    ensures long { IfOk result (AreLong entries.now) }
+    ensures seen { (given : List Tree → Object → Option ℕ) → IsSeen mapping.now entries.now 0 given hits.now → IfOk result (IsSeen mapping.now entries.now 0 (children_by mapping.now child mode least most given)) }
 {
     objects_nest();
     let _scopes = mapping.scope_count();
@@ -86,6 +87,43 @@ pub(crate) fn with_parent(
         hits,
         Side::Parents(parent),
         Side::ChildrenOf(parent),
+        answer,
+    )?;
+    Ok(made)
+}
+
+/// The roots of a child relation whose parent tree's root is a hit.
+pub fn with_parent_by(
+    alloc: Global,
+    entries: &[Entry],
+    mapping: &Mapping,
+    joins: &JoinOrdinals,
+    hits: &Matches,
+    child: u32,
+) -> Result<Matches, NoMemory>
+    requires long { AreLong entries.now hits.now }
+    requires joined { AreOrdinals entries.now joins.now }
+    requires child { IsChildRelation mapping.now child }
+    ensures long { IfOk result (AreLong entries.now) }
+    ensures seen { (given : List Tree → Object → Option ℕ) → IsSeen mapping.now entries.now 0 given hits.now → IfOk result (IsSeen mapping.now entries.now 0 (by_relation mapping.now child given)) }
+{
+    objects_nest();
+    let _scopes = mapping.scope_count();
+    let Some(parent) = mapping.parent_relation(child) else {
+        unreachable!()
+    };
+    let answer = Answer::Parent {
+        score: false,
+        boost: 1,
+    };
+    let made = joined(
+        alloc,
+        entries,
+        mapping,
+        joins,
+        hits,
+        Side::Parents(parent),
+        Side::Children(child),
         answer,
     )?;
     Ok(made)

@@ -19,8 +19,6 @@ mod refusal;
 mod refused;
 mod reply;
 mod rows;
-#[cfg(test)]
-mod tests;
 mod write;
 
 pub use layout::{MergeRow, MergeRows, SegmentRow, SegmentRows};

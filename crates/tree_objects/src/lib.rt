@@ -11,8 +11,6 @@ mod field_value;
 mod join;
 mod law;
 mod refusal;
-#[cfg(test)]
-mod tests;
 
 pub use convert::{is_of_kind, value_of};
 pub use fault::{Fault, first_fault};

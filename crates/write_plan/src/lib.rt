@@ -10,8 +10,6 @@ mod early;
 mod mapping_line;
 mod plan;
 mod refusal;
-#[cfg(test)]
-mod tests;
 mod update;
 
 pub use early::early_refusal;

@@ -81,7 +81,7 @@ has_child-returns-in_ok-with_children-in-Some t c =
     let made = c.in_ok-with_children-in-Some.field-0 in
     let hits : IsFound m c.args.entries.now 0 q c.in_ok-hits-in-Some.hits = subst (λ (q : Clause). IsFound m c.args.entries.now 0 q c.in_ok-hits-in-Some.hits) c.get.ensures c.in_ok-hits-in-Some.ensures in
     let seen : IsSeen m c.args.entries.now c.args.scope (children_by m r c.args.mode c.args.least c.args.most (score_by m q)) made =
-    subst (λ (n : ℕ). IsSeen m c.args.entries.now n (children_by m r c.args.mode c.args.least c.args.most (score_by m q)) made) (sym c.if-scope-ne0.false) (c.in_ok-with_children-in-Some.ensures (score_by m q) hits) in
+    subst (λ (n : ℕ). IsSeen m c.args.entries.now n (children_by m r c.args.mode c.args.least c.args.most (score_by m q)) made) (sym c.if-scope-ne0.false) (c.in_ok-with_children-in-Some.ensures.seen (score_by m q) hits) in
     subst (λ (r : Option ℕ). IsFound m c.args.entries.now c.args.scope (has_child r q c.args.mode c.args.least c.args.most) made) (sym c.in-Some.is)
     (found_children m c.args.entries.now c.args.scope r q c.args.mode c.args.least c.args.most made seen)
 
