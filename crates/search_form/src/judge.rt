@@ -1,12 +1,12 @@
 //! Whether a value has a form: one recursion over JSON for every table.
-ghost use Rattle.std.specs.Prelude.{◌≡◌, IsTrue};
+ghost use Rattle.std.specs.Prelude.{◌≡◌, IsTrue, IfSome, is_some};
 ghost use Rattle.tree_json.specs.Value.{elements_of, members_of};
 ghost use Rattle.tree_json.specs.View.{view, values, entries};
-ghost use Rattle.search_form.specs.Form.{has_form, all_have_form, each_has_form};
+ghost use Rattle.search_form.specs.Form.{has_form, all_have_form, each_has_form, choice_count};
 ghost use Rattle.search_form.specs.Texts.{AreTexts, AllAreTexts, EachAreTexts};
 
-use crate::form::Form;
-use crate::object::{allows_inner, form_at, suits, suits_list};
+use crate::form::{Form, Presence};
+use crate::object::{allows_inner, line_at, suits, suits_list};
 use crate::single::takes;
 use crate::table::{element_of, single_of};
 use tree_json::{Json, JsonText};
@@ -24,8 +24,11 @@ pub(crate) fn has_form(inner: bool, form: Form, value: &Json) -> bool
         }
         Json::Object(object) => {
             let form = single_of(form);
-            suits(inner, form, object)
-                && each_has_form(allows_inner(inner, form, object), form, object.as_slice())
+            let inside = allows_inner(inner, form, object);
+            match choices_among(inside, form, object.as_slice()) {
+                Some(choices) => suits(inner, form, choices, object),
+                None => false,
+            }
         }
         Json::Text(text) => {
             text.as_slice();
@@ -53,16 +56,23 @@ fn all_have_form(inner: bool, form: Form, elements: &[Json]) -> bool
     true
 }
 
+/// How many of an object's names are a choice, where what stands under each name has its form.
 #[cycle(forms)]
 #[tactic(auto, using(crate::specs::Sizes::sizes, crate::proofs::Texts::texts))]
-fn each_has_form(inner: bool, form: Form, members: &[(JsonText, Json)]) -> bool
-    ensures form { result ≡ each_has_form inner form (members_of (entries members.now)) }
-    ensures texts { IsTrue result → EachAreTexts (members_of (entries members.now)) }
+fn choices_among(inner: bool, form: Form, members: &[(JsonText, Json)]) -> Option<usize>
+    ensures form { is_some result ≡ each_has_form inner form (members_of (entries members.now)) }
+    ensures choices { IfSome result (λ count. count ≡ choice_count form (members_of (entries members.now))) }
+    ensures texts { IfSome result (λ count. EachAreTexts (members_of (entries members.now))) }
 {
+    let mut count = 0;
     'members: for (name, value) in members {
-        if !has_form(inner, form_at(form, name.as_slice()), value) {
-            return false;
+        let (presence, part) = line_at(form, name.as_slice());
+        if !has_form(inner, part, value) {
+            return None;
+        }
+        if matches!(presence, Presence::Choice) {
+            count += 1;
         }
     }
-    true
+    Some(count)
 }

@@ -2,7 +2,7 @@
 ghost use Rattle.std.specs.Prelude.{◌≡◌, ◌<◌, ◌^◌, pos, map, option_map, codes, false, if◌then◌else◌};
 ghost use Rattle.tree_json.specs.Value.{members_of, member_of, elements_of};
 ghost use Rattle.tree_json.specs.View.{view, values, entries};
-ghost use Rattle.search_form.specs.Form.{line_among, line_at, form_at, has, has_required, chosen, choice_count, has_its_choice, are_apart, children_fit, whole_or, is_within, clause_count, starts_at_0, after_fits, fits, suits, allows_inner, last_is_whole, suits_list, is_choice};
+ghost use Rattle.search_form.specs.Form.{line_among, line_at, form_at, has, has_required, chosen, choice_count, are_apart, children_fit, whole_or, is_within, clause_count, starts_at_0, after_fits, fits, suits, allows_inner, last_is_whole, suits_list, is_choice};
 
 use crate::form::{Form, Line, Presence};
 use crate::single::{is_between, is_whole};
@@ -19,7 +19,8 @@ pub fn form_at(form: Form, name: &[u8]) -> Form
     line_at(form, name).1
 }
 
-fn line_at(form: Form, name: &[u8]) -> (Presence, Form)
+/// Whether a name of an object of a form has to be there, and what stands under it.
+pub(crate) fn line_at(form: Form, name: &[u8]) -> (Presence, Form)
     ensures { result ≡ line_at form name.now }
 {
     let other = other_of(form, name);
@@ -80,25 +81,6 @@ pub fn chosen<'a>(form: Form, object: &'a JsonObject) -> Option<ChosenName<'a>>
         }
     }
     None
-}
-
-// How many of an object's names are a choice.
-fn choice_count(form: Form, object: &JsonObject) -> usize
-    ensures { result ≡ choice_count form (members_of object.now) }
-{
-    let mut count = 0;
-    'names: for (name, _) in object.as_slice() {
-        if matches!(line_at(form, name.as_slice()).0, Presence::Choice) {
-            count += 1;
-        }
-    }
-    count
-}
-
-fn has_its_choice(form: Form, object: &JsonObject) -> bool
-    ensures { result ≡ has_its_choice form (members_of object.now) }
-{
-    choice_count(form, object) == if is_choice_of_one(form) { 1 } else { 0 }
 }
 
 fn are_apart(pairs: &[Pair], object: &JsonObject) -> bool
@@ -180,15 +162,16 @@ fn fits(inner: bool, form: Form, object: &JsonObject) -> bool
     }
 }
 
-/// Whether an object has the names that its form wants.
-pub(crate) fn suits(inner: bool, form: Form, object: &JsonObject) -> bool
+/// Whether an object has the names that its form wants; so many of them are a choice.
+pub(crate) fn suits(inner: bool, form: Form, choices: usize, object: &JsonObject) -> bool
+    requires { choices ≡ choice_count form (members_of object.now) }
     ensures { result ≡ suits inner form (members_of object.now) }
 {
     match lines_of(form) {
         None => false,
         Some(lines) => {
             has_required(lines, object)
-                && has_its_choice(form, object)
+                && choices == if is_choice_of_one(form) { 1 } else { 0 }
                 && are_apart(apart_in(form), object)
                 && fits(inner, form, object)
         }

@@ -1,7 +1,7 @@
-use Rattle.std.proofs.Common.{◌≡◌, ◌*◌, drop}
+use Rattle.std.proofs.Common.{◌≡◌, ◌≤◌, ◌+◌, ◌*◌, drop}
 use Rattle.tree_json.specs.Value.{value_size, elements_size, elements_of, members_size, members_of}
 use Rattle.tree_json.specs.View.{view, values, entries}
-use Rattle.search_form.specs.Form.{all_have_form, each_has_form}
+use Rattle.search_form.specs.Form.{all_have_form, each_has_form, choice_count}
 use Rattle.search_form.specs.Texts.{AllAreTexts, EachAreTexts}
 use Rattle.search_form.proofs.judge.+forms.Given as goal
 
@@ -11,8 +11,8 @@ decreases-has_form l = 2 * value_size (view l.value.now)
 abbrev pub decreases-all_have_form : goal.decreases-all_have_form
 decreases-all_have_form l = 2 * elements_size (elements_of (values l.elements.now))
 
-abbrev pub decreases-each_has_form : goal.decreases-each_has_form
-decreases-each_has_form l = 2 * members_size (members_of (entries l.members.now))
+abbrev pub decreases-choices_among : goal.decreases-choices_among
+decreases-choices_among l = 2 * members_size (members_of (entries l.members.now))
 
 -- what is left decides as the whole does
 abbrev pub invariant-all_have_form-elements : goal.invariant-all_have_form-elements
@@ -21,8 +21,10 @@ invariant-all_have_form-elements l =
     ≡ all_have_form l.inner l.form (elements_of (values l.elements)))
     × (AllAreTexts (elements_of (values (drop l.element-index l.elements))) → AllAreTexts (elements_of (values l.elements)))
 
-abbrev pub invariant-each_has_form-members : goal.invariant-each_has_form-members
-invariant-each_has_form-members l =
+abbrev pub invariant-choices_among-members : goal.invariant-choices_among-members
+invariant-choices_among-members l =
     (each_has_form l.inner l.form (members_of (entries (drop l.name-index l.members)))
     ≡ each_has_form l.inner l.form (members_of (entries l.members)))
+    × (l.count + choice_count l.form (members_of (entries (drop l.name-index l.members))) ≡ choice_count l.form (members_of (entries l.members)))
+    × (l.count ≤ l.name-index)
     × (EachAreTexts (members_of (entries (drop l.name-index l.members))) → EachAreTexts (members_of (entries l.members)))
