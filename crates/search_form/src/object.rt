@@ -6,7 +6,7 @@ ghost use Rattle.search_form.specs.Form.{line_among, line_at, form_at, has, has_
 
 use crate::form::{Form, Line, Presence};
 use crate::single::{is_between, is_whole};
-use crate::table::{Pair, apart_in, is_choice_of_one, lines_of, other_of};
+use crate::table::{Pair, apart_in, is_choice_of_one, lines_of, other_of, query_line};
 use tree_json::{Json, JsonList, JsonObject};
 
 /// The most clauses of a sort.
@@ -21,6 +21,16 @@ pub fn form_at(form: Form, name: &[u8]) -> Form
 
 /// Whether a name of an object of a form has to be there, and what stands under it.
 pub(crate) fn line_at(form: Form, name: &[u8]) -> (Presence, Form)
+    ensures { result ≡ line_at form name.now }
+{
+    match form {
+        Form::Query => query_line(name),
+        _ => line_of(form, name),
+    }
+}
+
+// The same from the tables.
+fn line_of(form: Form, name: &[u8]) -> (Presence, Form)
     ensures { result ≡ line_at form name.now }
 {
     let other = other_of(form, name);

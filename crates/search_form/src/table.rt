@@ -1,6 +1,7 @@
 //! The tables of forms: the names of objects, the elements of lists, and what may stand alone.
 ghost use Rattle.std.specs.Prelude.{◌≡◌, if◌then◌else◌, map, option_map};
-ghost use Rattle.search_form.specs.declared.form.Form.TheVariants.{Bucket, Unknown};
+ghost use Rattle.search_form.specs.declared.form.Form.TheVariants.{Query, Bucket, Unknown};
+ghost use Rattle.search_form.specs.Form.{line_at};
 ghost use Rattle.search_form.specs.Table.{lines_of, other_of, is_choice_of_one, apart_in, element_of, single_of, is_name};
 
 use crate::form::{Form, Line, Presence};
@@ -31,6 +32,52 @@ const QUERY: &[Line] = &[
     (b"has_parent", Presence::Choice, Form::HasParent),
     (b"parent_id", Presence::Choice, Form::ParentId),
 ];
+
+/// What stands under a name of a query, as the table has it. Each clause has such a name, and this finds it without a walk
+/// over the table.
+pub(crate) fn query_line(name: &[u8]) -> (Presence, Form)
+    ensures { result ≡ line_at Query name.now }
+{
+    if name == b"match_all".as_slice() {
+        (Presence::Choice, Form::MatchAll)
+    } else if name == b"match_none".as_slice() {
+        (Presence::Choice, Form::MatchNone)
+    } else if name == b"term".as_slice() {
+        (Presence::Choice, Form::Term)
+    } else if name == b"terms".as_slice() {
+        (Presence::Choice, Form::Terms)
+    } else if name == b"range".as_slice() {
+        (Presence::Choice, Form::Range)
+    } else if name == b"exists".as_slice() {
+        (Presence::Choice, Form::Exists)
+    } else if name == b"prefix".as_slice() {
+        (Presence::Choice, Form::Prefix)
+    } else if name == b"match".as_slice() {
+        (Presence::Choice, Form::Match)
+    } else if name == b"match_phrase".as_slice() {
+        (Presence::Choice, Form::MatchPhrase)
+    } else if name == b"ids".as_slice() {
+        (Presence::Choice, Form::Ids)
+    } else if name == b"bool".as_slice() {
+        (Presence::Choice, Form::BoolQuery)
+    } else if name == b"constant_score".as_slice() {
+        (Presence::Choice, Form::ConstantScore)
+    } else if name == b"dis_max".as_slice() {
+        (Presence::Choice, Form::DisMax)
+    } else if name == b"nested".as_slice() {
+        (Presence::Choice, Form::Nested)
+    } else if name == b"to_child".as_slice() {
+        (Presence::Choice, Form::ToChild)
+    } else if name == b"has_child".as_slice() {
+        (Presence::Choice, Form::HasChild)
+    } else if name == b"has_parent".as_slice() {
+        (Presence::Choice, Form::HasParent)
+    } else if name == b"parent_id".as_slice() {
+        (Presence::Choice, Form::ParentId)
+    } else {
+        other_of(Form::Query, name)
+    }
+}
 
 const MATCH_ALL: &[Line] = &[(b"boost", Presence::Optional, Form::Boost)];
 
