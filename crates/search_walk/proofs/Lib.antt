@@ -1,3 +1,4 @@
 pub mod Firsts
 pub mod Twice
+pub mod Partless
 pub mod Examples

@@ -6,6 +6,7 @@ pub mod After
 pub mod Node
 pub mod Fault
 pub mod Refusal
--- For proofs alone: what a node of the code is.
+-- For proofs alone: what a node of the code is, what a refusal says, and where the walk ends early.
 pub mod View
 pub mod IsFirst
+pub mod Parts

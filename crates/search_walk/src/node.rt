@@ -4,6 +4,7 @@ ghost use Rattle.tree_json.specs.Value.{elements_of, members_of, object};
 ghost use Rattle.tree_json.specs.View.{view, values, entries};
 ghost use Rattle.search_form.specs.declared.form.Form.TheVariants.{Query, Sort, Buckets, SearchAfter};
 ghost use Rattle.search_walk.specs.Node.{is_judged, node_here, deeper, level_under, nodes_at, nodes_in, nodes_among, nodes_under, after_nodes, hit_nodes, bucket_nodes, nodes_of};
+ghost use Rattle.search_walk.specs.Parts.{has_parts};
 ghost use Rattle.search_walk.specs.View.{node_of};
 
 use crate::names::{buckets_in, scope_inside};
@@ -45,6 +46,33 @@ fn is_judged(form: Form) -> bool
             | Form::SortNested
             | Form::InnerHits
             | Form::Bucket
+    )
+}
+
+// Whether something inside an object of a form is judged, at some depth. Nothing inside a leaf is, so the walk ends there.
+fn has_parts(form: Form) -> bool
+    ensures { result ≡ has_parts form }
+{
+    matches!(
+        form,
+        Form::Body
+            | Form::Query
+            | Form::BoolQuery
+            | Form::ConstantScore
+            | Form::DisMax
+            | Form::Nested
+            | Form::ToChild
+            | Form::HasChild
+            | Form::HasParent
+            | Form::SortClause
+            | Form::FieldSort
+            | Form::SortNested
+            | Form::InnerHits
+            | Form::Buckets
+            | Form::Bucket
+            | Form::Queries
+            | Form::QueryList
+            | Form::Sort
     )
 }
 
@@ -94,7 +122,7 @@ fn put_here<'a>(
 
 /// Appends the parts that a value has.
 #[cycle(nodes)]
-#[tactic(auto, using(search_form::specs::Sizes::sizes))]
+#[tactic(auto, using(search_form::specs::Sizes::sizes, crate::proofs::Partless::partless))]
 fn nodes_at<'a>(
     mapping: &Mapping,
     scope: Option<u32>,
@@ -117,6 +145,9 @@ fn nodes_at<'a>(
         Json::Object(object) => {
             let form = single_of(form);
             put_here(scope, level, form, value, found)?;
+            if !has_parts(form) {
+                return Ok(());
+            }
             let inside = scope_inside(mapping, scope, form, object);
             Ok(nodes_among(mapping, inside, level, form, object.as_slice(), found)?)
         }
