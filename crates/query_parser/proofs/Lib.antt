@@ -11,3 +11,4 @@ pub mod AfterKeys
 pub mod InnerDefinitions
 pub mod BucketDefinitions
 pub mod Searches
+pub mod NoInner

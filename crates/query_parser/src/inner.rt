@@ -1,11 +1,11 @@
 //! The definitions of inner hits that a body has.
 ghost use Rattle.std.specs.Prelude.{◌≡◌, ◌++◌, ◌∷◌, [], map, codes, Option, Some, IfOk, OnOk};
-ghost use Rattle.tree_json.specs.Value.{members_of, member_of, elements_of};
+ghost use Rattle.tree_json.specs.Value.{members_of, member_of, elements_of, object as object_value};
 ghost use Rattle.tree_json.specs.View.{view, values, entries};
 ghost use Rattle.query_ast.specs.Definition.{definition, definitions_of};
 ghost use Rattle.query_ast.specs.Inner.View.{inner_of as seen};
 ghost use Rattle.search_walk.specs.Names.{buckets_in as buckets_value};
-ghost use Rattle.search_walk.specs.Refusal.{name_or};
+ghost use Rattle.search_walk.specs.Refusal.{name_or, inner_count};
 ghost use Rattle.search_form.specs.declared.form.Form.TheVariants.{Query, Sort, Buckets};
 ghost use Rattle.query_parser.specs.InnerHits.{below_if, children_if, parents_if, inner_of, held_by, owned_by, inner_at, inner_in, inner_among, inner_if, inner_of_body};
 
@@ -254,15 +254,21 @@ fn inner_of_buckets(
     }
 }
 
-/// The definitions that the search hit owns.
+/// The definitions that the search hit owns. So many clauses have inner hits; where none has, nothing is walked.
+#[tactic(auto, using(crate::proofs::NoInner::no_inner))]
 pub(crate) fn inner_of_body(
     alloc: Global,
     mapping: &Mapping,
     body: &JsonObject,
+    count: usize,
 ) -> Result<InnerList, NoMemory>
+    requires { count ≡ inner_count mapping.now (object_value (members_of body.now)) }
     ensures { IfOk result (λ defs. defs ≡ inner_of_body mapping.now (members_of body.now)) }
 {
     let mut found = Vec::new(alloc);
+    if count == 0 {
+        return Ok(InnerList::of(found));
+    }
     inner_under(alloc, mapping, Form::Query, b"query", body, &mut found)?;
     inner_under(alloc, mapping, Form::Sort, b"sort", body, &mut found)?;
     inner_of_buckets(alloc, mapping, body, &mut found)?;

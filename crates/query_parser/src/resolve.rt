@@ -1,9 +1,9 @@
 //! The search that a body says, or its refusal.
 ghost use Rattle.std.specs.Prelude.{◌≡◌, ◌++◌, map, codes, Some, None, IfOk, IsOk, IsErrOf, pos};
-ghost use Rattle.tree_json.specs.Value.{members_of, member_of, elements_of};
+ghost use Rattle.tree_json.specs.Value.{members_of, member_of, elements_of, object};
 ghost use Rattle.tree_json.specs.View.{view, values};
 ghost use Rattle.query_ast.specs.Resolved.{IsSearch};
-ghost use Rattle.search_walk.specs.Refusal.{first_refusal};
+ghost use Rattle.search_walk.specs.Refusal.{first_refusal, inner_count as count_of};
 ghost use Rattle.query_parser.specs.Search.{key_of, number_of, keys_before, keys_in, last_number, row_of, after_of, pit_of, search_by, search_of};
 
 use crate::buckets::buckets_inside;
@@ -95,7 +95,14 @@ fn pit_of(body: &JsonObject) -> Option<u64>
     }
 }
 
-fn search_by(alloc: Global, mapping: &Mapping, body: &JsonObject) -> Result<SearchBody, NoMemory>
+// The search of a body, so many of whose clauses have inner hits.
+fn search_by(
+    alloc: Global,
+    mapping: &Mapping,
+    body: &JsonObject,
+    inner_count: usize,
+) -> Result<SearchBody, NoMemory>
+    requires { inner_count ≡ count_of mapping.now (object (members_of body.now)) }
     ensures { IfOk result (λ search. search ≡ search_by mapping.now (members_of body.now)) }
 {
     Ok(SearchBody {
@@ -105,7 +112,7 @@ fn search_by(alloc: Global, mapping: &Mapping, body: &JsonObject) -> Result<Sear
         from: number_under(10_000, 0, body, b"from"),
         size: number_under(10_000, 10, body, b"size"),
         aggs: buckets_inside(alloc, mapping, Some(0), body)?,
-        inner: inner_of_body(alloc, mapping, body)?,
+        inner: inner_of_body(alloc, mapping, body, inner_count)?,
         pit: pit_of(body),
         source: unless_false(body, b"_source"),
     })
@@ -143,10 +150,10 @@ pub fn resolved(
     ensures query_too_deep { IsErrOf result SearchRefusal.QueryTooDeep → first_refusal mapping.now shape.entry ≡ Some SearchRefusal.QueryTooDeep }
     ensures too_many_terms { IsErrOf result SearchRefusal.TooManyTerms → first_refusal mapping.now shape.entry ≡ Some SearchRefusal.TooManyTerms }
 {
-    judged(alloc, &shape, mapping)?;
+    let inner_count = judged(alloc, &shape, mapping)?;
     is_resolved(&shape, mapping);
     let members = shape.members();
-    match search_by(alloc, mapping, members) {
+    match search_by(alloc, mapping, members, inner_count) {
         Ok(search) => Ok(search),
         Err(NoMemory) => Err(SearchRefusal::NoMemory),
     }

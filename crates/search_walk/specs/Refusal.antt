@@ -38,6 +38,11 @@ inner_name_at form v = None
 abbrev pub inner_names : List Node → List (List ℕ)
 inner_names nodes = filter_map (λ n. inner_name_at n.form n.value) nodes
 
+-- how many clauses of a body have inner hits
+abbrev pub inner_count : Mapping → JsonValue → ℕ
+inner_count m (object body) = length (inner_names (nodes_of m body))
+inner_count m v = 0
+
 -- whether some name comes twice
 abbrev pub has_twice : List (List ℕ) → Bool
 has_twice [] = false

@@ -1,18 +1,20 @@
 //! Whether a search body is refused under a mapping.
-ghost use Rattle.std.specs.Prelude.{◌≡◌, Some, None, IsOk, IsErrOf};
-ghost use Rattle.search_walk.specs.Refusal.{first_refusal};
+ghost use Rattle.std.specs.Prelude.{◌≡◌, Some, None, IfOk, IsOk, IsErrOf};
+ghost use Rattle.search_walk.specs.Refusal.{first_refusal, inner_count};
 
 use crate::fault::first_fault;
-use crate::limit::limit_refusal;
+use crate::limit::{inner_names, limit_refusal};
 use crate::node::nodes_of;
 use crate::refusal::SearchRefusal;
 use mapping::Mapping;
 use search_form::Shape;
 use std::alloc::Global;
 
-/// Accepts a search body under a mapping, or gives its first refusal.
+/// Accepts a search body under a mapping, or gives its first refusal. Of what is accepted it says how many clauses have
+/// inner hits.
 #[tactic(auto, using(crate::proofs::Firsts::firsts), unfolding(crate::specs::Refusal::first_refusal))]
-pub fn judged(alloc: Global, shape: &Shape<'_>, mapping: &Mapping) -> Result<(), SearchRefusal>
+pub fn judged(alloc: Global, shape: &Shape<'_>, mapping: &Mapping) -> Result<usize, SearchRefusal>
+    ensures inner { IfOk result (λ count. count ≡ inner_count mapping.now shape.now) }
     ensures accepted { IsOk result → first_refusal mapping.now shape.now ≡ None }
     ensures unknown_path { IsErrOf result SearchRefusal.UnknownPath → first_refusal mapping.now shape.now ≡ Some SearchRefusal.UnknownPath }
     ensures path_out_of_scope { IsErrOf result SearchRefusal.PathOutOfScope → first_refusal mapping.now shape.now ≡ Some SearchRefusal.PathOutOfScope }
@@ -33,8 +35,9 @@ pub fn judged(alloc: Global, shape: &Shape<'_>, mapping: &Mapping) -> Result<(),
     if let Some(refusal) = first_fault(mapping, nodes.as_slice()) {
         return Err(refusal);
     }
-    if let Some(refusal) = limit_refusal(alloc, members, nodes.as_slice())? {
+    let names = inner_names(alloc, nodes.as_slice())?;
+    if let Some(refusal) = limit_refusal(alloc, members, nodes.as_slice(), names.as_slice())? {
         return Err(refusal);
     }
-    Ok(())
+    Ok(names.len())
 }

@@ -71,7 +71,8 @@ fn inner_name_at<'a>(form: Form, value: &'a Json) -> Option<&'a [u8]>
     }
 }
 
-fn inner_names<'a>(alloc: Global, nodes: &[Node<'a>]) -> Result<Vec<&'a [u8]>, NoMemory>
+/// The names of the inner hits that clauses have.
+pub(crate) fn inner_names<'a>(alloc: Global, nodes: &[Node<'a>]) -> Result<Vec<&'a [u8]>, NoMemory>
     ensures { IfOk result (λ names. map (λ n. n.now) names.items ≡ inner_names (map node_of nodes.now)) }
 {
     let mut names = Vec::new(alloc);
@@ -230,16 +231,17 @@ fn any_many_terms(nodes: &[Node<'_>]) -> bool
     false
 }
 
-/// The first limit that a body passes.
+/// The first limit that a body passes, whose inner hits have these names.
 pub(crate) fn limit_refusal(
     alloc: Global,
     body: &JsonObject,
     nodes: &[Node<'_>],
+    names: &[&[u8]],
 ) -> Result<Option<SearchRefusal>, NoMemory>
+    requires { map (λ n. n.now) names.now ≡ inner_names (map node_of nodes.now) }
     ensures { IfOk result (λ refusal. refusal ≡ limit_refusal (members_of body.now) (map node_of nodes.now)) }
 {
-    let names = inner_names(alloc, nodes)?;
-    let twice = has_twice(alloc, names.as_slice())?;
+    let twice = has_twice(alloc, names)?;
     Ok(if twice {
         Some(SearchRefusal::DuplicateInnerName)
     } else if LARGEST_WINDOW < window(10, body) {
