@@ -1,7 +1,8 @@
 //! An object or a list as a whole: what stands under a name, and which names stand together.
-ghost use Rattle.std.specs.Prelude.{◌≡◌, ◌<◌, ◌^◌, pos, map, option_map, codes, false, if◌then◌else◌};
+ghost use Rattle.std.specs.Prelude.{◌≡◌, ◌<◌, ◌^◌, pos, Some, map, option_map, codes, false, if◌then◌else◌};
 ghost use Rattle.tree_json.specs.Value.{members_of, member_of, elements_of};
 ghost use Rattle.tree_json.specs.View.{view, values, entries};
+ghost use Rattle.search_form.specs.Table.{lines_of};
 ghost use Rattle.search_form.specs.Form.{line_among, line_at, form_at, has, has_required, chosen, choice_count, are_apart, children_fit, whole_or, is_within, clause_count, starts_at_0, after_fits, fits, suits, allows_inner, last_is_whole, suits_list, is_choice};
 
 use crate::form::{Form, Line, Presence};
@@ -66,6 +67,15 @@ fn has_required(lines: &[Line], object: &JsonObject) -> bool
         }
     }
     true
+}
+
+// Whether an object has the names that its form requires. Where it is a choice of one name, none is.
+#[tactic(auto, using(crate::proofs::Required::required))]
+fn has_its_names(form: Form, lines: &[Line], object: &JsonObject) -> bool
+    requires { lines_of form ≡ Some (map (λ l. (l.0.now, l.1, l.2)) lines.now) }
+    ensures { result ≡ has_required (map (λ l. (l.0.now, l.1, l.2)) lines.now) (members_of object.now) }
+{
+    is_choice_of_one(form) || has_required(lines, object)
 }
 
 /// The one of an object's names that is a choice, the form of what stands under it, and that.
@@ -180,7 +190,7 @@ pub(crate) fn suits(inner: bool, form: Form, choices: usize, object: &JsonObject
     match lines_of(form) {
         None => false,
         Some(lines) => {
-            has_required(lines, object)
+            has_its_names(form, lines, object)
                 && choices == if is_choice_of_one(form) { 1 } else { 0 }
                 && are_apart(apart_in(form), object)
                 && fits(inner, form, object)
