@@ -17,3 +17,4 @@ pub mod Groups
 pub mod Sums
 pub mod Least
 pub mod Formed
+pub mod Found

@@ -7,6 +7,7 @@
 
 mod answers;
 mod columns;
+mod found;
 mod metrics;
 mod no_memory;
 mod numbers;
@@ -15,4 +16,5 @@ mod rows;
 mod terms;
 
 pub use answers::buckets;
+pub use found::found_buckets;
 pub use no_memory::NoMemory;
