@@ -4,7 +4,6 @@ use Rattle.std.specs.List.{AllByRecursion, AllPairs, flat_map, list_any}
 use Rattle.std.proofs.lemmas.Bool.{and_parts, eq-eqb, eqb-true, false≢true}
 use Rattle.query_ast.specs.Buckets.{is_same_object}
 use Rattle.query_ast.specs.Compare.{each_once, each_once_but}
-use Rattle.tree_json.specs.Value.{JsonValue}
 use Rattle.tree_objects.specs.Object.{Object, root, inside, place, tree_of}
 use Rattle.tree_objects.specs.Tree.{Tree}
 use Rattle.bucket_aggs.proofs.Lists.{Each, by_test, each_as}
