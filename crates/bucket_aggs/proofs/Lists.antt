@@ -36,6 +36,11 @@ module _ {A : Type 0} where
   each_kept P test (x ∷ xs) h =
       by_test (test x) (λ held. rw held (h.0, each_kept P test xs h.1)) (λ failed. rw failed (each_kept P test xs h.1))
 
+  pub each_at : (P : A → Type 0) (xs : List A) (k : ℕ) (d : A) → Each P xs → k < length xs → P (get_or xs k d)
+  each_at P [] k d h low = absurd (omega (arith, low))
+  each_at P (x ∷ xs) zero d h low = h.0
+  each_at P (x ∷ xs) (suc k) d h low = each_at P xs k d h.1 (omega (arith, low))
+
   -- what passes a test is what it says
   pub each_passes : (test : A → Bool) (xs : List A) → Each (λ (x : A). test x ≡ true) (filter test xs)
   each_passes test [] = tt

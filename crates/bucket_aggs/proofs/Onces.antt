@@ -16,6 +16,14 @@ use Rattle.bucket_aggs.proofs.Keys.{greater_is, less, less_apart, less_back, les
 use Rattle.bucket_aggs.proofs.Lists.{Each, by_test, each_as}
 use Rattle.bucket_aggs.proofs.Rowed.{count_cons}
 
+-- those that are left are some of them
+pub once_each : {A : Type 0} (same : A → A → Bool) (P : A → Type 0) (before : Option A) (xs : List A) → Each P xs → Each P (once_after same before xs)
+once_each same P before [] h = tt
+once_each same P before (x ∷ xs) h =
+    by_test (is_again same before x)
+    (λ again. rw again (once_each same P before xs h.1))
+    (λ new. rw new (h.0, once_each same P (Some x) xs h.1))
+
 module _ {K : Type 0} (R : K → K → Ordering) (o : IsTotalOrder R) (exact : (x y : K) → R x y ≡ Equal → x ≡ y) where
   abbrev eq : K → K → Bool
   eq a b = is_eq (R a b)

@@ -20,7 +20,7 @@ is_one a b = is_eq (nat_cmp a b)
 abbrev pub one_left : ℕ → Option ℕ → List ℕ → ℕ
 one_left x before ordinals = count_by (is_one x) (once_after is_one before ordinals)
 
-one_is : (x ordinal : ℕ) → is_one x ordinal ≡ (ordinal == x)
+pub one_is : (x ordinal : ℕ) → is_one x ordinal ≡ (ordinal == x)
 one_is x ordinal =
     by_test (ordinal == x)
     (λ held.

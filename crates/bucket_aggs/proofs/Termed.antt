@@ -1,19 +1,21 @@
 -- Documents counted by the terms of a keyword field that they show.
-use Rattle.std.proofs.Common.{◌≡◌, ℕ, zero, suc, ◌+◌, ◌-◌, ◌==◌, ◌<◌, ◌≤◌, Bool, true, false, ◌&&◌, ◌||◌, cond, List, [], ◌∷◌, length, map, get_or, slice_get, count_by, replicate, Option, Some, None, refl, sym, ap, subst, ◌∙◌, inl, inr, ◌⊎◌, arith}
+use Rattle.std.proofs.Common.{◌≡◌, ℕ, zero, suc, ◌+◌, ◌-◌, ◌==◌, ◌<◌, ◌≤◌, Bool, true, false, ◌&&◌, ◌||◌, cond, List, [], ◌∷◌, ◌++◌, length, map, get_or, slice_get, count_by, replicate, Option, Some, None, refl, sym, ap, subst, ◌∙◌, inl, inr, ◌⊎◌, arith}
 use Rattle.std.specs.Prelude.{IsSomeAnd, IsTrue}
 use Rattle.std.specs.Cmp.{IsTotalOrder}
 use Rattle.std.specs.Cmp.Lexicographic.{slice_cmp}
-use Rattle.std.specs.List.{All, AllByRecursion, list_any}
+use Rattle.std.specs.List.{All, AllByRecursion, flat_map, list_any}
+use Rattle.std.specs.List.Sorted.{IsPermutation, IsSorted}
 use Rattle.std.specs.Ordering.{is_eq, nat_cmp}
 use Rattle.std.specs.declared.cmp.Ordering.{Ordering}
 use Rattle.std.specs.declared.cmp.Ordering.TheVariants.{Less, Equal, Greater}
 use Rattle.std.proofs.lemmas.Bool.{eq-eqb, eqb-true, false≢true, ne_eqb}
 use Rattle.std.proofs.lemmas.Cmp.{nat_cmp_total, nat_list_cmp_total, on_total, then_total, tied_itself}
 use Rattle.std.proofs.lemmas.List.{length-replicate}
-use Rattle.std.proofs.lemmas.List.Elements.{recursion_from_All}
+use Rattle.std.proofs.lemmas.List.Elements.{All-from_recursion, recursion_from_All}
+use Rattle.std.proofs.lemmas.List.Sorted.{All-permutation}
 use Rattle.std.proofs.lemmas.Map.Keys.{Less-from_sorted}
 use Rattle.std.proofs.lemmas.Option.{get_or_from_slice_get, same_Some, slice_get-get_or, slice_get_within}
-use Rattle.doc_values.specs.Values.{values_of}
+use Rattle.doc_values.specs.Values.{AreRows, values_of}
 use Rattle.segment.specs.Flat.{bytes_at}
 use Rattle.segment.specs.Shows.{column_values}
 use Rattle.segment_parts.specs.Agree.{AreColumns, HaveOrdinals, IsOrdinalAt}
@@ -25,10 +27,13 @@ use Rattle.term_table.specs.Terms.{AreAscending, term_cmp}
 use Rattle.query_ast.specs.Compare.{is_same_value, value_cmp}
 use Rattle.tree_objects.specs.declared.field_value.FieldValue.{FieldValue}
 use Rattle.tree_objects.specs.declared.field_value.FieldValue.TheVariants.{Number, Written}
-use Rattle.bucket_aggs.specs.Counts.{Counted, count_if, counts_of, has_ordinal, term_key}
+use Rattle.bucket_aggs.specs.Counts.{Counted, count_if, counts_of, has_ordinal, is_term, once_by, term_key}
 use Rattle.bucket_aggs.proofs.Keys.{same_itself}
 use Rattle.bucket_aggs.proofs.Lists.{Each, by_test, each_as}
-use Rattle.bucket_aggs.proofs.Rowed.{count_alike, count_none}
+use Rattle.bucket_aggs.proofs.Numbered.{column_sorted, count_permuted}
+use Rattle.bucket_aggs.proofs.Onces.{once_each}
+use Rattle.bucket_aggs.proofs.Ordinals.{is_one, left_at_start, one_is}
+use Rattle.bucket_aggs.proofs.Rowed.{count_alike, count_flat, count_mapped, count_none, one_if, sum_same}
 use Rattle.bucket_aggs.proofs.Values.{value_exact, value_total}
 use Rattle.bucket_aggs.proofs.Weights.{same_key}
 
@@ -48,6 +53,14 @@ column_has {X} P f found (column ∷ columns) all is =
     let here : Some column.1 ≡ Some found = rw held at is in
     subst (λ (n : ℕ). P (n, found)) (eqb-true column.0 f held) (subst (λ (x : X). P (column.0, x)) (same_Some column.1 found here) all.0))
     (λ failed. column_has P f found columns all.1 (rw failed at is))
+
+-- an ordinal of a term is below the number of terms
+within_list : (terms : TermList) (f ordinal : ℕ) → IsOf terms f ordinal → ordinal < length terms
+within_list terms f ordinal is = by (slice_get terms ordinal) refl is
+  where
+    by : (x : Option (ℕ × List ℕ)) → slice_get terms ordinal ≡ x → IsSomeAnd x (λ (term : ℕ × List ℕ). term.0 ≡ f) → ordinal < length terms
+    by None own has = absurd has
+    by (Some term) own has = slice_get_within terms ordinal term own
 
 values_have : (Q : ℕ → ℕ → Type 0) (doc : ℕ) (rows : List (ℕ × List ℕ)) → Each (λ (row : ℕ × List ℕ). Each (Q row.0) row.1) rows → Each (Q doc) (values_of doc rows)
 values_have Q doc [] all = tt
@@ -183,31 +196,60 @@ module _ (terms : TermList) (f first n : ℕ) (up : AreAscending terms) (range :
   abbrev pub shows_term : FieldValue → List ℕ → Bool
   shows_term v ordinals = list_any (is_same_value v) (map Written (map (bytes_at terms) ordinals))
 
+  never_one : (v : FieldValue) → ((k : ℕ) → k < n → is_same_value v (key_at k) ≡ false) → (ordinal : ℕ) → IsOf terms f ordinal → is_term terms v ordinal ≡ false
+  never_one v none ordinal of =
+      let lies = in_range ordinal of in
+      let place : first + (ordinal - first) ≡ ordinal = omega (arith, lies.0) in
+      ap (λ (i : ℕ). is_same_value v (Written (bytes_at terms i))) (sym place) ∙ none (ordinal - first) (omega (arith, lies.0, lies.1))
+
+  same_one : (k : ℕ) → k < n → (ordinal : ℕ) → IsOf terms f ordinal → is_term terms (key_at k) ordinal ≡ (ordinal == first + k)
+  same_one k low ordinal of =
+      by_test (ordinal == first + k)
+      (λ held.
+      let same : ordinal ≡ first + k = eqb-true ordinal (first + k) held in
+      ap (λ (i : ℕ). is_same_value (key_at k) (Written (bytes_at terms i))) same ∙ same_itself value_cmp value_total value_exact (key_at k) ∙ sym held)
+      (λ failed.
+      let lies = in_range ordinal of in
+      let place : first + (ordinal - first) ≡ ordinal = omega (arith, lies.0) in
+      let apart : k ≡ ordinal - first → ⊥ = λ equal. false≢true (sym failed ∙ eq-eqb ordinal (first + k) (omega (arith, equal, place))) in
+      ap (λ (i : ℕ). is_same_value (key_at k) (Written (bytes_at terms i))) (sym place) ∙ other_key k (ordinal - first) low (omega (arith, lies.0, lies.1)) apart ∙ sym failed)
+
   shows_none : (v : FieldValue) → ((k : ℕ) → k < n → is_same_value v (key_at k) ≡ false) → (ordinals : List ℕ) → Each (IsOf terms f) ordinals → shows_term v ordinals ≡ false
   shows_none v none [] all = refl
   shows_none v none (ordinal ∷ ordinals) all =
-      let lies = in_range ordinal all.0 in
-      let place : first + (ordinal - first) ≡ ordinal = omega (arith, lies.0) in
-      let other : is_same_value v (Written (bytes_at terms ordinal)) ≡ false =
-      ap (λ (i : ℕ). is_same_value v (Written (bytes_at terms i))) (sym place) ∙ none (ordinal - first) (omega (arith, lies.0, lies.1)) in
+      let other : is_same_value v (Written (bytes_at terms ordinal)) ≡ false = never_one v none ordinal all.0 in
       rw other (shows_none v none ordinals all.1)
 
   shows_one : (k : ℕ) → k < n → (ordinals : List ℕ) → Each (IsOf terms f) ordinals → shows_term (key_at k) ordinals ≡ has_ordinal (first + k) ordinals
   shows_one k low [] all = refl
   shows_one k low (ordinal ∷ ordinals) all =
-      by_test (ordinal == first + k)
-      (λ held.
-      let same : ordinal ≡ first + k = eqb-true ordinal (first + k) held in
-      let own : is_same_value (key_at k) (Written (bytes_at terms ordinal)) ≡ true =
-      ap (λ (i : ℕ). is_same_value (key_at k) (Written (bytes_at terms i))) same ∙ same_itself value_cmp value_total value_exact (key_at k) in
-      rw (held, own) refl)
-      (λ failed.
-      let lies = in_range ordinal all.0 in
-      let place : first + (ordinal - first) ≡ ordinal = omega (arith, lies.0) in
-      let apart : k ≡ ordinal - first → ⊥ = λ equal. false≢true (sym failed ∙ eq-eqb ordinal (first + k) (omega (arith, equal, place))) in
-      let other : is_same_value (key_at k) (Written (bytes_at terms ordinal)) ≡ false =
-      ap (λ (i : ℕ). is_same_value (key_at k) (Written (bytes_at terms i))) (sym place) ∙ other_key k (ordinal - first) low (omega (arith, lies.0, lies.1)) apart in
-      rw (failed, other) (shows_one k low ordinals all.1))
+      ap (λ (b : Bool). b || shows_term (key_at k) ordinals) (same_one k low ordinal all.0)
+      ∙ ap (λ (b : Bool). (ordinal == first + k) || b) (shows_one k low ordinals all.1)
+
+  -- of the different terms of a document one is the value where the document shows it
+  pub once_term : (v : FieldValue) (ordinals : List ℕ) → Each (IsOf terms f) ordinals → IsSorted nat_cmp ordinals → count_by (is_term terms v) (once_by nat_cmp ordinals) ≡ cond (shows_term v ordinals) 1 0
+  once_term v ordinals all up = by (look v 0 n)
+    where
+      kept : Each (IsOf terms f) (once_by nat_cmp ordinals)
+      kept = once_each is_one (IsOf terms f) None ordinals all
+
+      by : Found v 0 n → count_by (is_term terms v) (once_by nat_cmp ordinals) ≡ cond (shows_term v ordinals) 1 0
+      by (inr absent) =
+          let none : (k : ℕ) → k < n → is_same_value v (key_at k) ≡ false = λ k low. absent k (omega arith) (omega (arith, low)) in
+          count_none (is_term terms v) (once_by nat_cmp ordinals) (each_as (IsOf terms f) (λ (ordinal : ℕ). is_term terms v ordinal ≡ false) (never_one v none) (once_by nat_cmp ordinals) kept)
+          ∙ ap (λ (b : Bool). cond {A = ℕ} b 1 0) (sym (shows_none v none ordinals all))
+      by (inl found) =
+          let k : ℕ = found.0 in
+          let from : 0 ≤ k = found.1 in
+          let to : k < 0 + n = found.2 in
+          let is : v ≡ key_at k = found.3 in
+          let low : k < n = omega (arith, to) in
+          ap (λ (w : FieldValue). count_by (is_term terms w) (once_by nat_cmp ordinals)) is
+          ∙ count_alike (is_term terms (key_at k)) (is_one (first + k)) (once_by nat_cmp ordinals)
+          (each_as (IsOf terms f) (λ (ordinal : ℕ). is_term terms (key_at k) ordinal ≡ is_one (first + k) ordinal) (λ ordinal of. same_one k low ordinal of ∙ sym (one_is (first + k) ordinal)) (once_by nat_cmp ordinals) kept)
+          ∙ left_at_start (first + k) ordinals up
+          ∙ ap (λ (b : Bool). cond {A = ℕ} b 1 0) (sym (shows_one k low ordinals all))
+          ∙ ap (λ (w : FieldValue). cond {A = ℕ} (shows_term w ordinals) 1 0) (sym is)
 
   -- counts of ordinals are counts of the documents that show their terms
   pub parts_are : (v : FieldValue) (none counts : List ℕ) (lists : List (List ℕ)) → Each (Each (IsOf terms f)) lists → length none ≡ n → ((k : ℕ) → get_or none k 0 ≡ 0) → Counted first lists none counts → parts v counts 0 n ≡ count_by (shows_term v) lists
@@ -264,3 +306,45 @@ texts_counted columns f found docs are is terms own up first end ordered within 
     same_at z zero k = refl
     same_at z (suc n) zero = refl
     same_at z (suc n) (suc k) = same_at z n k
+
+-- ---- the same by sorted ordinals, each document's different ones
+
+module _ (columns : Columns) (f : ℕ) (found : List (ℕ × List ℕ)) (docs : List ℕ) (are : AreColumns columns) (is : column_of f columns.ordinals ≡ Some found) where
+  abbrev pub different : List ℕ
+  different = flat_map (λ doc. once_by nat_cmp (values_of doc found)) docs
+
+  pub ordinals_within : (terms : TermList) (ordinals : List ℕ) → terms ≡ terms_of columns → IsPermutation different ordinals → Each (λ (ordinal : ℕ). ordinal < length terms) ordinals
+  ordinals_within terms ordinals own same =
+      recursion_from_All (λ (ordinal : ℕ). ordinal < length terms) ordinals
+      (All-permutation (λ (ordinal : ℕ). ordinal < length terms) different ordinals same (All-from_recursion (λ (ordinal : ℕ). ordinal < length terms) different (each docs)))
+    where
+      inside : (ordinal : ℕ) → IsOf (terms_of columns) f ordinal → ordinal < length terms
+      inside ordinal of = subst (λ (t : TermList). ordinal < length t) (sym own) (within_list (terms_of columns) f ordinal of)
+
+      appended : (xs ys : List ℕ) → Each (λ (ordinal : ℕ). ordinal < length terms) xs → Each (λ (ordinal : ℕ). ordinal < length terms) ys → Each (λ (ordinal : ℕ). ordinal < length terms) (xs ++ ys)
+      appended [] ys h g = g
+      appended (x ∷ xs) ys h g = (h.0, appended xs ys h.1 g)
+
+      each : (ds : List ℕ) → Each (λ (ordinal : ℕ). ordinal < length terms) (flat_map (λ doc. once_by nat_cmp (values_of doc found)) ds)
+      each [] = tt
+      each (d ∷ ds) =
+          appended (once_by nat_cmp (values_of d found)) (flat_map (λ doc. once_by nat_cmp (values_of doc found)) ds)
+          (once_each is_one (λ (ordinal : ℕ). ordinal < length terms) None (values_of d found) (each_as (IsOf (terms_of columns) f) (λ (ordinal : ℕ). ordinal < length terms) inside (values_of d found) (ordinals_of columns f d found are is)))
+          (each ds)
+
+  pub ordinals_counted : AreRows nat_cmp found → (terms : TermList) → terms ≡ terms_of columns → AreAscending terms → (first end : ℕ) → first ≤ end → end ≤ length terms → IsRange (is_of_field f) terms first end
+      → (ordinals : List ℕ) → IsPermutation different ordinals → (v : FieldValue)
+      → count_by (is_term terms v) ordinals ≡ count_by (λ own. list_any (is_same_value v) (map Written (map (bytes_at (terms_of columns)) own))) (map (λ doc. values_of doc found) docs)
+  ordinals_counted rows terms own up first end ordered within range ordinals same v =
+      let n : ℕ = end - first in
+      let whole : first + n ≡ end = omega (arith, ordered) in
+      let mine : AreAscending (terms_of columns) = subst AreAscending own up in
+      let there : IsRange (is_of_field f) (terms_of columns) first (first + n) = subst (λ (e : ℕ). IsRange (is_of_field f) (terms_of columns) first e) (sym whole) (subst (λ (t : TermList). IsRange (is_of_field f) t first end) own range) in
+      let inside : first + n ≤ length (terms_of columns) = omega (arith, within, ap (λ (t : TermList). length t) own, whole) in
+      let shown : List ℕ → Bool = λ ordinals. list_any (is_same_value v) (map Written (map (bytes_at (terms_of columns)) ordinals)) in
+      ap (λ (t : TermList). count_by (is_term t v) ordinals) own
+      ∙ count_permuted (is_term (terms_of columns) v) different ordinals same
+      ∙ count_flat (is_term (terms_of columns) v) (λ doc. once_by nat_cmp (values_of doc found)) docs
+      ∙ sum_same (λ doc. count_by (is_term (terms_of columns) v) (once_by nat_cmp (values_of doc found))) (one_if (λ doc. shown (values_of doc found)))
+      (λ doc. once_term (terms_of columns) f first n mine there inside v (values_of doc found) (ordinals_of columns f doc found are is) (column_sorted nat_cmp doc found rows)) docs
+      ∙ sym (count_mapped shown (λ doc. values_of doc found) docs)

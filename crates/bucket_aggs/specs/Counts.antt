@@ -1,6 +1,7 @@
 -- Keys with their counts: of how many documents each is a value.
 use Rattle.std.specs.Prelude.{◌≡◌, ℕ, zero, suc, ◌+◌, ◌==◌, ◌<◌, nat_lt, Bool, true, false, if◌then◌else◌, List, [], ◌∷◌, map, reverse, length, get_or, count_by, sum_by, ℤ, Option, Some, None, is_some, ◌++◌, ⊤}
 use Rattle.std.specs.Ordering.{int_cmp, is_eq}
+use Rattle.std.specs.declared.cmp.Ordering.{Ordering}
 use Rattle.std.specs.List.{AllByRecursion, flat_map, list_any}
 use Rattle.block_bits.specs.Flags.{is_marked}
 use Rattle.mapping_body.specs.declared.kind.Kind.{Kind}
@@ -44,8 +45,11 @@ module _ {A : Type 0} (same : A → A → Bool) where
   once_after before [] = []
   once_after before (x ∷ xs) = if is_again before x then once_after before xs else x ∷ once_after (Some x) xs
 
+abbrev pub once_by : {A : Type 0} → (A → A → Ordering) → List A → List A
+once_by cmp xs = once_after (λ a b. is_eq (cmp a b)) None xs
+
 abbrev pub once : List ℤ → List ℤ
-once zs = once_after (λ a b. is_eq (int_cmp a b)) None zs
+once zs = once_by int_cmp zs
 
 -- ---- counts by ordinal
 
@@ -64,6 +68,9 @@ is_number v z = is_same_value v (Number z)
 
 abbrev pub term_key : List (ℕ × List ℕ) → ℕ → FieldValue
 term_key terms ordinal = Written (bytes_at terms ordinal)
+
+abbrev pub is_term : List (ℕ × List ℕ) → FieldValue → ℕ → Bool
+is_term terms v ordinal = is_same_value v (term_key terms ordinal)
 
 -- the count of a key, if it is the value
 abbrev pub count_if : FieldValue → FieldValue → ℕ → ℕ

@@ -9,7 +9,7 @@ ghost use Rattle.segment_parts.specs.Text.{marked_places};
 ghost use Rattle.bucket_aggs.specs.Counts.{Counted};
 
 use crate::NoMemory;
-use crate::numbers::is_again;
+use crate::distinct::is_again;
 use block_bits::BitSet;
 use doc_values::{OrdinalColumn, Values};
 use mapping::Kind;

@@ -7,10 +7,10 @@
 
 mod answers;
 mod columns;
+mod distinct;
 mod found;
 mod metrics;
 mod no_memory;
-mod numbers;
 mod objects;
 mod rows;
 mod terms;

@@ -1,17 +1,18 @@
 //! The values of a field over all entries of a view, each with the number of objects that show it.
 
 ghost use Rattle.std.specs.Prelude.{◌≡◌, ◌<◌, ◌≤◌, ◌+◌, ℕ, List, true, false, count_by, length, map, replicate, IfOk, OnOk};
+ghost use Rattle.std.specs.List.{AllByRecursion};
 ghost use Rattle.mapping_body.specs.declared.kind.Kind.{Kind as Kinds};
 ghost use Rattle.query_ast.specs.Uses.{is_written};
 ghost use Rattle.query_eval.specs.Found.{AreLong};
 ghost use Rattle.segment.specs.Flat.{flat_of};
 ghost use Rattle.segment_parts.specs.Text.{marked_places};
 ghost use Rattle.tree_objects.specs.declared.field_value.FieldValue.{FieldValue as Value};
-ghost use Rattle.bucket_aggs.specs.Counts.{AreCounts, AreKeys, Weighed, count_if, counts_of, flats_of_view, is_number, term_key, weight};
+ghost use Rattle.bucket_aggs.specs.Counts.{AreCounts, AreKeys, Weighed, count_if, counts_of, flats_of_view, is_number, is_term, term_key, weight};
 
 use crate::NoMemory;
 use crate::columns::{count_ordinals, is_text};
-use crate::numbers::gather_numbers;
+use crate::distinct::distinct_values;
 use crate::rows::{CountRow, add, merged};
 use block_bits::BitSet;
 use block_join::Matches;
@@ -67,7 +68,11 @@ fn add_rows(
     }
 }
 
-/// Those of a keyword field: a row for each term of the field that some document has, counted by ordinal.
+/// How many terms of a field there may be for each document of a set where a count is kept for each term.
+const TERMS_EACH: u64 = 64;
+
+/// Those of a keyword field: a row for each term of the field that some document has, counted by ordinal. Where the documents
+/// are few beside the terms, their ordinals are sorted.
 fn add_texts(
     alloc: Global,
     segment: &Segment,
@@ -88,9 +93,32 @@ fn add_texts(
     let terms = segment.terms();
     let _ascending = terms.count();
     let (first, end) = terms.field_range(field);
+    if (end - first) / TERMS_EACH > u64::from(set.count()) {
+        let mut ordinals = distinct_values(alloc, set, &column)?;
+        ordinals.sort_unstable();
+        put_ordinals(alloc, &terms, ordinals.as_slice(), rows)?;
+        return Ok(());
+    }
     let mut counts = no_counts(alloc, (end - first) as usize)?;
     count_ordinals(set, &column, first, &mut counts)?;
     put_terms(alloc, &terms, first, counts.as_slice(), rows)?;
+    Ok(())
+}
+
+/// Adds one to the count of the term of each of these ordinals.
+fn put_ordinals(
+    alloc: Global,
+    terms: &TermTable,
+    ordinals: &[u64],
+    rows: &mut Vec<CountRow>,
+) -> Result<(), NoMemory>
+    requires { AllByRecursion (λ ordinal. ordinal < length terms.now) ordinals.now }
+    ensures counts { (v : Value) → OnOk result (weight v rows.new.items ≡ weight v rows.old.items + count_by (is_term terms.now v) ordinals.now) }
+    ensures keys { (kind : Kinds) → is_written kind ≡ true → AreKeys kind rows.old.items → OnOk result (AreKeys kind rows.new.items) }
+{
+    'ordinals: for at in 0..ordinals.len() {
+        put_term(alloc, terms, ordinals[at], 1, rows)?;
+    }
     Ok(())
 }
 
@@ -161,7 +189,7 @@ fn add_numbers(
         return Ok(());
     };
     let _ascending = column.values(0);
-    let mut numbers = gather_numbers(alloc, set, &column)?;
+    let mut numbers = distinct_values(alloc, set, &column)?;
     numbers.sort_unstable();
     put_numbers(numbers.as_slice(), rows)?;
     Ok(())
