@@ -17,4 +17,4 @@ pub mod Groups
 pub mod Sums
 pub mod Least
 pub mod Formed
-pub mod Found
+pub mod Rooted

@@ -93,10 +93,13 @@ fn add_texts(
     let terms = segment.terms();
     let _ascending = terms.count();
     let (first, end) = terms.field_range(field);
-    if (end - first) / TERMS_EACH > u64::from(set.count()) {
+    let few = u64::from(set.count()) < (end - first) / TERMS_EACH;
+    if few {
+        let _sorted = column.values(0);
         let mut ordinals = distinct_values(alloc, set, &column)?;
         ordinals.sort_unstable();
-        put_ordinals(alloc, &terms, ordinals.as_slice(), rows)?;
+        let sorted = ordinals.as_slice();
+        put_ordinals(alloc, &terms, sorted, rows)?;
         return Ok(());
     }
     let mut counts = no_counts(alloc, (end - first) as usize)?;

@@ -1,5 +1,5 @@
 use Rattle.query_eval.specs.Found.{score_by}
-use Rattle.bucket_aggs.proofs.Found.{buckets_join, found_are}
+use Rattle.bucket_aggs.proofs.Rooted.{buckets_join, found_are}
 use Rattle.bucket_aggs.proofs.found.found_buckets.Goals as goal
 
 pub buckets-requires-clause-joined : goal.buckets-requires-clause-joined

@@ -1,4 +1,4 @@
--- The buckets of a search, over the roots of the live trees.
+-- The buckets of a search, over the roots of live trees.
 use Rattle.std.proofs.Common.{◌≡◌, ◌≢◌, ℕ, zero, suc, ◌+◌, ◌<◌, Bool, true, false, ◌||◌, List, [], ◌∷◌, filter, length, get_or, Option, refl, ap, ◌∙◌, arith}
 use Rattle.std.specs.List.{list_any}
 use Rattle.flattener.specs.StandsFor.{Marked, ViewStandsFor}
