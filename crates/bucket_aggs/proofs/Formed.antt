@@ -150,7 +150,7 @@ or_false : (b : Bool) → (b || false) ≡ b
 or_false true = refl
 or_false false = refl
 
-if_some : (b : Bool) → is_some (cond b (Some 1) None) ≡ b
+if_some : (b : Bool) → is_some {T = ℕ} (cond b (Some 1) None) ≡ b
 if_some true = refl
 if_some false = refl
 

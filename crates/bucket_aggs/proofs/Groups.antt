@@ -51,11 +51,11 @@ counts_own (row ∷ rows) a =
         let apart : is_same_value r.key row.key ≡ false = less_back value_cmp value_total value_exact row.key r.key g.0 in
         (omega (arith, weighs_more r.key row rows, ap (λ (b : Bool). cond b row.count 0) apart, h.0), later rest h.1 g.1)
 
-keys_of : Rows → List FieldValue
+abbrev pub keys_of : Rows → List FieldValue
 keys_of [] = []
 keys_of (row ∷ rows) = row.key ∷ keys_of rows
 
-keyed : (FieldValue → ℕ) → FieldValue → CountRow
+abbrev pub keyed : (FieldValue → ℕ) → FieldValue → CountRow
 keyed count k = record { key = k; count = count k }
 
 rows_by : (count : FieldValue → ℕ) (rows : Rows) → Each (λ (row : CountRow). count row.key ≡ row.count) rows → rows ≡ map (keyed count) (keys_of rows)

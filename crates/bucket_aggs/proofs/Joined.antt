@@ -15,7 +15,7 @@ use Rattle.view_objects.specs.Hits.{live_objects}
 use Rattle.bucket_aggs.specs.Given.{is_given, objects_given}
 use Rattle.bucket_aggs.proofs.Lists.{and_back, any_kept, any_map, any_same, by_test, filter_map_list, filter_same}
 
-if_some : (b : Bool) → is_some (cond b (Some 1) None) ≡ b
+if_some : (b : Bool) → is_some {T = ℕ} (cond b (Some 1) None) ≡ b
 if_some true = refl
 if_some false = refl
 

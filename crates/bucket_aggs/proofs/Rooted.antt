@@ -26,13 +26,13 @@ later tree (t ∷ trees) (suc k) d first low = later tree trees k d first.1 (ome
 
 pub own_numbers : (trees : List Tree) → IsLiveList trees → HaveOwnNumbers trees
 own_numbers [] live = λ i j d less low. absurd (omega (arith, low))
-own_numbers (tree ∷ trees) live = by
+own_numbers (tree ∷ trees) live = by (own_numbers trees live.1)
   where
-    by : (i j : ℕ) (d : Tree) → i < j → j < length (tree ∷ trees) → (get_or (tree ∷ trees) i d).number ≢ (get_or (tree ∷ trees) j d).number
-    by zero zero d less low = absurd (omega (arith, less))
-    by zero (suc j) d less low = let rises : tree.number < (get_or trees j d).number = later tree trees j d live.0 (omega (arith, low)) in λ same. omega (arith, same, rises)
-    by (suc i) zero d less low = absurd (omega (arith, less))
-    by (suc i) (suc j) d less low = own_numbers trees live.1 i j d (omega (arith, less)) (omega (arith, low))
+    by : HaveOwnNumbers trees → (i j : ℕ) (d : Tree) → i < j → j < length (tree ∷ trees) → (get_or (tree ∷ trees) i d).number ≢ (get_or (tree ∷ trees) j d).number
+    by rest zero zero d less low = absurd (omega (arith, less))
+    by rest zero (suc j) d less low = let rises : tree.number < (get_or trees j d).number = later tree trees j d live.0 (omega (arith, low)) in λ same. omega (arith, same, rises)
+    by rest (suc i) zero d less low = absurd (omega (arith, less))
+    by rest (suc i) (suc j) d less low = rest i j d (omega (arith, less)) (omega (arith, low))
 
 -- ---- a search joins where its buckets do
 

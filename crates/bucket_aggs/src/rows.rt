@@ -107,9 +107,9 @@ pub(crate) fn ordered(
     }
     if descending {
         most_first(&mut rows)?;
-    } else {
-        fewest_first(&mut rows)?;
+        return Ok(rows);
     }
+    fewest_first(&mut rows)?;
     Ok(rows)
 }
 

@@ -1,6 +1,8 @@
 use Rattle.std.proofs.lemmas.Bool.{eqb-true}
 use Rattle.std.proofs.lemmas.List.{map-append, take_all, take_more}
-use Rattle.std.proofs.Common.{◌≡◌, ℕ, ◌<◌, ◌≤◌, ◌+◌, ◌-◌, ◌++◌, List, [], ◌∷◌, Option, Some, None, length, map, min, take, drop, get_or, sum_by, refl, sym, ap, subst, ◌∙◌, arith}
+use Rattle.std.proofs.Common.{◌≡◌, ℕ, ℤ, ◌<◌, ◌≤◌, ◌+◌, ◌-◌, ◌++◌, List, [], ◌∷◌, Option, Some, None, length, map, min, take, drop, get_or, sum_by, refl, sym, ap, subst, ◌∙◌, arith, rules, w64}
+use Rattle.std.proofs.lemmas.Int.{to_z-of_z}
+use mir.Val.{SFits, of_z, to_z}
 use Rattle.block_join.specs.declared.rule.Rule.TheVariants.{Kept}
 use Rattle.mapping.specs.Mapping.{Mapping, kind_at}
 use Rattle.mapping_body.specs.declared.kind.Kind.{Kind}
@@ -146,8 +148,10 @@ shown-rows-init t c = λ given is.
     subst (λ (l : List Bucket). IsAnswer m c.args.entries.now c.args.scope (buckets_by m c.args.field ds []) given (map bucket_part l)) (sym c.in_ok-buckets.ensures.items)
     (no_buckets_yet m c.args.entries.now c.args.scope c.args.field ds given)
 
-pub shown-bucket-requires-clause-key : goal.shown-bucket-requires-clause-key
-shown-bucket-requires-clause-key t c = key_at (kind_at c.args.mapping.now c.args.field) c.args.rows.now c.rows.at c.index-rows-at.result c.requires.keys c.rows-test.true c.index-rows-at.is
+pub shown-bucket-requires : goal.shown-bucket-requires
+shown-bucket-requires t c =
+    let key = key_at (kind_at c.args.mapping.now c.args.field) c.args.rows.now c.rows.at c.index-rows-at.result c.requires.keys c.rows-test.true c.index-rows-at.is in
+    (omega arith, (c.requires.field, (key, (c.requires.resolved, (c.requires.joined, c.requires.long)))))
 
 pub shown-rows-preserved : goal.shown-rows-preserved
 shown-rows-preserved t c = λ given is.
@@ -188,7 +192,7 @@ bucket-returns-then-is_empty t c = λ given is.
 pub bucket-filtered-requires-clause-resolved : goal.bucket-filtered-requires-clause-resolved
 bucket-filtered-requires-clause-resolved t c =
     let kind = kind_at c.args.mapping.now c.args.field in
-    ((c.requires.field.0, sorted_valued kind c.requires.field.1, subst (IsValueOf kind) (sym c.in_ok-value.ensures) c.requires.key, tt), omega arith, omega arith)
+    ((c.requires.field.0, (sorted_valued kind c.requires.field.1, (subst (IsValueOf kind) (sym c.in_ok-value.ensures) c.requires.key, tt))), (omega arith, omega arith))
 
 pub bucket-returns : goal.bucket-returns
 bucket-returns t c = λ given is.
@@ -222,8 +226,8 @@ mapped_terms-returns t c = λ given is.
     subst (λ (kind : Kind). AreCounts kind f (flats_of_view view c.args.objects.now) rows) c.kind.ensures c.in_ok-rows.ensures in
     let whole : c.as_slice.result.now ≡ sorted = c.as_slice.ensures.value ∙ c.in_ok-sorted.ensures.order in
     let cut : c.min-end.result ≡ min (length sorted) size = omega (arith, c.min-end.ensures, c.len.ensures, c.as_slice.ensures.len, ap (λ (l : List CountRow). length l) whole) in
-    let first : c.split_at-first.result.0.now ≡ take size sorted = c.split_at-first.ensures.front ∙ ap (take c.min-end.result) whole ∙ cut_first sorted size c.min-end.result cut in
-    let others : c.split_at-first.result.1.now ≡ drop size sorted = c.split_at-first.ensures.back ∙ ap (drop c.min-end.result) whole ∙ cut_others sorted size c.min-end.result cut in
+    let first : c.split_at.result.0.now ≡ take size sorted = c.split_at.ensures.front ∙ ap (take c.min-end.result) whole ∙ cut_first sorted size c.min-end.result cut in
+    let others : c.split_at.result.1.now ≡ drop size sorted = c.split_at.ensures.back ∙ ap (drop c.min-end.result) whole ∙ cut_others sorted size c.min-end.result cut in
     let answered : IsAnswer m view c.args.scope (buckets_by m f ds (take size sorted)) given c.of.result =
     subst (λ (parts : List BucketPart). IsAnswer m view c.args.scope (buckets_by m f ds (take size sorted)) given parts) (sym c.of.ensures)
     (subst (λ (l : List CountRow). IsAnswer m view c.args.scope (buckets_by m f ds l) given (map bucket_part c.in_ok-buckets.buckets.items)) first (c.in_ok-buckets.ensures given is)) in
@@ -235,7 +239,7 @@ value-returns-in_ok-least-in-Min t c = λ given is.
     let m = c.args.mapping.now in
     let view = c.args.entries.now in
     let ds = definitions_of c.args.inner.now in
-    let field : Option ℕ = c.in-Min.field.now in
+    let field : Option ℕ = c.in-Min.field in
     let asked = (subst (λ (form : AggForm). IsForm m c.args.scope form ds) c.in-Min.is c.requires.form).0 in
     subst (λ (form : AggForm). IsAnswer m view c.args.scope (value_by m form ds) given (metric c.in_ok-least-in-Min.field-0)) (sym c.in-Min.is)
     (metric_is m view c.args.scope (least_by m field) (value_by m (MinOf field) ds) given c.in_ok-least-in-Min.field-0 (λ live objects. refl) (c.in_ok-least-in-Min.ensures m c.args.scope given asked is))
@@ -245,7 +249,7 @@ value-returns-in_ok-greatest-in-Max t c = λ given is.
     let m = c.args.mapping.now in
     let view = c.args.entries.now in
     let ds = definitions_of c.args.inner.now in
-    let field : Option ℕ = c.in-Max.field.now in
+    let field : Option ℕ = c.in-Max.field in
     let asked = (subst (λ (form : AggForm). IsForm m c.args.scope form ds) c.in-Max.is c.requires.form).0 in
     subst (λ (form : AggForm). IsAnswer m view c.args.scope (value_by m form ds) given (metric c.in_ok-greatest-in-Max.field-0)) (sym c.in-Max.is)
     (metric_is m view c.args.scope (greatest_by m field) (value_by m (MaxOf field) ds) given c.in_ok-greatest-in-Max.field-0 (λ live objects. refl) (c.in_ok-greatest-in-Max.ensures m c.args.scope given asked is))
@@ -255,23 +259,31 @@ value-returns-in_ok-sum-in-Sum t c = λ given is.
     let m = c.args.mapping.now in
     let view = c.args.entries.now in
     let ds = definitions_of c.args.inner.now in
-    let field : Option ℕ = c.in-Sum.field.now in
+    let field : Option ℕ = c.in-Sum.field in
     let asked = (subst (λ (form : AggForm). IsForm m c.args.scope form ds) c.in-Sum.is c.requires.form).0 in
-    subst (λ (form : AggForm). IsAnswer m view c.args.scope (value_by m form ds) given (metric (Some c.in_ok-sum-in-Sum.field-0))) (sym c.in-Sum.is)
-    (number_is m view c.args.scope (sum_by_field m field) (value_by m (SumOf field) ds) given c.in_ok-sum-in-Sum.field-0 (λ live objects. refl) (c.in_ok-sum-in-Sum.ensures m c.args.scope given asked is))
+    let z : ℤ = c.in_ok-sum-in-Sum.field-0 in
+    let fits : SFits w64 z = search rules in
+    subst (λ (form : AggForm). IsAnswer m view c.args.scope (value_by m form ds) given (metric (Some (to_z w64 (of_z w64 z))))) (sym c.in-Sum.is)
+    (subst (λ (number : ℤ). IsAnswer m view c.args.scope (value_by m (SumOf field) ds) given (metric (Some number))) (sym (to_z-of_z w64 z fits))
+    (number_is m view c.args.scope (sum_by_field m field) (value_by m (SumOf field) ds) given c.in_ok-sum-in-Sum.field-0 (λ live objects. refl) (c.in_ok-sum-in-Sum.ensures m c.args.scope given asked is)))
 
 pub value-returns-in_ok-count-in-ValueCount : goal.value-returns-in_ok-count-in-ValueCount
 value-returns-in_ok-count-in-ValueCount t c = λ given is.
     let m = c.args.mapping.now in
     let view = c.args.entries.now in
     let ds = definitions_of c.args.inner.now in
-    let field : Option ℕ = c.in-ValueCount.field.now in
-    subst (λ (form : AggForm). IsAnswer m view c.args.scope (value_by m form ds) given (metric (Some c.in_ok-count-in-ValueCount.field-0))) (sym c.in-ValueCount.is)
-    (number_is m view c.args.scope (count_by_field m field) (value_by m (ValueCount field) ds) given c.in_ok-count-in-ValueCount.field-0 (λ live objects. refl) (c.in_ok-count-in-ValueCount.ensures c.args.scope given is))
+    let field : Option ℕ = c.in-ValueCount.field in
+    let z : ℤ = c.in_ok-count-in-ValueCount.field-0 in
+    let fits : SFits w64 z = search rules in
+    subst (λ (form : AggForm). IsAnswer m view c.args.scope (value_by m form ds) given (metric (Some (to_z w64 (of_z w64 z))))) (sym c.in-ValueCount.is)
+    (subst (λ (number : ℤ). IsAnswer m view c.args.scope (value_by m (ValueCount field) ds) given (metric (Some number))) (sym (to_z-of_z w64 z fits))
+    (number_is m view c.args.scope (count_by_field m field) (value_by m (ValueCount field) ds) given c.in_ok-count-in-ValueCount.field-0 (λ live objects. refl) (c.in_ok-count-in-ValueCount.ensures c.args.scope given is)))
 
-pub mapped_terms-shown-requires-clause-keys : goal.mapped_terms-shown-requires-clause-keys
-mapped_terms-shown-requires-clause-keys t c =
+pub mapped_terms-shown-requires : goal.mapped_terms-shown-requires
+mapped_terms-shown-requires t c =
     let kind = kind_at c.args.mapping.now c.args.field in
     let counts : AreCounts kind c.args.field (flats_of_view c.args.entries.now c.args.objects.now) c.in_ok-rows.rows.items =
     subst (λ (k : Kind). AreCounts k c.args.field (flats_of_view c.args.entries.now c.args.objects.now) c.in_ok-rows.rows.items) c.kind.ensures c.in_ok-rows.ensures in
-    subst (AreKeys kind) (sym (c.split_at-first.ensures.front ∙ ap (take c.min-end.result) c.as_slice.ensures.value)) (keys_taken kind c.min-end.result c.in_ok-sorted.sorted.items (c.in_ok-sorted.ensures.keys kind counts.keys))
+    let keys : AreKeys kind c.split_at.result.0.now =
+    subst (AreKeys kind) (sym (c.split_at.ensures.front ∙ ap (take c.min-end.result) c.as_slice.ensures.value)) (keys_taken kind c.min-end.result c.in_ok-sorted.sorted.items (c.in_ok-sorted.ensures.keys kind counts.keys)) in
+    (omega arith, (c.requires.field, (keys, (c.requires.resolved, (c.requires.joined, c.requires.long)))))

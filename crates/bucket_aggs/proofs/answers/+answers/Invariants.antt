@@ -50,8 +50,8 @@ decreases-terms l = 10 * definitions_size (definitions_of l.inner.now) + 6
 abbrev pub decreases-value : goal.decreases-value
 decreases-value l = 10 * definitions_size (definitions_of l.inner.now) + 9
 
-abbrev pub invariant-rows : goal.invariant-rows
-invariant-rows l =
+abbrev pub invariant-shown-rows : goal.invariant-shown-rows
+invariant-shown-rows l =
     (given : List Tree → Object → Option ℕ)
     → IsSeen l.mapping l.entries l.scope given l.objects
     → IsAnswer l.mapping l.entries l.scope (buckets_by l.mapping l.field (definitions_of l.inner) (take l.at l.rows)) given (map bucket_part l.buckets.items)
