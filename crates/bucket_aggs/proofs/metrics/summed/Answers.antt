@@ -1,0 +1,17 @@
+use Rattle.std.proofs.Common.{◌≡◌, ◌<◌, ◌+◌, ◌++◌, ℕ, List, length, get_or, ap, ◌∙◌, arith}
+use Rattle.bucket_aggs.proofs.Viewed.{Scores, flats_from, flats_step, long_view, own_flats, summing_step}
+use Rattle.bucket_aggs.proofs.metrics.summed.Goals as goal
+
+pub bounds-objects-at : goal.bounds-objects-at
+bounds-objects-at c = omega (arith, c.entries-test.true, long_view c.args.entries.now c.args.objects.now c.requires, ap (λ (l : List Scores). length l) c.as_slice-objects.ensures)
+
+pub entries-preserved : goal.entries-preserved
+entries-preserved c =
+    let view = c.args.entries.now in
+    let scores = c.args.objects.now in
+    let e = c.index-entries-at.result in
+    let s = c.index-objects-at.result in
+    let step : flats_from c.entries.at view scores ≡ own_flats c.segment.result.now c.set.result.now ++ flats_from (c.entries.at + 1) view scores =
+    flats_step c.entries.at view scores e s c.segment.result.now c.set.result.now c.requires c.entries-test.true c.index-entries-at.is
+    (c.index-objects-at.is ∙ ap (λ (l : List Scores). get_or l c.entries.at s) c.as_slice-objects.ensures) c.segment.ensures c.set.ensures in
+    summing_step c.args.field c.entries.at view scores (own_flats c.segment.result.now c.set.result.now) c.entries.sums c.add_numbers.new.sums step c.entries.invariant (λ zs is. c.in_ok-add_numbers.ensures zs is)

@@ -1,0 +1,24 @@
+use Rattle.std.proofs.Common.{◌≡◌, ◌<◌, ◌+◌, ◌++◌, ℕ, List, length, get_or, ap, ◌∙◌, arith}
+use Rattle.std.specs.List.{flat_map}
+use Rattle.bucket_aggs.specs.Counts.{AreCounts, flats_of_view}
+use Rattle.bucket_aggs.proofs.Viewed.{Scores, counting_end, counting_step, flats_from, flats_step, long_view, own_flats}
+use Rattle.bucket_aggs.proofs.terms.counted.Goals as goal
+
+pub bounds-objects-at : goal.bounds-objects-at
+bounds-objects-at c = omega (arith, c.entries-test.true, long_view c.args.entries.now c.args.objects.now c.requires, ap (λ (l : List Scores). length l) c.as_slice-objects.ensures)
+
+pub entries-preserved : goal.entries-preserved
+entries-preserved c =
+    let view = c.args.entries.now in
+    let scores = c.args.objects.now in
+    let e = c.index-entries-at.result in
+    let s = c.index-objects-at.result in
+    let step : flats_from c.entries.at view scores ≡ own_flats c.segment.result.now c.set.result.now ++ flats_from (c.entries.at + 1) view scores =
+    flats_step c.entries.at view scores e s c.segment.result.now c.set.result.now c.requires c.entries-test.true c.index-entries-at.is
+    (c.index-objects-at.is ∙ ap (λ (l : List Scores). get_or l c.entries.at s) c.as_slice-objects.ensures) c.segment.ensures c.set.ensures in
+    counting_step c.args.kind c.args.field c.entries.at view scores (own_flats c.segment.result.now c.set.result.now) c.entries.rows.items c.add_rows.new.rows.items step c.entries.invariant c.in_ok-add_rows.ensures.counts c.in_ok-add_rows.ensures.keys
+
+pub returns : goal.returns
+returns c =
+    counting_end c.args.kind c.args.field c.entries.at c.args.entries.now c.args.objects.now c.entries.rows.items c.in_ok-merged.field-0.items (omega (arith, c.entries-test.false)) c.entries.invariant
+    c.in_ok-merged.ensures.ascend c.in_ok-merged.ensures.counts (c.in_ok-merged.ensures.keys c.args.kind)

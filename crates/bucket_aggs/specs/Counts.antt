@@ -1,0 +1,133 @@
+-- Keys with their counts: of how many documents each is a value.
+use Rattle.std.specs.Prelude.{◌≡◌, ℕ, zero, suc, ◌+◌, ◌==◌, ◌<◌, nat_lt, Bool, true, false, if◌then◌else◌, List, [], ◌∷◌, map, reverse, length, get_or, count_by, sum_by, ℤ, Option, Some, None, is_some, ◌++◌, ⊤}
+use Rattle.std.specs.Ordering.{int_cmp, is_eq}
+use Rattle.std.specs.declared.cmp.Ordering.{Ordering}
+use Rattle.std.specs.List.{AllByRecursion, flat_map, list_any}
+use Rattle.block_bits.specs.Flags.{is_marked}
+use Rattle.mapping_body.specs.declared.kind.Kind.{Kind}
+use Rattle.query_ast.specs.Compare.{is_less, is_same_value, in_order}
+use Rattle.query_ast.specs.Uses.{IsValueOf}
+use Rattle.segment.specs.Flat.{FlatDocument, bytes_at, flat_of}
+use Rattle.segment.specs.Live.{EntryState}
+use Rattle.segment_parts.specs.Text.{marked_places}
+use Rattle.segment_parts.specs.declared.columns.Columns.{Columns}
+use Rattle.tree_objects.specs.declared.field_value.FieldValue.{FieldValue}
+use Rattle.tree_objects.specs.declared.field_value.FieldValue.TheVariants.{Number, Written}
+use Rattle.view_objects.specs.Values.{values_shown}
+use Rattle.bucket_aggs.specs.declared.rows.CountRow.{CountRow}
+
+-- ---- documents
+
+-- the documents of an entry that have a score, in order
+abbrev pub documents_in : List (Option ℕ) → List ℕ
+documents_in scores = marked_places 0 (map is_some scores)
+
+-- what they show, as the columns have it
+abbrev pub flats_in : Columns → List (Option ℕ) → List FlatDocument
+flats_in columns scores = map (flat_of columns) (documents_in scores)
+
+-- those of all entries
+abbrev pub flats_of_view : List EntryState → List (List (Option ℕ)) → List FlatDocument
+flats_of_view [] scores = []
+flats_of_view (entry ∷ entries) [] = []
+flats_of_view (entry ∷ entries) (scores ∷ more) = flats_in entry.columns scores ++ flats_of_view entries more
+
+abbrev pub marked_count : List (Option ℕ) → ℕ
+marked_count scores = count_by is_marked (map is_some scores)
+
+-- values but for those that are equal to the one before
+module _ {A : Type 0} (same : A → A → Bool) where
+  abbrev pub is_again : Option A → A → Bool
+  is_again None x = false
+  is_again (Some y) x = same y x
+
+  abbrev pub once_after : Option A → List A → List A
+  once_after before [] = []
+  once_after before (x ∷ xs) = if is_again before x then once_after before xs else x ∷ once_after (Some x) xs
+
+abbrev pub once_by : {A : Type 0} → (A → A → Ordering) → List A → List A
+once_by cmp xs = once_after (λ a b. is_eq (cmp a b)) None xs
+
+abbrev pub once : List ℤ → List ℤ
+once zs = once_by int_cmp zs
+
+-- ---- counts by ordinal
+
+abbrev pub has_ordinal : ℕ → List ℕ → Bool
+has_ordinal ordinal ordinals = list_any (λ own. own == ordinal) ordinals
+
+-- to the count of each ordinal, the first having a number, that of the lists with it is added
+pub record Counted (first : ℕ) (lists : List (List ℕ)) (old new : List ℕ) : Type 0 where
+  pub long : length new ≡ length old
+  pub each : (k : ℕ) → k < length old → get_or new k 0 ≡ get_or old k 0 + count_by (has_ordinal (first + k)) lists
+
+-- ---- counts by value
+
+abbrev pub is_number : FieldValue → ℤ → Bool
+is_number v z = is_same_value v (Number z)
+
+abbrev pub term_key : List (ℕ × List ℕ) → ℕ → FieldValue
+term_key terms ordinal = Written (bytes_at terms ordinal)
+
+abbrev pub is_term : List (ℕ × List ℕ) → FieldValue → ℕ → Bool
+is_term terms v ordinal = is_same_value v (term_key terms ordinal)
+
+-- the count of a key, if it is the value
+abbrev pub count_if : FieldValue → FieldValue → ℕ → ℕ
+count_if v key count = if is_same_value v key then count else 0
+
+abbrev pub weight_in : FieldValue → CountRow → ℕ
+weight_in v row = count_if v row.key row.count
+
+-- the counts of a value in all rows
+abbrev pub weight : FieldValue → List CountRow → ℕ
+weight v rows = sum_by (weight_in v) rows
+
+-- the counts of a value among some from a place on, where the first count is that of the term with the ordinal `first`
+abbrev pub counts_of : List (ℕ × List ℕ) → ℕ → FieldValue → List ℕ → ℕ → ℕ → ℕ
+counts_of terms first v counts at zero = 0
+counts_of terms first v counts at (suc some) = count_if v (term_key terms (first + at)) (get_or counts at 0) + counts_of terms first v counts (at + 1) some
+
+abbrev pub shows : Kind → ℕ → FieldValue → FlatDocument → Bool
+shows kind f v d = list_any (is_same_value v) (values_shown kind f d)
+
+-- to the counts of each value that of the documents that show it is added
+pub record Weighed (kind : Kind) (f : ℕ) (flats : List FlatDocument) (old new : List CountRow) : Type 0 where
+  pub each : (v : FieldValue) → weight v new ≡ weight v old + count_by (shows kind f v) flats
+
+abbrev pub count_in : CountRow → ℕ
+count_in row = row.count
+
+-- keys of the kind of a field, each of some object
+abbrev pub AreKeys : Kind → List CountRow → Type 0
+AreKeys kind rows = AllByRecursion (λ (row : CountRow). IsValueOf kind row.key × (0 < row.count)) rows
+
+-- keys strictly ascend
+abbrev pub KeysAscend : List CountRow → Type 0
+KeysAscend [] = ⊤
+KeysAscend (row ∷ rows) = AllByRecursion (λ (later : CountRow). is_less row.key later.key ≡ true) rows × KeysAscend rows
+
+pub record AreCounts (kind : Kind) (f : ℕ) (flats : List FlatDocument) (rows : List CountRow) : Type 0 where
+  pub ascend : KeysAscend rows
+  pub keys : AreKeys kind rows
+  pub counts : (v : FieldValue) → weight v rows ≡ count_by (shows kind f v) flats
+
+-- a count more for the last row, if it has this key, else a new row
+abbrev pub added : FieldValue → ℕ → List CountRow → List CountRow
+added key count [] = record { key = key; count = count } ∷ []
+added key count (row ∷ []) =
+    if is_same_value row.key key then record { key = row.key; count = row.count + count } ∷ []
+    else row ∷ record { key = key; count = count } ∷ []
+added key count (row ∷ next ∷ rows) = row ∷ added key count (next ∷ rows)
+
+-- ---- the order of rows
+
+abbrev pub row_first : Bool → CountRow → CountRow → Bool
+row_first true a b = nat_lt b.count a.count
+row_first false a b = nat_lt a.count b.count
+
+-- by key, or by count and then by ascending key
+abbrev pub rows_ordered : Bool → Bool → List CountRow → List CountRow
+rows_ordered true true rows = reverse rows
+rows_ordered true false rows = rows
+rows_ordered false descending rows = in_order (row_first descending) rows

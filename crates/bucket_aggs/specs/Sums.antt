@@ -1,0 +1,41 @@
+-- What numbers come to: how many there are, their sum, the least and the greatest.
+use Rattle.std.specs.Prelude.{◌≡◌, ℕ, ℤ, pos, ◌+ℤ◌, Bool, false, if◌then◌else◌, List, [], ◌∷◌, length, fold, Option, Some, None}
+use Rattle.std.specs.List.{AllByRecursion, Contains}
+use Rattle.std.specs.Ordering.{int_cmp, is_lt}
+use Rattle.doc_values.specs.Values.{values_of}
+use Rattle.mapping_body.specs.declared.kind.Kind.{Kind}
+use Rattle.segment.specs.Flat.{FlatDocument}
+use Rattle.view_objects.specs.Values.{values_shown}
+use Rattle.bucket_aggs.specs.declared.metrics.Summary.{Summary}
+
+abbrev pub sum_of : List ℤ → ℤ
+sum_of zs = fold (λ sum z. sum +ℤ z) (pos 0) zs
+
+abbrev pub below : ℤ → ℤ → Bool
+below a b = is_lt (int_cmp a b)
+
+abbrev pub above : ℤ → ℤ → Bool
+above a b = below b a
+
+-- one of the numbers, and none comes before it; none where there are no numbers
+abbrev pub IsFirst : (ℤ → ℤ → Bool) → List ℤ → Option ℤ → Type 0
+IsFirst before zs None = zs ≡ []
+IsFirst before zs (Some z) = Contains zs z × AllByRecursion (λ (x : ℤ). before x z ≡ false) zs
+
+-- the first so far, with a number more
+abbrev pub first_of : (ℤ → ℤ → Bool) → Option ℤ → ℤ → ℤ
+first_of before None z = z
+first_of before (Some first) z = if before z first then z else first
+
+pub record IsSummary (zs : List ℤ) (s : Summary) : Type 0 where
+  pub count : s.count ≡ length zs
+  pub total : s.total ≡ sum_of zs
+  pub least : IsFirst below zs s.least
+  pub greatest : IsFirst above zs s.greatest
+
+-- the numbers of a document in the column of a field
+abbrev pub numbers_in : ℕ → FlatDocument → List ℤ
+numbers_in f d = values_of f d.numbers
+
+abbrev pub values_in : Kind → ℕ → FlatDocument → ℕ
+values_in kind f d = length (values_shown kind f d)

@@ -1,0 +1,629 @@
+//! The answers to definitions of buckets.
+
+ghost use Rattle.std.specs.Prelude.{◌≡◌, ◌<◌, ◌≤◌, ◌++◌, ℕ, true, List, [], ◌∷◌, Option, Some, None, map, pos, IfOk};
+ghost use Rattle.join_ordinals.specs.Ordinals.{AreOrdinals};
+ghost use Rattle.query_ast.specs.Agg.View.{agg_of};
+ghost use Rattle.query_ast.specs.Definition.{definition, definitions_of, no_definitions};
+ghost use Rattle.query_ast.specs.Joins.{agg_joins, form_joins, joins, some_agg_joins};
+ghost use Rattle.query_ast.specs.Replies.{no_buckets as no_bucket, several};
+ghost use Rattle.query_ast.specs.Clause.View.{clause_of};
+ghost use Rattle.block_join.specs.declared.rule.Rule.{Rule};
+ghost use Rattle.query_ast.specs.declared.agg.AggForm.{AggForm};
+ghost use Rattle.query_eval.specs.Folds.{paired_by};
+ghost use Rattle.query_ast.specs.Replies.View.{bucket_part, reply_part, value_of};
+ghost use Rattle.query_ast.specs.Resolved.{AreAggDefinitions, IsAggDefinition, IsChildRelation, IsForm, IsResolved, IsUse, scope_of_form};
+ghost use Rattle.query_ast.specs.Uses.{IsValueOf, uses_at};
+ghost use Rattle.mapping.specs.Mapping.{Mapping as Meaning, IsAbove, kind_at};
+ghost use Rattle.query_eval.specs.Found.{AreLong, IsSeen, score_by};
+ghost use Rattle.tree_objects.specs.Object.{Object};
+ghost use Rattle.tree_objects.specs.Tree.{Tree};
+ghost use Rattle.bucket_aggs.specs.Counts.{AreKeys};
+ghost use Rattle.bucket_aggs.specs.Given.{AreReplies, IsAnswer, bucket_by, buckets_by, count_by_field, greatest_by, least_by, more_replies, reply_by, single_by, sum_by_field, value_by};
+
+use crate::NoMemory;
+use crate::metrics::{summed, value_count};
+use crate::objects::{alike, count_of, filtered};
+use crate::rows::{CountRow, copied, ordered, sum_of_counts};
+use crate::terms::counted;
+use block_join::Matches;
+use join_ordinals::JoinOrdinals;
+use mapping::Mapping;
+use query_ast::{
+    AggDef, AggForm, AggList, AggReplies, AggReply, AggValue, Bucket, BucketList, Query, QueryBox,
+};
+use query_eval::{downs, ups, with_children, with_parent_by};
+use score_math::ScoreMode;
+use segment_view::{Entry, View};
+use source_steps::Steps;
+use std::alloc::Global;
+use std::sync::ledger::Ledger;
+use tree_joins::objects_are_parted;
+use tree_objects::{Bytes, objects_nest};
+use view_objects::{documents_show_values, hits_are_objects};
+
+/// The answers to definitions of buckets over the objects of a scope that the documents of hits stand for, in the order of the
+/// definitions. No source is read.
+///
+/// The definitions were resolved under the mapping in that scope. The ordinals are those of the view, where a definition joins
+/// trees.
+pub fn buckets<L: Ledger>(
+    alloc: Global,
+    view: &View,
+    mapping: &Mapping,
+    ordinals: &JoinOrdinals,
+    hits: &Matches,
+    scope: u32,
+    aggs: &AggList,
+    steps: &mut Steps<L>,
+) -> Result<AggReplies, NoMemory>
+    requires resolved { AreAggDefinitions mapping.now scope (definitions_of aggs.now) }
+    requires joined { some_agg_joins (definitions_of aggs.now) ≡ true → AreOrdinals view.now ordinals.now }
+    requires long { AreLong view.now hits.now }
+    ensures replies { (given : List Tree → Object → Option ℕ) → IsSeen mapping.now view.now scope given hits.now → IfOk result (AreReplies mapping.now view.now scope (definitions_of aggs.now) given) }
+    ensures steps { steps.new ≡ steps.old }
+{
+    let entries = view.entries();
+    let objects = alike(alloc, entries, mapping, ordinals, scope, hits)?;
+    let replies = replies(
+        alloc,
+        entries,
+        mapping,
+        ordinals,
+        aggs.as_slice(),
+        scope,
+        &objects,
+    )?;
+    Ok(AggReplies::of(replies))
+}
+
+/// The answers to a list of definitions.
+#[cycle(answers)]
+fn replies(
+    alloc: Global,
+    entries: &[Entry],
+    mapping: &Mapping,
+    ordinals: &JoinOrdinals,
+    aggs: &[AggDef],
+    scope: u32,
+    objects: &Matches,
+) -> Result<Vec<AggReply>, NoMemory>
+    requires resolved { AreAggDefinitions mapping.now scope (definitions_of (map agg_of aggs.now)) }
+    requires joined { some_agg_joins (definitions_of (map agg_of aggs.now)) ≡ true → AreOrdinals entries.now ordinals.now }
+    requires long { AreLong entries.now objects.now }
+    ensures { (given : List Tree → Object → Option ℕ) → IsSeen mapping.now entries.now scope given objects.now → IfOk result (λ made. AreReplies mapping.now entries.now scope (definitions_of (map agg_of aggs.now)) given (map reply_part made.items)) }
+{
+    let none = Vec::new(alloc);
+    Ok(further(
+        alloc, entries, mapping, ordinals, aggs, scope, objects, none,
+    )?)
+}
+
+/// The answers to a list of definitions, behind others.
+#[cycle(answers)]
+#[tactic(auto, using(crate::proofs::Formed::definition_some, crate::proofs::Formed::replies_none))]
+fn further(
+    alloc: Global,
+    entries: &[Entry],
+    mapping: &Mapping,
+    ordinals: &JoinOrdinals,
+    aggs: &[AggDef],
+    scope: u32,
+    objects: &Matches,
+    mut made: Vec<AggReply>,
+) -> Result<Vec<AggReply>, NoMemory>
+    requires resolved { AreAggDefinitions mapping.now scope (definitions_of (map agg_of aggs.now)) }
+    requires joined { some_agg_joins (definitions_of (map agg_of aggs.now)) ≡ true → AreOrdinals entries.now ordinals.now }
+    requires long { AreLong entries.now objects.now }
+    ensures { (given : List Tree → Object → Option ℕ) → IsSeen mapping.now entries.now scope given objects.now → IfOk result (λ all. IsAnswer mapping.now entries.now scope (more_replies mapping.now (definitions_of (map agg_of aggs.now)) (map reply_part made.items)) given (map reply_part all.items)) }
+{
+    match aggs {
+        [] => Ok(made),
+        [def, rest @ ..] => {
+            let own = reply(alloc, entries, mapping, ordinals, def, scope, objects)?;
+            made.push(own)?;
+            Ok(further(
+                alloc, entries, mapping, ordinals, rest, scope, objects, made,
+            )?)
+        }
+    }
+}
+
+/// The answer to one definition.
+#[cycle(answers)]
+fn reply(
+    alloc: Global,
+    entries: &[Entry],
+    mapping: &Mapping,
+    ordinals: &JoinOrdinals,
+    def: &AggDef,
+    scope: u32,
+    objects: &Matches,
+) -> Result<AggReply, NoMemory>
+    requires resolved { IsAggDefinition mapping.now scope (agg_of def.now) }
+    requires joined { agg_joins (agg_of def.now) ≡ true → AreOrdinals entries.now ordinals.now }
+    requires long { AreLong entries.now objects.now }
+    ensures { (given : List Tree → Object → Option ℕ) → IsSeen mapping.now entries.now scope given objects.now → IfOk result (λ reply. IsAnswer mapping.now entries.now scope (reply_by mapping.now (agg_of def.now)) given (reply_part reply)) }
+{
+    let answer = value(
+        alloc, entries, mapping, ordinals, &def.form, &def.inner, scope, objects,
+    )?;
+    let name = Bytes::of(Vec::from_slice(alloc, def.name.as_slice())?);
+    Ok(AggReply {
+        name,
+        value: answer,
+    })
+}
+
+/// The answer to one definition, but for its name.
+#[cycle(answers)]
+fn value(
+    alloc: Global,
+    entries: &[Entry],
+    mapping: &Mapping,
+    ordinals: &JoinOrdinals,
+    form: &AggForm,
+    inner: &AggList,
+    scope: u32,
+    objects: &Matches,
+) -> Result<AggValue, NoMemory>
+    requires form { IsForm mapping.now scope form.now (definitions_of inner.now) }
+    requires inner { AreAggDefinitions mapping.now (scope_of_form scope form.now) (definitions_of inner.now) }
+    requires joined { form_joins form.now ≡ true → AreOrdinals entries.now ordinals.now }
+    requires joined_inside { some_agg_joins (definitions_of inner.now) ≡ true → AreOrdinals entries.now ordinals.now }
+    requires long { AreLong entries.now objects.now }
+    ensures { (given : List Tree → Object → Option ℕ) → IsSeen mapping.now entries.now scope given objects.now → IfOk result (λ value. IsAnswer mapping.now entries.now scope (value_by mapping.now form.now (definitions_of inner.now)) given (value_of value)) }
+{
+    match form {
+        AggForm::Filter(query) => Ok(hitting(
+            alloc, entries, mapping, ordinals, query, inner, scope, objects,
+        )?),
+        AggForm::Nested(path) => Ok(inside(
+            alloc, entries, mapping, ordinals, *path, inner, scope, objects,
+        )?),
+        AggForm::ReverseNested(path) => Ok(around(
+            alloc, entries, mapping, ordinals, *path, inner, scope, objects,
+        )?),
+        AggForm::Children(relation) => Ok(children(
+            alloc, entries, mapping, ordinals, *relation, inner, scope, objects,
+        )?),
+        AggForm::Parent(relation) => Ok(parents(
+            alloc, entries, mapping, ordinals, *relation, inner, scope, objects,
+        )?),
+        AggForm::Terms {
+            field,
+            size,
+            by_key,
+            descending,
+        } => Ok(terms(
+            alloc,
+            entries,
+            mapping,
+            ordinals,
+            *field,
+            *size,
+            *by_key,
+            *descending,
+            inner,
+            scope,
+            objects,
+        )?),
+        AggForm::Min(field) => Ok(AggValue::Metric(least(entries, *field, objects)?)),
+        AggForm::Max(field) => Ok(AggValue::Metric(greatest(entries, *field, objects)?)),
+        AggForm::Sum(field) => Ok(AggValue::Metric(Some(sum(entries, *field, objects)?))),
+        AggForm::ValueCount(field) => Ok(AggValue::Metric(Some(count(
+            entries, mapping, *field, objects,
+        )?))),
+    }
+}
+
+/// `filter`: those that a query hits.
+#[cycle(answers)]
+fn hitting(
+    alloc: Global,
+    entries: &[Entry],
+    mapping: &Mapping,
+    ordinals: &JoinOrdinals,
+    query: &QueryBox,
+    inner: &AggList,
+    scope: u32,
+    objects: &Matches,
+) -> Result<AggValue, NoMemory>
+    requires query { IsResolved mapping.now scope query.now }
+    requires joins { joins query.now ≡ true → AreOrdinals entries.now ordinals.now }
+    requires inner { AreAggDefinitions mapping.now scope (definitions_of inner.now) }
+    requires joined_inside { some_agg_joins (definitions_of inner.now) ≡ true → AreOrdinals entries.now ordinals.now }
+    requires long { AreLong entries.now objects.now }
+    ensures { (given : List Tree → Object → Option ℕ) → IsSeen mapping.now entries.now scope given objects.now → IfOk result (λ value. IsAnswer mapping.now entries.now scope (value_by mapping.now (AggForm.Filter query.now) (definitions_of inner.now)) given (value_of value)) }
+{
+    let those = filtered(
+        alloc,
+        entries,
+        mapping,
+        ordinals,
+        query.get(),
+        scope,
+        objects,
+    )?;
+    Ok(single(alloc, entries, mapping, ordinals, inner, scope, &those)?)
+}
+
+/// `nested`: the objects of a path inside them.
+#[cycle(answers)]
+fn inside(
+    alloc: Global,
+    entries: &[Entry],
+    mapping: &Mapping,
+    ordinals: &JoinOrdinals,
+    path: u32,
+    inner: &AggList,
+    scope: u32,
+    objects: &Matches,
+) -> Result<AggValue, NoMemory>
+    requires path { IsAbove mapping.now scope path }
+    requires inner { AreAggDefinitions mapping.now path (definitions_of inner.now) }
+    requires joined_inside { some_agg_joins (definitions_of inner.now) ≡ true → AreOrdinals entries.now ordinals.now }
+    requires long { AreLong entries.now objects.now }
+    ensures { (given : List Tree → Object → Option ℕ) → IsSeen mapping.now entries.now scope given objects.now → IfOk result (λ value. IsAnswer mapping.now entries.now scope (value_by mapping.now (AggForm.Nested path) (definitions_of inner.now)) given (value_of value)) }
+{
+    objects_nest();
+    objects_are_parted();
+    let _scopes = mapping.scope_count();
+    let those = downs(alloc, entries, objects, scope, path)?;
+    Ok(single(alloc, entries, mapping, ordinals, inner, path, &those)?)
+}
+
+/// `reverse_nested`: the objects of a path around them, each once.
+#[cycle(answers)]
+fn around(
+    alloc: Global,
+    entries: &[Entry],
+    mapping: &Mapping,
+    ordinals: &JoinOrdinals,
+    path: u32,
+    inner: &AggList,
+    scope: u32,
+    objects: &Matches,
+) -> Result<AggValue, NoMemory>
+    requires path { IsAbove mapping.now path scope }
+    requires inner { AreAggDefinitions mapping.now path (definitions_of inner.now) }
+    requires joined_inside { some_agg_joins (definitions_of inner.now) ≡ true → AreOrdinals entries.now ordinals.now }
+    requires long { AreLong entries.now objects.now }
+    ensures { (given : List Tree → Object → Option ℕ) → IsSeen mapping.now entries.now scope given objects.now → IfOk result (λ value. IsAnswer mapping.now entries.now scope (value_by mapping.now (AggForm.ReverseNested path) (definitions_of inner.now)) given (value_of value)) }
+{
+    objects_nest();
+    objects_are_parted();
+    let _scopes = mapping.scope_count();
+    let those = ups(alloc, entries, objects, path, ScoreMode::Max)?;
+    Ok(single(alloc, entries, mapping, ordinals, inner, path, &those)?)
+}
+
+/// `children`: the child trees of the roots, by this relation.
+#[cycle(answers)]
+fn children(
+    alloc: Global,
+    entries: &[Entry],
+    mapping: &Mapping,
+    ordinals: &JoinOrdinals,
+    relation: u32,
+    inner: &AggList,
+    scope: u32,
+    objects: &Matches,
+) -> Result<AggValue, NoMemory>
+    requires root { scope ≡ 0 }
+    requires relation { IsChildRelation mapping.now relation }
+    requires joined { AreOrdinals entries.now ordinals.now }
+    requires inner { AreAggDefinitions mapping.now 0 (definitions_of inner.now) }
+    requires long { AreLong entries.now objects.now }
+    ensures { (given : List Tree → Object → Option ℕ) → IsSeen mapping.now entries.now scope given objects.now → IfOk result (λ value. IsAnswer mapping.now entries.now scope (value_by mapping.now (AggForm.Children relation) (definitions_of inner.now)) given (value_of value)) }
+{
+    hits_are_objects();
+    let _scopes = mapping.scope_count();
+    let those = with_parent_by(alloc, entries, mapping, ordinals, objects, relation)?;
+    Ok(single(alloc, entries, mapping, ordinals, inner, 0, &those)?)
+}
+
+/// `parent`: the parent trees of the roots, each once; the relation is the children's.
+#[cycle(answers)]
+fn parents(
+    alloc: Global,
+    entries: &[Entry],
+    mapping: &Mapping,
+    ordinals: &JoinOrdinals,
+    relation: u32,
+    inner: &AggList,
+    scope: u32,
+    objects: &Matches,
+) -> Result<AggValue, NoMemory>
+    requires root { scope ≡ 0 }
+    requires relation { IsChildRelation mapping.now relation }
+    requires joined { AreOrdinals entries.now ordinals.now }
+    requires inner { AreAggDefinitions mapping.now 0 (definitions_of inner.now) }
+    requires long { AreLong entries.now objects.now }
+    ensures { (given : List Tree → Object → Option ℕ) → IsSeen mapping.now entries.now scope given objects.now → IfOk result (λ value. IsAnswer mapping.now entries.now scope (value_by mapping.now (AggForm.Parent relation) (definitions_of inner.now)) given (value_of value)) }
+{
+    hits_are_objects();
+    let _scopes = mapping.scope_count();
+    let those = with_children(
+        alloc,
+        entries,
+        mapping,
+        ordinals,
+        objects,
+        relation,
+        ScoreMode::Max,
+        1,
+        None,
+    )?;
+    Ok(single(alloc, entries, mapping, ordinals, inner, 0, &those)?)
+}
+
+/// One bucket of all the objects.
+#[cycle(answers)]
+fn single(
+    alloc: Global,
+    entries: &[Entry],
+    mapping: &Mapping,
+    ordinals: &JoinOrdinals,
+    inner: &AggList,
+    scope: u32,
+    objects: &Matches,
+) -> Result<AggValue, NoMemory>
+    requires resolved { AreAggDefinitions mapping.now scope (definitions_of inner.now) }
+    requires joined { some_agg_joins (definitions_of inner.now) ≡ true → AreOrdinals entries.now ordinals.now }
+    requires long { AreLong entries.now objects.now }
+    ensures { (given : List Tree → Object → Option ℕ) → IsSeen mapping.now entries.now scope given objects.now → IfOk result (λ value. IsAnswer mapping.now entries.now scope (single_by mapping.now (definitions_of inner.now)) given (value_of value)) }
+{
+    let count = count_of(objects)?;
+    let replies = replies(
+        alloc,
+        entries,
+        mapping,
+        ordinals,
+        inner.as_slice(),
+        scope,
+        objects,
+    )?;
+    Ok(AggValue::Single {
+        count,
+        inner: AggReplies::of(replies),
+    })
+}
+
+/// `terms`: a bucket for each of the first values of a field; an unmapped field has none.
+#[cycle(answers)]
+fn terms(
+    alloc: Global,
+    entries: &[Entry],
+    mapping: &Mapping,
+    ordinals: &JoinOrdinals,
+    field: Option<u32>,
+    size: u32,
+    by_key: bool,
+    descending: bool,
+    inner: &AggList,
+    scope: u32,
+    objects: &Matches,
+) -> Result<AggValue, NoMemory>
+    requires field { IsUse (λ u. u.sorted) mapping.now field }
+    requires resolved { AreAggDefinitions mapping.now scope (definitions_of inner.now) }
+    requires joined { some_agg_joins (definitions_of inner.now) ≡ true → AreOrdinals entries.now ordinals.now }
+    requires long { AreLong entries.now objects.now }
+    ensures { (given : List Tree → Object → Option ℕ) → IsSeen mapping.now entries.now scope given objects.now → IfOk result (λ value. IsAnswer mapping.now entries.now scope (value_by mapping.now (AggForm.Terms field size by_key descending) (definitions_of inner.now)) given (value_of value)) }
+{
+    match field {
+        Some(field) => Ok(mapped_terms(
+            alloc, entries, mapping, ordinals, field, size, by_key, descending, inner, scope,
+            objects,
+        )?),
+        None => Ok(no_buckets(alloc)),
+    }
+}
+
+/// No buckets, as an unmapped field has.
+fn no_buckets(alloc: Global) -> AggValue
+    ensures { value_of result ≡ several no_bucket 0 }
+{
+    AggValue::Buckets {
+        buckets: BucketList::of(Vec::new(alloc)),
+        other: 0,
+    }
+}
+
+/// A bucket for each of the first values of a field that is mapped, and the sum of the counts of the others.
+#[cycle(answers)]
+fn mapped_terms(
+    alloc: Global,
+    entries: &[Entry],
+    mapping: &Mapping,
+    ordinals: &JoinOrdinals,
+    field: u32,
+    size: u32,
+    by_key: bool,
+    descending: bool,
+    inner: &AggList,
+    scope: u32,
+    objects: &Matches,
+) -> Result<AggValue, NoMemory>
+    requires field { IsUse (λ u. u.sorted) mapping.now (Some field) }
+    requires resolved { AreAggDefinitions mapping.now scope (definitions_of inner.now) }
+    requires joined { some_agg_joins (definitions_of inner.now) ≡ true → AreOrdinals entries.now ordinals.now }
+    requires long { AreLong entries.now objects.now }
+    ensures { (given : List Tree → Object → Option ℕ) → IsSeen mapping.now entries.now scope given objects.now → IfOk result (λ value. IsAnswer mapping.now entries.now scope (value_by mapping.now (AggForm.Terms (Some field) size by_key descending) (definitions_of inner.now)) given (value_of value)) }
+{
+    documents_show_values();
+    let rows = counted(alloc, entries, mapping.kind(field), field, objects)?;
+    let sorted = ordered(rows, by_key, descending)?;
+    let end = sorted.len().min(size as usize);
+    let (first, others) = sorted.as_slice().split_at(end);
+    let other = sum_of_counts(others)?;
+    let buckets = shown(
+        alloc, entries, mapping, ordinals, field, first, inner, scope, objects,
+    )?;
+    Ok(AggValue::Buckets {
+        buckets: BucketList::of(buckets),
+        other,
+    })
+}
+
+/// The buckets of values, in their order.
+#[cycle(answers)]
+fn shown(
+    alloc: Global,
+    entries: &[Entry],
+    mapping: &Mapping,
+    ordinals: &JoinOrdinals,
+    field: u32,
+    rows: &[CountRow],
+    inner: &AggList,
+    scope: u32,
+    objects: &Matches,
+) -> Result<Vec<Bucket>, NoMemory>
+    requires field { IsUse (λ u. u.sorted) mapping.now (Some field) }
+    requires keys { AreKeys (kind_at mapping.now field) rows.now }
+    requires resolved { AreAggDefinitions mapping.now scope (definitions_of inner.now) }
+    requires joined { some_agg_joins (definitions_of inner.now) ≡ true → AreOrdinals entries.now ordinals.now }
+    requires long { AreLong entries.now objects.now }
+    ensures { (given : List Tree → Object → Option ℕ) → IsSeen mapping.now entries.now scope given objects.now → IfOk result (λ buckets. IsAnswer mapping.now entries.now scope (buckets_by mapping.now field (definitions_of inner.now) rows.now) given (map bucket_part buckets.items)) }
+{
+    let mut buckets = Vec::with_capacity(alloc, rows.len())?;
+    'rows: for at in 0..rows.len() {
+        let bucket = bucket(
+            alloc, entries, mapping, ordinals, field, &rows[at], inner, scope, objects,
+        )?;
+        buckets.push(bucket)?;
+    }
+    Ok(buckets)
+}
+
+/// The bucket of a value: the definitions inside are answered over the objects that show it.
+#[cycle(answers)]
+fn bucket(
+    alloc: Global,
+    entries: &[Entry],
+    mapping: &Mapping,
+    ordinals: &JoinOrdinals,
+    field: u32,
+    row: &CountRow,
+    inner: &AggList,
+    scope: u32,
+    objects: &Matches,
+) -> Result<Bucket, NoMemory>
+    requires field { IsUse (λ u. u.sorted) mapping.now (Some field) }
+    requires key { IsValueOf (kind_at mapping.now field) row.now.key }
+    requires resolved { AreAggDefinitions mapping.now scope (definitions_of inner.now) }
+    requires joined { some_agg_joins (definitions_of inner.now) ≡ true → AreOrdinals entries.now ordinals.now }
+    requires long { AreLong entries.now objects.now }
+    ensures { (given : List Tree → Object → Option ℕ) → IsSeen mapping.now entries.now scope given objects.now → IfOk result (λ bucket. IsAnswer mapping.now entries.now scope (bucket_by mapping.now field (definitions_of inner.now) row.now) given (bucket_part bucket)) }
+{
+    let key = copied(alloc, &row.key)?;
+    let count = row.count;
+    if inner.as_slice().is_empty() {
+        return Ok(Bucket {
+            key,
+            count,
+            inner: AggReplies::of(Vec::new(alloc)),
+        });
+    }
+    let value = copied(alloc, &row.key)?;
+    let query = Query::Term {
+        field: Some(field),
+        value,
+        boost: 1,
+    };
+    let those = filtered(alloc, entries, mapping, ordinals, &query, scope, objects)?;
+    let replies = replies(
+        alloc,
+        entries,
+        mapping,
+        ordinals,
+        inner.as_slice(),
+        scope,
+        &those,
+    )?;
+    Ok(Bucket {
+        key,
+        count,
+        inner: AggReplies::of(replies),
+    })
+}
+
+/// The least value of a field; None where there is none.
+fn least(entries: &[Entry], field: Option<u32>, objects: &Matches) -> Result<Option<i64>, NoMemory>
+    requires { AreLong entries.now objects.now }
+    ensures { (m : Meaning) (n : ℕ) (given : List Tree → Object → Option ℕ) → IsUse (λ u. u.summed) m field → IsSeen m entries.now n given objects.now → IfOk result (IsAnswer m entries.now n (least_by m field) given) }
+{
+    documents_show_values();
+    match field {
+        Some(field) => {
+            let sums = summed(entries, field, objects)?;
+            Ok(sums.least)
+        }
+        None => Ok(None),
+    }
+}
+
+/// The greatest value of a field; None where there is none.
+fn greatest(
+    entries: &[Entry],
+    field: Option<u32>,
+    objects: &Matches,
+) -> Result<Option<i64>, NoMemory>
+    requires { AreLong entries.now objects.now }
+    ensures { (m : Meaning) (n : ℕ) (given : List Tree → Object → Option ℕ) → IsUse (λ u. u.summed) m field → IsSeen m entries.now n given objects.now → IfOk result (IsAnswer m entries.now n (greatest_by m field) given) }
+{
+    documents_show_values();
+    match field {
+        Some(field) => {
+            let sums = summed(entries, field, objects)?;
+            Ok(sums.greatest)
+        }
+        None => Ok(None),
+    }
+}
+
+/// The sum of the values of a field, clamped to 64 bits; 0 where there is none.
+fn sum(entries: &[Entry], field: Option<u32>, objects: &Matches) -> Result<i64, NoMemory>
+    requires { AreLong entries.now objects.now }
+    ensures { (m : Meaning) (n : ℕ) (given : List Tree → Object → Option ℕ) → IsUse (λ u. u.summed) m field → IsSeen m entries.now n given objects.now → IfOk result (IsAnswer m entries.now n (sum_by_field m field) given) }
+{
+    documents_show_values();
+    match field {
+        Some(field) => {
+            let sums = summed(entries, field, objects)?;
+            Ok(sums.sum())
+        }
+        None => Ok(0),
+    }
+}
+
+/// How many values of a field there are, repeats included.
+fn count(
+    entries: &[Entry],
+    mapping: &Mapping,
+    field: Option<u32>,
+    objects: &Matches,
+) -> Result<i64, NoMemory>
+    requires field { IsUse (λ u. u.sorted) mapping.now field }
+    requires long { AreLong entries.now objects.now }
+    ensures { (n : ℕ) (given : List Tree → Object → Option ℕ) → IsSeen mapping.now entries.now n given objects.now → IfOk result (IsAnswer mapping.now entries.now n (count_by_field mapping.now field) given) }
+{
+    documents_show_values();
+    match field {
+        Some(field) => {
+            let count = value_count(entries, mapping.kind(field), field, objects)?;
+            let number = as_number(count)?;
+            Ok(number)
+        }
+        None => Ok(0),
+    }
+}
+
+/// A count as a number. `NoMemory` where it has more than 63 bits.
+fn as_number(count: u64) -> Result<i64, NoMemory>
+    ensures { IfOk result (λ number. number ≡ pos count) }
+{
+    if count > i64::MAX as u64 {
+        return Err(NoMemory);
+    }
+    Ok(count as i64)
+}

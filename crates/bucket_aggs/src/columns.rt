@@ -1,0 +1,123 @@
+//! The ordinals that documents have in the column of a field of texts, counted.
+
+ghost use Rattle.std.specs.Prelude.{◌≡◌, List, [], ◌∷◌, false, map, slice_index_or, OnOk};
+ghost use Rattle.std.specs.List.Sorted.{IsSorted};
+ghost use Rattle.std.specs.Ordering.{nat_cmp};
+ghost use Rattle.doc_values.specs.Values.{values_of};
+ghost use Rattle.query_ast.specs.Uses.{is_written};
+ghost use Rattle.segment_parts.specs.Text.{marked_places};
+ghost use Rattle.bucket_aggs.specs.Counts.{Counted};
+
+use crate::NoMemory;
+use crate::distinct::is_again;
+use block_bits::BitSet;
+use doc_values::{OrdinalColumn, Values};
+use mapping::Kind;
+
+/// How many rows of a column there may be for each document of a set where all rows are walked over.
+const ROWS_EACH: u32 = 8;
+
+/// Adds the documents of a set to the counts of the ordinals that they have; the first count is that of the ordinal `first`.
+///
+/// Where the set has most documents of the column its rows are walked over, else each document's row is looked for.
+pub(crate) fn count_ordinals(
+    set: &BitSet,
+    column: &OrdinalColumn,
+    first: u64,
+    counts: &mut Vec<u64>,
+) -> Result<(), NoMemory>
+    ensures { OnOk result (Counted first (map (λ doc. values_of doc column.now) (marked_places 0 set.now)) counts.old.items counts.new.items) }
+{
+    if column.rows() / ROWS_EACH < set.count() {
+        count_rows(set, column, first, counts)
+    } else {
+        count_documents(set, column, first, counts)
+    }
+}
+
+/// The same, document by document.
+fn count_documents(
+    set: &BitSet,
+    column: &OrdinalColumn,
+    first: u64,
+    counts: &mut Vec<u64>,
+) -> Result<(), NoMemory>
+    ensures { OnOk result (Counted first (map (λ doc. values_of doc column.now) (marked_places 0 set.now)) counts.old.items counts.new.items) }
+{
+    let mut walk = set.walk();
+    'documents: while let Some(doc) = walk.next() {
+        let _ascending = column.count(doc);
+        count_values(column.values(doc), first, counts)?;
+    }
+    Ok(())
+}
+
+/// The same, row by row.
+fn count_rows(
+    set: &BitSet,
+    column: &OrdinalColumn,
+    first: u64,
+    counts: &mut Vec<u64>,
+) -> Result<(), NoMemory>
+    ensures { OnOk result (Counted first (map (λ doc. values_of doc column.now) (marked_places 0 set.now)) counts.old.items counts.new.items) }
+{
+    let _ascending = column.values(0);
+    'rows: for row in 0..column.rows() {
+        let doc = column.doc(row);
+        if is_in(set, doc) {
+            count_values(column.row_values(row), first, counts)?;
+        }
+    }
+    Ok(())
+}
+
+/// Whether the values of fields of this kind are texts.
+pub(crate) fn is_text(kind: Kind) -> bool
+    ensures { result ≡ is_written kind }
+{
+    match kind {
+        Kind::Text | Kind::Keyword => true,
+        Kind::Long | Kind::Boolean | Kind::Date | Kind::Object | Kind::Nested | Kind::Join => false,
+    }
+}
+
+/// Whether a document is in a set; one that isn't there is in none.
+fn is_in(set: &BitSet, doc: u32) -> bool
+    ensures { result ≡ slice_index_or set.now doc false }
+{
+    doc < set.len() && set.has(doc)
+}
+
+/// Adds one to the count of each ordinal of a document, once for each.
+fn count_values(values: Values<u64>, first: u64, counts: &mut Vec<u64>) -> Result<(), NoMemory>
+    requires { IsSorted nat_cmp values }
+    ensures { OnOk result (Counted first (values.entry ∷ []) counts.old.items counts.new.items) }
+{
+    let mut values = values;
+    let mut before = None;
+    'values: while let Some(ordinal) = values.next() {
+        if !is_again(before, ordinal) {
+            count_one(ordinal, first, counts)?;
+            before = Some(ordinal);
+        }
+    }
+    Ok(())
+}
+
+/// Adds one to the count of an ordinal, if it has one.
+fn count_one(ordinal: u64, first: u64, counts: &mut Vec<u64>) -> Result<(), NoMemory>
+    ensures { OnOk result (Counted first ((ordinal ∷ []) ∷ []) counts.old.items counts.new.items) }
+{
+    if ordinal < first {
+        return Ok(());
+    }
+    let at = (ordinal - first) as usize;
+    if at >= counts.len() {
+        return Ok(());
+    }
+    let Some(more) = counts[at].checked_add(1) else {
+        return Err(NoMemory);
+    };
+    counts[at] = more;
+    Ok(())
+}

@@ -1,0 +1,20 @@
+//! Buckets: what is counted of objects, up and down the nesting and across the join.
+//!
+//! Stands on `query_eval` for filters and for the ways up, down and across, and on `segment` for the values of documents. The
+//! objects are those of one scope that the documents of a view stand for, a set of bits for each entry. The contract that
+//! others use is that of `buckets`, whose replies are `bucket_replies` of `query_ast`. Begin with `specs/Given`, then `answers`.
+#![tactic(auto)]
+
+mod answers;
+mod columns;
+mod distinct;
+mod found;
+mod metrics;
+mod no_memory;
+mod objects;
+mod rows;
+mod terms;
+
+pub use answers::buckets;
+pub use found::found_buckets;
+pub use no_memory::NoMemory;

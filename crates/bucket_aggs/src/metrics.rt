@@ -1,0 +1,196 @@
+//! What the values of a field come to over all objects.
+
+ghost use Rattle.std.specs.Prelude.{◌≡◌, ◌++◌, ℕ, ℤ, List, [], ◌∷◌, map, length, sum_by, is_some, IfOk, OnOk, Some, None};
+ghost use Rattle.std.specs.List.{flat_map};
+ghost use Rattle.std.specs.Int.{saturate_signed, w64};
+ghost use Rattle.doc_values.specs.Values.{values_of};
+ghost use Rattle.query_eval.specs.Found.{AreLong};
+ghost use Rattle.segment.specs.Flat.{flat_of};
+ghost use Rattle.segment_parts.specs.Text.{marked_places};
+ghost use Rattle.bucket_aggs.specs.Counts.{flats_of_view};
+ghost use Rattle.bucket_aggs.specs.Sums.{IsSummary, above, below, first_of, numbers_in, values_in};
+
+use crate::NoMemory;
+use crate::columns::is_text;
+use block_bits::BitSet;
+use block_join::Matches;
+use doc_values::{Column, ColumnValue, NumberColumn, Values};
+use mapping::Kind;
+use segment::{Segment, values_are_of_documents};
+use segment_view::Entry;
+
+/// How many numbers there are, their sum, the least and the greatest.
+#[derive(Clone, Copy)]
+pub(crate) struct Summary {
+    pub(crate) count: u64,
+    pub(crate) total: i128,
+    pub(crate) least: Option<i64>,
+    pub(crate) greatest: Option<i64>,
+}
+
+impl Summary {
+    /// Of no numbers.
+    pub(crate) fn none() -> Summary
+        ensures { IsSummary [] result }
+    {
+        Summary {
+            count: 0,
+            total: 0,
+            least: None,
+            greatest: None,
+        }
+    }
+
+    /// With one number more. `NoMemory` where 2^64 were added, or their sum has no 128 bits.
+    fn add(&mut self, number: i64) -> Result<(), NoMemory>
+        ensures { (zs : List ℤ) → IsSummary zs self.old → OnOk result (IsSummary (zs ++ number ∷ []) self.new) }
+    {
+        let Some(count) = self.count.checked_add(1) else {
+            return Err(NoMemory);
+        };
+        let Some(total) = self.total.checked_add(i128::from(number)) else {
+            return Err(NoMemory);
+        };
+        *self = Summary {
+            count,
+            total,
+            least: Some(lesser(self.least, number)),
+            greatest: Some(greater(self.greatest, number)),
+        };
+        Ok(())
+    }
+
+    /// The sum, clamped to 64 bits.
+    pub(crate) fn sum(&self) -> i64
+        ensures { result ≡ saturate_signed w64 self.now.total }
+    {
+        self.total.clamp(i128::from(i64::MIN), i128::from(i64::MAX)) as i64
+    }
+}
+
+/// The least so far, with a number more.
+fn lesser(least: Option<i64>, number: i64) -> i64
+    ensures { result ≡ first_of below least number }
+{
+    match least {
+        Some(least) => if number < least { number } else { least },
+        None => number,
+    }
+}
+
+/// The greatest so far, with a number more.
+fn greater(greatest: Option<i64>, number: i64) -> i64
+    ensures { result ≡ first_of above greatest number }
+{
+    match greatest {
+        Some(greatest) => if greatest < number { number } else { greatest },
+        None => number,
+    }
+}
+
+/// What the numbers of a field come to over all objects.
+pub(crate) fn summed(entries: &[Entry], field: u32, objects: &Matches) -> Result<Summary, NoMemory>
+    requires { AreLong entries.now objects.now }
+    ensures { IfOk result (IsSummary (flat_map (numbers_in field) (flats_of_view entries.now objects.now))) }
+{
+    let objects = objects.as_slice();
+    let mut sums = Summary::none();
+    'entries: for at in 0..entries.len() {
+        add_numbers(entries[at].segment(), field, objects[at].set(), &mut sums)?;
+    }
+    Ok(sums)
+}
+
+/// Adds the numbers of the documents of a set.
+fn add_numbers(
+    segment: &Segment,
+    field: u32,
+    set: &BitSet,
+    sums: &mut Summary,
+) -> Result<(), NoMemory>
+    ensures { (zs : List ℤ) → IsSummary zs sums.old → OnOk result (IsSummary (zs ++ flat_map (numbers_in field) (map (flat_of segment.now) (marked_places 0 set.now))) sums.new) }
+{
+    values_are_of_documents(segment);
+    let Some(column) = segment.numbers(field) else {
+        return Ok(());
+    };
+    add_documents(set, &column, sums)?;
+    Ok(())
+}
+
+/// Adds the numbers that the documents of a set have in a column.
+fn add_documents(set: &BitSet, column: &NumberColumn, sums: &mut Summary) -> Result<(), NoMemory>
+    ensures { (zs : List ℤ) → IsSummary zs sums.old → OnOk result (IsSummary (zs ++ flat_map (λ doc. values_of doc column.now) (marked_places 0 set.now)) sums.new) }
+{
+    let mut walk = set.walk();
+    'documents: while let Some(doc) = walk.next() {
+        add_values(column.values(doc), sums)?;
+    }
+    Ok(())
+}
+
+/// Adds the numbers of a document.
+fn add_values(values: Values<i64>, sums: &mut Summary) -> Result<(), NoMemory>
+    ensures { (zs : List ℤ) → IsSummary zs sums.old → OnOk result (IsSummary (zs ++ values.entry) sums.new) }
+{
+    let mut values = values;
+    'values: while let Some(number) = values.next() {
+        sums.add(number)?;
+    }
+    Ok(())
+}
+
+/// How many values of a field of this kind all objects show, repeats included.
+pub(crate) fn value_count(
+    entries: &[Entry],
+    kind: Kind,
+    field: u32,
+    objects: &Matches,
+) -> Result<u64, NoMemory>
+    requires { AreLong entries.now objects.now }
+    ensures { IfOk result (λ count. count ≡ sum_by (values_in kind field) (flats_of_view entries.now objects.now)) }
+{
+    let objects = objects.as_slice();
+    let mut count: u64 = 0;
+    'entries: for at in 0..entries.len() {
+        let own = own_count(entries[at].segment(), kind, field, objects[at].set())?;
+        let Some(more) = count.checked_add(own) else {
+            return Err(NoMemory);
+        };
+        count = more;
+    }
+    Ok(count)
+}
+
+/// Those of the documents of a set.
+fn own_count(segment: &Segment, kind: Kind, field: u32, set: &BitSet) -> Result<u64, NoMemory>
+    ensures { IfOk result (λ count. count ≡ sum_by (values_in kind field) (map (flat_of segment.now) (marked_places 0 set.now))) }
+{
+    values_are_of_documents(segment);
+    if is_text(kind) {
+        match segment.ordinals(field) {
+            Some(column) => Ok(column_count(set, &column)?),
+            None => Ok(0),
+        }
+    } else {
+        match segment.numbers(field) {
+            Some(column) => Ok(column_count(set, &column)?),
+            None => Ok(0),
+        }
+    }
+}
+
+/// How many values the documents of a set have in a column.
+fn column_count<T: ColumnValue>(set: &BitSet, column: &Column<T>) -> Result<u64, NoMemory>
+    ensures { IfOk result (λ count. count ≡ sum_by (λ doc. length (values_of doc column.now)) (marked_places 0 set.now)) }
+{
+    let mut count: u64 = 0;
+    let mut walk = set.walk();
+    'documents: while let Some(doc) = walk.next() {
+        let Some(more) = count.checked_add(u64::from(column.count(doc))) else {
+            return Err(NoMemory);
+        };
+        count = more;
+    }
+    Ok(count)
+}

@@ -1,0 +1,82 @@
+//! The objects that the documents of a view stand for, as sets of documents.
+
+ghost use Rattle.std.specs.Prelude.{◌≡◌, ℕ, true, List, Option, sum_by, IfOk};
+ghost use Rattle.block_join.specs.declared.rule.Rule.{Rule};
+ghost use Rattle.bucket_aggs.specs.Counts.{marked_count};
+ghost use Rattle.bucket_aggs.specs.Given.{as_ones};
+ghost use Rattle.join_ordinals.specs.Ordinals.{AreOrdinals};
+ghost use Rattle.query_ast.specs.Clause.View.{clause_of};
+ghost use Rattle.query_ast.specs.Joins.{joins};
+ghost use Rattle.query_ast.specs.Resolved.{IsResolved};
+ghost use Rattle.query_eval.specs.Folds.{paired_by};
+ghost use Rattle.query_eval.specs.Found.{AreLong, IsSeen, score_by};
+ghost use Rattle.tree_objects.specs.Object.{Object};
+ghost use Rattle.tree_objects.specs.Tree.{Tree};
+
+use crate::NoMemory;
+use block_join::{Matches, Rule};
+use join_ordinals::JoinOrdinals;
+use mapping::Mapping;
+use query_ast::Query;
+use query_eval::{found, merged_hits};
+use segment_view::Entry;
+use std::alloc::Global;
+
+/// The same documents, all with one score: a set of bits for each entry.
+pub(crate) fn alike(
+    alloc: Global,
+    entries: &[Entry],
+    mapping: &Mapping,
+    ordinals: &JoinOrdinals,
+    scope: u32,
+    hits: &Matches,
+) -> Result<Matches, NoMemory>
+    requires { AreLong entries.now hits.now }
+    ensures long { IfOk result (AreLong entries.now) }
+    ensures seen { (given : List Tree → Object → Option ℕ) → IsSeen mapping.now entries.now scope given hits.now → IfOk result (IsSeen mapping.now entries.now scope (as_ones mapping.now given)) }
+{
+    let all = found(
+        alloc,
+        entries,
+        mapping,
+        ordinals,
+        &Query::MatchAll { boost: 1 },
+        scope,
+    )?;
+    Ok(merged_hits(alloc, entries, &all, hits, Rule::Kept)?)
+}
+
+/// Of the objects those that hit.
+pub(crate) fn filtered(
+    alloc: Global,
+    entries: &[Entry],
+    mapping: &Mapping,
+    ordinals: &JoinOrdinals,
+    query: &Query,
+    scope: u32,
+    objects: &Matches,
+) -> Result<Matches, NoMemory>
+    requires resolved { IsResolved mapping.now scope (clause_of query.now) }
+    requires joined { joins (clause_of query.now) ≡ true → AreOrdinals entries.now ordinals.now }
+    requires long { AreLong entries.now objects.now }
+    ensures long { IfOk result (AreLong entries.now) }
+    ensures seen { (given : List Tree → Object → Option ℕ) → IsSeen mapping.now entries.now scope given objects.now → IfOk result (IsSeen mapping.now entries.now scope (paired_by Rule.Kept given (score_by mapping.now (clause_of query.now)))) }
+{
+    let hits = found(alloc, entries, mapping, ordinals, query, scope)?;
+    Ok(merged_hits(alloc, entries, objects, &hits, Rule::Kept)?)
+}
+
+/// How many objects there are.
+pub(crate) fn count_of(objects: &Matches) -> Result<u64, NoMemory>
+    ensures { IfOk result (λ count. count ≡ sum_by marked_count objects.now) }
+{
+    let objects = objects.as_slice();
+    let mut count: u64 = 0;
+    'entries: for at in 0..objects.len() {
+        let Some(more) = count.checked_add(u64::from(objects[at].set().count())) else {
+            return Err(NoMemory);
+        };
+        count = more;
+    }
+    Ok(count)
+}

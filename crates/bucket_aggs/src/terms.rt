@@ -1,0 +1,210 @@
+//! The values of a field over all entries of a view, each with the number of objects that show it.
+
+ghost use Rattle.std.specs.Prelude.{◌≡◌, ◌<◌, ◌≤◌, ◌+◌, ℕ, List, true, false, count_by, length, map, replicate, IfOk, OnOk};
+ghost use Rattle.std.specs.List.{AllByRecursion};
+ghost use Rattle.mapping_body.specs.declared.kind.Kind.{Kind as Kinds};
+ghost use Rattle.query_ast.specs.Uses.{is_written};
+ghost use Rattle.query_eval.specs.Found.{AreLong};
+ghost use Rattle.segment.specs.Flat.{flat_of};
+ghost use Rattle.segment_parts.specs.Text.{marked_places};
+ghost use Rattle.tree_objects.specs.declared.field_value.FieldValue.{FieldValue as Value};
+ghost use Rattle.bucket_aggs.specs.Counts.{AreCounts, AreKeys, Weighed, count_if, counts_of, flats_of_view, is_number, is_term, term_key, weight};
+
+use crate::NoMemory;
+use crate::columns::{count_ordinals, is_text};
+use crate::distinct::distinct_values;
+use crate::rows::{CountRow, add, merged};
+use block_bits::BitSet;
+use block_join::Matches;
+use mapping::Kind;
+use segment::{Segment, values_are_of_documents};
+use segment_view::Entry;
+use std::alloc::Global;
+use term_table::TermTable;
+use tree_objects::{Bytes, FieldValue};
+
+/// The values of a field of this kind, by ascending value, each with the number of objects that show it.
+pub(crate) fn counted(
+    alloc: Global,
+    entries: &[Entry],
+    kind: Kind,
+    field: u32,
+    objects: &Matches,
+) -> Result<Vec<CountRow>, NoMemory>
+    requires { AreLong entries.now objects.now }
+    ensures { IfOk result (λ rows. AreCounts kind field (flats_of_view entries.now objects.now) rows.items) }
+{
+    let objects = objects.as_slice();
+    let mut rows = Vec::new(alloc);
+    'entries: for at in 0..entries.len() {
+        add_rows(
+            alloc,
+            entries[at].segment(),
+            kind,
+            field,
+            objects[at].set(),
+            &mut rows,
+        )?;
+    }
+    Ok(merged(alloc, rows)?)
+}
+
+/// Adds the values that the documents of a set show.
+fn add_rows(
+    alloc: Global,
+    segment: &Segment,
+    kind: Kind,
+    field: u32,
+    set: &BitSet,
+    rows: &mut Vec<CountRow>,
+) -> Result<(), NoMemory>
+    ensures counts { OnOk result (Weighed kind field (map (flat_of segment.now) (marked_places 0 set.now)) rows.old.items rows.new.items) }
+    ensures keys { AreKeys kind rows.old.items → OnOk result (AreKeys kind rows.new.items) }
+{
+    if is_text(kind) {
+        add_texts(alloc, segment, kind, field, set, rows)
+    } else {
+        add_numbers(alloc, segment, kind, field, set, rows)
+    }
+}
+
+/// How many terms of a field there may be for each document of a set where a count is kept for each term.
+const TERMS_EACH: u64 = 64;
+
+/// Those of a keyword field: a row for each term of the field that some document has, counted by ordinal. Where the documents
+/// are few beside the terms, their ordinals are sorted.
+fn add_texts(
+    alloc: Global,
+    segment: &Segment,
+    kind: Kind,
+    field: u32,
+    set: &BitSet,
+    rows: &mut Vec<CountRow>,
+) -> Result<(), NoMemory>
+    requires { is_written kind ≡ true }
+    ensures counts { OnOk result (Weighed kind field (map (flat_of segment.now) (marked_places 0 set.now)) rows.old.items rows.new.items) }
+    ensures keys { AreKeys kind rows.old.items → OnOk result (AreKeys kind rows.new.items) }
+{
+    values_are_of_documents(segment);
+    let _documents = segment.docs();
+    let Some(column) = segment.ordinals(field) else {
+        return Ok(());
+    };
+    let terms = segment.terms();
+    let _ascending = terms.count();
+    let (first, end) = terms.field_range(field);
+    let few = u64::from(set.count()) < (end - first) / TERMS_EACH;
+    if few {
+        let _sorted = column.values(0);
+        let mut ordinals = distinct_values(alloc, set, &column)?;
+        ordinals.sort_unstable();
+        let sorted = ordinals.as_slice();
+        put_ordinals(alloc, &terms, sorted, rows)?;
+        return Ok(());
+    }
+    let mut counts = no_counts(alloc, (end - first) as usize)?;
+    count_ordinals(set, &column, first, &mut counts)?;
+    put_terms(alloc, &terms, first, counts.as_slice(), rows)?;
+    Ok(())
+}
+
+/// Adds one to the count of the term of each of these ordinals.
+fn put_ordinals(
+    alloc: Global,
+    terms: &TermTable,
+    ordinals: &[u64],
+    rows: &mut Vec<CountRow>,
+) -> Result<(), NoMemory>
+    requires { AllByRecursion (λ ordinal. ordinal < length terms.now) ordinals.now }
+    ensures counts { (v : Value) → OnOk result (weight v rows.new.items ≡ weight v rows.old.items + count_by (is_term terms.now v) ordinals.now) }
+    ensures keys { (kind : Kinds) → is_written kind ≡ true → AreKeys kind rows.old.items → OnOk result (AreKeys kind rows.new.items) }
+{
+    'ordinals: for at in 0..ordinals.len() {
+        put_term(alloc, terms, ordinals[at], 1, rows)?;
+    }
+    Ok(())
+}
+
+/// So many counts of nothing.
+fn no_counts(alloc: Global, count: usize) -> Result<Vec<u64>, NoMemory>
+    ensures { IfOk result (λ counts. counts.items ≡ replicate count 0) }
+{
+    let mut counts = Vec::with_capacity(alloc, count)?;
+    counts.resize(count, 0)?;
+    Ok(counts)
+}
+
+/// Adds a row for each term with a count; the first count is that of the term with the ordinal `first`.
+fn put_terms(
+    alloc: Global,
+    terms: &TermTable,
+    first: u64,
+    counts: &[u64],
+    rows: &mut Vec<CountRow>,
+) -> Result<(), NoMemory>
+    requires { first + length counts.now ≤ length terms.now }
+    ensures counts { (v : Value) → OnOk result (weight v rows.new.items ≡ weight v rows.old.items + counts_of terms.now first v counts.now 0 (length counts.now)) }
+    ensures keys { (kind : Kinds) → is_written kind ≡ true → AreKeys kind rows.old.items → OnOk result (AreKeys kind rows.new.items) }
+{
+    let _all = terms.count();
+    'terms: for at in 0..counts.len() {
+        put_term(alloc, terms, first + at as u64, counts[at], rows)?;
+    }
+    Ok(())
+}
+
+/// Adds a row for a term, unless no document has it.
+fn put_term(
+    alloc: Global,
+    terms: &TermTable,
+    ordinal: u64,
+    count: u64,
+    rows: &mut Vec<CountRow>,
+) -> Result<(), NoMemory>
+    requires { ordinal < length terms.now }
+    ensures counts { (v : Value) → OnOk result (weight v rows.new.items ≡ weight v rows.old.items + count_if v (term_key terms.now ordinal) count) }
+    ensures keys { (kind : Kinds) → is_written kind ≡ true → AreKeys kind rows.old.items → OnOk result (AreKeys kind rows.new.items) }
+{
+    if count == 0 {
+        return Ok(());
+    }
+    let (_, bytes) = terms.term(ordinal);
+    let key = FieldValue::Written(Bytes::of(Vec::from_slice(alloc, bytes)?));
+    add(rows, key, count)?;
+    Ok(())
+}
+
+/// Those of a field of numbers: each document's different numbers, in order.
+fn add_numbers(
+    alloc: Global,
+    segment: &Segment,
+    kind: Kind,
+    field: u32,
+    set: &BitSet,
+    rows: &mut Vec<CountRow>,
+) -> Result<(), NoMemory>
+    requires { is_written kind ≡ false }
+    ensures counts { OnOk result (Weighed kind field (map (flat_of segment.now) (marked_places 0 set.now)) rows.old.items rows.new.items) }
+    ensures keys { AreKeys kind rows.old.items → OnOk result (AreKeys kind rows.new.items) }
+{
+    values_are_of_documents(segment);
+    let Some(column) = segment.numbers(field) else {
+        return Ok(());
+    };
+    let _ascending = column.values(0);
+    let mut numbers = distinct_values(alloc, set, &column)?;
+    numbers.sort_unstable();
+    put_numbers(numbers.as_slice(), rows)?;
+    Ok(())
+}
+
+/// Adds one to the count of each of these numbers.
+fn put_numbers(numbers: &[i64], rows: &mut Vec<CountRow>) -> Result<(), NoMemory>
+    ensures counts { (v : Value) → OnOk result (weight v rows.new.items ≡ weight v rows.old.items + count_by (is_number v) numbers.now) }
+    ensures keys { (kind : Kinds) → is_written kind ≡ false → AreKeys kind rows.old.items → OnOk result (AreKeys kind rows.new.items) }
+{
+    'numbers: for at in 0..numbers.len() {
+        add(rows, FieldValue::Number(numbers[at]), 1)?;
+    }
+    Ok(())
+}
