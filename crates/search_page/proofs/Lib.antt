@@ -3,6 +3,6 @@
 mod Agreeing
 mod Rows
 mod Paged
-mod Found
+mod Filtered
 mod Marks
 mod Shown

@@ -1,8 +1,8 @@
-//! The page of a search over a view: which trees its query hits, in the order of its sort, as its reply shows them.
+//! What a search finds in a view: the page of its hits, and the answers of its buckets.
 //!
-//! Stands on `query_eval` for what a query finds, on `nested_sort` for the keys of what was found, on `hit_order` for the
-//! page that is asked for of it, and on `stored_sources` for ids and sources. The contract that others use is that of
-//! `page`: over any view that stands for live trees it is their `hit_page`. Begin with `pages`, then `hits`.
+//! Stands on `query_eval` for what a query matches, on `nested_sort` and `hit_order` for the page that is asked for of it, on
+//! `stored_sources` for ids and sources, and on `bucket_aggs`. The contract that others use is that of `found`: over any view
+//! that stands for live trees it is their `hit_page` and their `found_buckets`. Begin with `pages`, then `hits`.
 #![tactic(auto)]
 
 mod filters;
@@ -12,4 +12,4 @@ mod ordinals;
 mod pages;
 
 pub use no_memory::NoMemory;
-pub use pages::page;
+pub use pages::{SearchResult, found};

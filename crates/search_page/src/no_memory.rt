@@ -46,3 +46,9 @@ impl From<stored_sources::NoMemory> for NoMemory {
         NoMemory
     }
 }
+
+impl From<bucket_aggs::NoMemory> for NoMemory {
+    fn from(_: bucket_aggs::NoMemory) -> NoMemory {
+        NoMemory
+    }
+}

@@ -4,7 +4,7 @@ use Rattle.query_ast.specs.Resolved.{IsFilter, IsSortKey}
 use Rattle.query_ast.specs.declared.sort.Chain.{Chain}
 use Rattle.query_ast.specs.declared.sort.SortKey.{SortKey}
 use Rattle.query_ast.specs.declared.sort.SortKey.TheVariants.{Field}
-use Rattle.search_page.proofs.Found.{chain_filters}
+use Rattle.search_page.proofs.Filtered.{chain_filters}
 use Rattle.search_page.proofs.filters.add_of_key.Goals as goal
 
 pub add_of_chain-requires-clause-chain : goal.add_of_chain-requires-clause-chain

@@ -2,7 +2,7 @@ use Rattle.std.proofs.Common.{◌++◌, ℕ, List, [], ◌∷◌, Option, sym, s
 use Rattle.nested_sort.specs.Filters.{AreFound, filter_at, filter_of}
 use Rattle.query_ast.specs.Clause.{Clause}
 use Rattle.query_eval.specs.Found.{IsFound}
-use Rattle.search_page.proofs.Found.{found_more}
+use Rattle.search_page.proofs.Filtered.{found_more}
 use Rattle.search_page.proofs.filters.add_of_step.Goals as goal
 
 pub returns-in_ok-push-clause-found : goal.returns-in_ok-push-clause-found
