@@ -42,14 +42,5 @@ pub fn found_buckets<L: Ledger>(
 {
     hits_are_objects();
     let _scopes = mapping.scope_count();
-    Ok(buckets(
-        alloc,
-        view,
-        mapping,
-        ordinals,
-        hits,
-        0,
-        &search.aggs,
-        steps,
-    )?)
+    Ok(buckets(alloc, view, mapping, ordinals, hits, 0, &search.aggs, steps)?)
 }
