@@ -1,6 +1,5 @@
 -- Searches: what the machine finds among trees, as the engine finds it among blocks.
 use Rattle.std.proofs.Common.{◌≡◌, ◌≤◌, ◌+◌, ℕ, Bool, true, false, cond, List, [], ◌∷◌, ◌++◌, length, map, filter, Option, Some, None, is_some, Result, Ok, Err, IsErr, IfOk, OnOk, refl, sym, ap, subst, ◌∙◌, append-nil, arith}
-use Rattle.std.proofs.lemmas.Bool.{and_parts}
 use Rattle.std.proofs.lemmas.List.{map-append}
 use Rattle.std.specs.List.{AllByRecursion, flat_map}
 use Rattle.flattener.specs.Block.{BlockState}
@@ -14,11 +13,7 @@ use Rattle.machine.specs.State.{State, sealed_state}
 use Rattle.machine.specs.declared.limits.Limits.{Limits}
 use Rattle.mapping.specs.IsMapping.{IsMapping}
 use Rattle.mapping.specs.Mapping.{Mapping}
-use Rattle.query_ast.specs.Agg.{Agg}
-use Rattle.query_ast.specs.Buckets.{bucket_replies}
-use Rattle.query_ast.specs.Definition.{Definition, definitions_of}
-use Rattle.query_ast.specs.Hit.{those_hit}
-use Rattle.query_ast.specs.Joined.{roots}
+use Rattle.query_ast.specs.Replies.{ReplyPart}
 use Rattle.query_ast.specs.Search.{found_buckets, hit_page}
 use Rattle.query_ast.specs.declared.hit.HitPage.{HitPage}
 use Rattle.query_ast.specs.declared.search.SearchBody.{SearchBody}
@@ -119,20 +114,15 @@ all_stand (entry ∷ entries) all m (t ∷ trees) is e =
 
 -- ---- what is found
 
-no_buckets : (m : Mapping) (live : List Tree) (search : SearchBody) → search.aggs ≡ [] → found_buckets m live search ≡ []
-unfolding found_buckets
-no_buckets m live search none = ap (λ (aggs : List (Definition Agg)). bucket_replies m live (definitions_of aggs) (those_hit m live search.query (roots live))) none
+pub built_parts : (search : SearchBody) → is_built search ≡ true → search.inner ≡ []
+built_parts search e = none_is search.inner e
 
-pub built_parts : (search : SearchBody) → is_built search ≡ true → (search.inner ≡ []) × (search.aggs ≡ [])
-built_parts search e =
-    let both = and_parts (is_none search.inner) (is_none search.aggs) e in
-    (none_is search.inner both.0, none_is search.aggs both.1)
-
-pub found_same : (m : Mapping) (live : List Tree) (search : SearchBody) (page : HitPage) (trees : List (List (Marked Tree))) → is_built search ≡ true → found_trees trees ≡ live → page ≡ hit_page m (found_trees trees) search → reply.Found page [] ≡ found_by m live search
-found_same m live search page trees built same is =
+pub found_same : (m : Mapping) (live : List Tree) (search : SearchBody) (page : HitPage) (parts : List ReplyPart) (trees : List (List (Marked Tree))) → found_trees trees ≡ live
+    → page ≡ hit_page m (found_trees trees) search → parts ≡ found_buckets m (found_trees trees) search → reply.Found page parts ≡ found_by m live search
+found_same m live search page parts trees same is are =
     let first : page ≡ hit_page m live search = is ∙ ap (λ (l : List Tree). hit_page m l search) same in
-    let none : [] ≡ found_buckets m live search = sym (no_buckets m live search (built_parts search built).1) in
-    λ i. reply.Found (first i) (none i)
+    let rest : parts ≡ found_buckets m live search = are ∙ ap (λ (l : List Tree). found_buckets m l search) same in
+    λ i. reply.Found (first i) (rest i)
 
 -- ---- what the machine answers
 

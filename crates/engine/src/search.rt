@@ -24,11 +24,11 @@ use crate::entries::entries_stand;
 use index_core::IndexCore;
 use machine::Limits;
 use mapping::Mapping;
-use query_ast::{AggReplies, SearchBody};
+use query_ast::SearchBody;
 use query_parser::{SearchRefusal, resolved};
 use reply_text::{Refusal, Reply, TextRefusal, text};
 use search_form::ShapeRefusal;
-use search_page::page;
+use search_page::{SearchResult, found};
 use source_steps::Steps;
 use std::alloc::Global;
 use std::sync::ledger::Ledger;
@@ -86,8 +86,7 @@ fn refuse_search(why: SearchRefusal, out: &mut OutText) -> Result<Ended, NoMemor
     }
 }
 
-/// Answers a search whose body isn't refused. Searches for hits alone are all that is answered until inner hits and buckets
-/// are built.
+/// Answers a search whose body isn't refused. One that asks for inner hits is refused until these are built.
 #[tactic(auto, using(crate::proofs::Answering::left, crate::proofs::Answering::same_faithful))]
 fn search_over<L: Ledger>(
     alloc: Global,
@@ -118,14 +117,14 @@ fn search_over<L: Ledger>(
     write_within(limits, &found, out)
 }
 
-/// Whether hits alone are asked for.
+/// Whether no inner hits are asked for.
 fn is_built(search: &SearchBody) -> bool
     ensures { result ≡ is_built search.now }
 {
-    search.inner.as_slice().is_empty() && search.aggs.as_slice().is_empty()
+    search.inner.as_slice().is_empty()
 }
 
-/// What a search for hits alone finds in a sealed index.
+/// What a search without inner hits finds in a sealed index.
 fn found_by<L: Ledger>(
     alloc: Global,
     mapping: &Mapping,
@@ -144,11 +143,9 @@ fn found_by<L: Ledger>(
     let view = index.view();
     entries_stand(view.entries());
     let mut ordinals = None;
-    let page = page(alloc, view, mapping, search, &mut ordinals, steps)?;
-    Ok(Reply::Found {
-        page,
-        answers: AggReplies::of(Vec::new(alloc)),
-    })
+    let hits = found(alloc, view, mapping, search, &mut ordinals, steps)?;
+    let SearchResult { page, answers } = hits;
+    Ok(Reply::Found { page, answers })
 }
 
 /// Writes a reply, or that its line is longer than the limit.
