@@ -1,5 +1,7 @@
--- To be believed: how items are laid out in segments, what is done to a layout, and numbers that ascend.
+-- To be believed: how items are laid out in segments, what is done to a layout, how few segments settling leaves, and numbers
+-- that ascend.
 pub mod Layout
+pub mod Settled
 pub mod Ascending
 -- These serve proofs alone: a layout of other items.
 pub mod As
