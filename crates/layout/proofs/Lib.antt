@@ -7,3 +7,4 @@ pub mod Looked
 pub mod Merging
 pub mod Settling
 pub mod Changes
+pub mod MergesAs
