@@ -3,11 +3,12 @@ use Rattle.std.proofs.Common.{◌≡◌, ◌+◌, ◌≤◌, ℕ, nat_eq, Bool, 
 use Rattle.std.specs.List.{AllByRecursion, IsDistinct}
 use Rattle.std.specs.Map.{keys_of, lookup, remove_entry}
 use Rattle.std.specs.Option.{option_map}
+use Rattle.std.proofs.lemmas.Bool.Decides.{nat_tests}
 use Rattle.std.proofs.lemmas.Bool.{eqb-true, eq-eqb, true≢false}
 use Rattle.std.proofs.lemmas.List.{length_push, map-append}
 use Rattle.std.proofs.lemmas.Map.Keys.{IsDistinct-head, IsDistinct-tail}
 use Rattle.segment.specs.Live.{EntryState}
-use Rattle.point_in_time.specs.Points.{KeptPoint, ArePoints, entries_at, entries_under, has_point_id, is_open, is_other, most_open, point_of}
+use Rattle.point_in_time.specs.Points.{KeptPoint, KeptPoints, ArePoints, entries_at, entries_under, has_point_id, is_full, is_open, is_other, most_open, point_of}
 
 -- the map's entries: an id each, with the entries of a view
 abbrev pub Views : Type 0
@@ -112,3 +113,7 @@ points_opened opened entries points are room = record {
 pub put_next : (opened : ℕ) (entries : List EntryState) (views views' : Views) → views' ≡ views ++ (opened + 1, entries) ∷ []
     → map point_of views' ≡ map point_of views ++ record { id = opened + 1; entries = entries } ∷ []
 put_next opened entries views views' e = ap (map point_of) e ∙ map-append point_of views ((opened + 1, entries) ∷ [])
+
+-- where not as many are open as may be, there is room for one
+pub room_for_one : (kept : KeptPoints) → is_full kept ≡ false → length kept.points + 1 ≤ most_open
+room_for_one kept free = grind (arith, nat_tests)

@@ -1,5 +1,5 @@
 -- Points in time: the entries of a view each, under ids.
-use Rattle.std.specs.Prelude.{ℕ, ◌+◌, ◌≤◌, ◌==◌, not, Bool, List, [], ◌∷◌, ◌++◌, length, filter, find, Option}
+use Rattle.std.specs.Prelude.{ℕ, ◌+◌, ◌≤◌, ◌==◌, nat_le, not, Bool, List, [], ◌∷◌, ◌++◌, length, filter, find, Option}
 use Rattle.std.specs.List.{AllByRecursion, list_any}
 use Rattle.std.specs.Option.{option_map}
 use Rattle.segment.specs.Live.{EntryState}
@@ -20,6 +20,9 @@ no_points = record { points = []; opened = 0 }
 -- the most that may be open
 abbrev pub most_open : ℕ
 most_open = 500
+
+abbrev pub is_full : KeptPoints → Bool
+is_full kept = nat_le most_open (length kept.points)
 
 abbrev pub has_point_id : ℕ → KeptPoint → Bool
 has_point_id id point = point.id == id

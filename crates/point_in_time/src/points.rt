@@ -1,8 +1,8 @@
 //! The points in time that are open.
 
-ghost use Rattle.std.specs.Prelude.{◌≡◌, ◌≤◌, ◌<◌, ◌+◌, ◌^◌, ◌↔◌, length, Err, IfOk, OnOk, OnErr};
+ghost use Rattle.std.specs.Prelude.{◌≡◌, ◌≤◌, ◌<◌, ◌+◌, ◌^◌, ◌↔◌, true, length, Err, IfOk, OnOk, OnErr};
 ghost use Rattle.std.specs.Option.{option_map};
-ghost use Rattle.point_in_time.specs.Points.{entries_at, entries_under, is_open, most_open, no_points, with_point, without_point};
+ghost use Rattle.point_in_time.specs.Points.{entries_under, is_full, is_open, most_open, no_points, with_point, without_point};
 
 use crate::OpenRefusal;
 use indexmap::IndexMap;
@@ -50,21 +50,35 @@ impl PointsInTime {
         self.views.len() as u64
     }
 
+    /// Whether as many are open as there may be.
+    pub fn is_full(&self) -> bool
+        ensures { result ≡ is_full self.now }
+    {
+        self.open_count() >= MOST_OPEN
+    }
+
     /// Opens a point in time on a view, under the next id.
     pub fn open(&mut self, view: View) -> Result<u64, OpenRefusal>
         requires { self.old.opened < 2 ^ 63 }
         ensures id { IfOk result (λ id. id ≡ self.old.opened + 1) }
         ensures opened { OnOk result (self.new ≡ with_point view self.old) }
-        ensures many { result ≡ Err OpenRefusal.TooMany ↔ most_open ≤ length self.old.points }
+        ensures many { result ≡ Err OpenRefusal.TooMany ↔ is_full self.old ≡ true }
         ensures same { OnErr result (self.new ≡ self.old) }
     {
-        if self.open_count() >= MOST_OPEN {
+        if self.is_full() {
             return Err(OpenRefusal::TooMany);
         }
         let id = self.opened + 1;
         self.views.insert(id, view)?;
         self.opened = id;
         Ok(id)
+    }
+
+    /// Whether a point in time is open under an id.
+    pub fn is_open(&self, id: u64) -> bool
+        ensures { result ≡ is_open id self.now.points }
+    {
+        self.views.contains_key(&id)
     }
 
     /// The view of a point in time; None exactly where none is open under that id.
