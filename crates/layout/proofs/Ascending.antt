@@ -1,5 +1,5 @@
 -- Numbers that ascend: parts of them, and what stands at one place.
-use Rattle.std.proofs.Common.{◌≡◌, ℕ, zero, suc, ◌+◌, ◌<◌, ◌≤◌, Bool, true, false, not, List, [], ◌∷◌, ◌++◌, length, get_or, map, filter, take, drop, refl, sym, ap, ◌∙◌, arith}
+use Rattle.std.proofs.Common.{ℕ, zero, suc, ◌+◌, ◌<◌, ◌≤◌, Bool, List, [], ◌∷◌, ◌++◌, length, get_or, map, filter, arith}
 use Rattle.layout.proofs.Goes.{split}
 use Rattle.layout.specs.Ascending.{Ascend}
 

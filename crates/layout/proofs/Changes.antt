@@ -1,5 +1,5 @@
 -- Numbers and ids of items after a change.
-use Rattle.std.proofs.Common.{◌≡◌, ℕ, ◌+◌, ◌≤◌, nat_le, Bool, true, false, cond, List, [], ◌∷◌, ◌++◌, length, map, filter, Option, Some, None, refl, sym, ap, subst, ◌∙◌, append_assoc, append-nil, arith}
+use Rattle.std.proofs.Common.{◌≡◌, ℕ, ◌+◌, ◌≤◌, nat_le, Bool, true, false, cond, List, [], ◌∷◌, ◌++◌, length, map, filter, Option, Some, None, refl, sym, ap, subst, ◌∙◌, append-nil, arith}
 use Rattle.std.specs.List.{count_by, find, flat_map}
 use Rattle.std.specs.Option.{option_map, option_or}
 use Rattle.std.specs.Str.{bytes_eq}
@@ -7,7 +7,7 @@ use Rattle.std.proofs.lemmas.List.{map-append}
 use Rattle.std.proofs.lemmas.List.Concat.{flat_map-append}
 use Rattle.std.proofs.lemmas.List.Folds.{find-append}
 use Rattle.std.proofs.lemmas.Slice.Eq.{bytes_eq-Decides}
-use Rattle.layout.proofs.Ascending.{ascend_wider, middle, ascend_first, ascend_second, ascend_both, ascend_filter}
+use Rattle.layout.proofs.Ascending.{middle, ascend_first, ascend_second, ascend_both, ascend_filter}
 use Rattle.layout.proofs.Goes.{split, counted, counted_both}
 use Rattle.layout.specs.Ascending.{Ascend}
 use Rattle.layout.specs.Layout.{Marked, SegmentOf, Layout, alive, segment_of, staying, killed_if, killed_in, with_buffer_last, sealed, with_room, buffer_size}

@@ -31,10 +31,10 @@ live_each f (segment ∷ segments) =
 pub live_items_as : {A B : Type 0} (f : A → B) (layout : Layout A) → live_items (layout_as f layout) ≡ map f (live_items layout)
 live_items_as f layout = ap (λ xs. xs ++ map f layout.buffer) (live_each f layout.segments) ∙ sym (map-append f (flat_map live_in layout.segments) layout.buffer)
 
-live_count_as : {A B : Type 0} (f : A → B) (segment : SegmentOf A) → live_count (segment_as f segment) ≡ live_count segment
+pub live_count_as : {A B : Type 0} (f : A → B) (segment : SegmentOf A) → live_count (segment_as f segment) ≡ live_count segment
 live_count_as f segment = ap length (live_in_as f segment) ∙ length-map (live_in segment) f
 
-dead_count_as : {A B : Type 0} (f : A → B) (segment : SegmentOf A) → dead_count (segment_as f segment) ≡ dead_count segment
+pub dead_count_as : {A B : Type 0} (f : A → B) (segment : SegmentOf A) → dead_count (segment_as f segment) ≡ dead_count segment
 dead_count_as f segment = rw (length-map segment.items (marked_as f), live_count_as f segment) refl
 
 -- ---- a range gives way
@@ -47,7 +47,7 @@ segment_of_as : {A B : Type 0} (f : A → B) (id : ℕ) (xs : List A) → segmen
 segment_of_as f id [] = refl
 segment_of_as f id (x ∷ xs) = ap (λ zs. record { id = id; items = alive (f x) ∷ zs } ∷ []) (alive_as f xs)
 
-live_of_range_as : {A B : Type 0} (f : A → B) (from count : ℕ) (layout : Layout A) → live_of_range from count (layout_as f layout) ≡ map f (live_of_range from count layout)
+pub live_of_range_as : {A B : Type 0} (f : A → B) (from count : ℕ) (layout : Layout A) → live_of_range from count (layout_as f layout) ≡ map f (live_of_range from count layout)
 live_of_range_as f from count layout =
     ap (λ xs. flat_map live_in (take count xs)) (drop-map (segment_as f) from layout.segments)
     ∙ ap (flat_map live_in) (take-map (segment_as f) count (drop from layout.segments))

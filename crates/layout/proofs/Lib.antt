@@ -4,4 +4,7 @@ pub mod Keeps
 pub mod Goes
 pub mod Ascending
 pub mod Looked
+pub mod Merging
+pub mod Settling
 pub mod Changes
+pub mod MergesAs

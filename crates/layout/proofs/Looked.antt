@@ -1,12 +1,11 @@
 -- What is looked up by a test is what stands where its number does.
-use Rattle.std.proofs.Common.{◌≡◌, ◌⊎◌, inl, inr, ℕ, zero, suc, ◌+◌, ◌<◌, ◌≤◌, Bool, true, false, cond, List, [], ◌∷◌, ◌++◌, length, map, filter, slice_get, Option, Some, None, refl, sym, ap, subst, ◌∙◌, append_assoc, arith}
+use Rattle.std.proofs.Common.{◌≡◌, ◌⊎◌, inl, inr, ℕ, zero, suc, ◌+◌, ◌<◌, ◌≤◌, Bool, true, cond, List, [], ◌∷◌, ◌++◌, map, filter, slice_get, Option, Some, None, refl, sym, ap, subst, ◌∙◌, arith}
 use Rattle.std.specs.List.{count_by, sum_by, find, flat_map}
 use Rattle.std.specs.Option.{option_or}
-use Rattle.std.proofs.lemmas.List.{map-append}
 use Rattle.std.proofs.lemmas.List.Folds.{find-append}
 use Rattle.std.proofs.lemmas.List.Sums.{sum_by-cons}
-use Rattle.layout.specs.Layout.{Marked, SegmentOf, is_live, item_in, live_in, staying}
-use Rattle.layout.proofs.Ascending.{ascend_end, ascend_wider, middle, ascend_first, ascend_second}
+use Rattle.layout.specs.Layout.{Marked, SegmentOf, live_in, staying}
+use Rattle.layout.proofs.Ascending.{ascend_end, middle, ascend_first, ascend_second}
 use Rattle.layout.proofs.Goes.{split, live, counted, none_goes}
 use Rattle.layout.specs.Ascending.{Ascend}
 

@@ -7,4 +7,6 @@
 
 mod law;
 
-pub use law::{layouts_are_alike, layouts_keep_what_is_live};
+pub use law::{
+    layouts_are_alike, layouts_keep_what_is_live, merges_are_alike, merges_keep_what_is_live,
+};

@@ -4,6 +4,7 @@ use Rattle.std.specs.Str.{bytes_eq}
 use Rattle.layout.specs.Layout.{live_items, staying, with_change}
 use Rattle.layout.proofs.Keeps.{sealed_keeps, change_keeps}
 use Rattle.line_reader.specs.Request.{Request}
+use Rattle.request_form.specs.Asked.{Asked, asked_of}
 use Rattle.tree_objects.specs.Tree.{Tree, has_id, without}
 use Rattle.machine.specs.State.{State, IsLaid}
 use Rattle.machine.specs.Step.{step}
@@ -25,13 +26,15 @@ change_laid id new state laid =
     ∙ ap (λ ts. filter (staying (has_id id)) ts ++ new) laid
     ∙ ap (λ ts. ts ++ new) (stays id state.content.live)
 
-laid_stays : Stays IsLaid
-laid_stays = record {
-  sealed = λ state laid. sealed_keeps state.layout ∙ laid;
+laid_stays : (asked : Asked) → Stays IsLaid asked
+laid_stays asked = record {
+  laid = record { sealed = λ state laid. sealed_keeps state.layout ∙ laid; relaid = λ layout state same laid. same ∙ laid };
   mapped = λ m state laid. laid;
   put = λ m tree state next laid. change_laid tree.id (tree ∷ []) state laid;
   taken = λ m id state laid. change_laid id [] state laid ∙ append-nil (without id state.content.live);
+  opened = λ asks state laid. laid;
+  closed = λ id asks state laid. laid;
 }
 
 pub step_laid : (limits : Limits) (state : State) (request : Request) → IsLaid state → IsLaid (step limits state request).state
-step_laid limits state request laid = step_so IsLaid limits state request laid_stays laid
+step_laid limits state request laid = step_so IsLaid limits state request (laid_stays (asked_of request.first request.source)) laid

@@ -1,4 +1,8 @@
--- What stays true of states: the layout keeps the live trees, and these stay numbered.
+-- What stays true of states: the layout keeps the live trees, these stay numbered, points in time keep theirs. Merge commands on
+-- layouts of any items. What doesn't depend on the layout.
+pub mod Merged
 pub mod Steps
 pub mod Laid
 pub mod Numbered
+pub mod Pointed
+pub mod Beside

@@ -2,6 +2,7 @@
 use Rattle.std.proofs.Common.{◌≡◌, ◌≢◌, ◌+◌, ◌<◌, ℕ, Bool, true, false, cond, List, [], ◌∷◌, ◌++◌, refl, sym, ap, subst, ◌∙◌, arith}
 use Rattle.std.proofs.lemmas.Slice.Eq.{bytes_eq-Decides}
 use Rattle.line_reader.specs.Request.{Request}
+use Rattle.request_form.specs.Asked.{Asked, asked_of}
 use Rattle.tree_objects.specs.Tree.{Tree, ComesFirst, IsLiveList, has_id, without}
 use Rattle.machine.specs.State.{AreBelow, Content, IsNumbered, State}
 use Rattle.machine.specs.Step.{step}
@@ -80,13 +81,15 @@ put_numbered tree content next is =
 pub taken_numbered : (id : List ℕ) (content : Content) → IsNumbered content → IsLiveList (without id content.live) × AreBelow (content.next + 1) (without id content.live)
 taken_numbered id content is = (live_without id content.live is.live, below_without id content.next content.live is.below)
 
-numbered_stays : Stays AreNumbered
-numbered_stays = record {
-  sealed = λ state is. is;
+numbered_stays : (asked : Asked) → Stays AreNumbered asked
+numbered_stays asked = record {
+  laid = record { sealed = λ state is. is; relaid = λ layout state same is. is };
   mapped = λ m state is. record { live = is.live; below = is.below };
   put = λ m tree state next is. let after = put_numbered tree state.content next is in record { live = after.0; below = after.1 };
   taken = λ m id state is. let after = taken_numbered id state.content is in record { live = after.0; below = after.1 };
+  opened = λ asks state is. is;
+  closed = λ id asks state is. is;
 }
 
 pub step_numbered : (limits : Limits) (state : State) (request : Request) → IsNumbered state.content → IsNumbered (step limits state request).state.content
-step_numbered limits state request is = step_so AreNumbered limits state request numbered_stays is
+step_numbered limits state request is = step_so AreNumbered limits state request (numbered_stays (asked_of request.first request.source)) is

@@ -1,8 +1,12 @@
 -- What stays true of the states of the machine, whatever is asked for.
-use Rattle.std.proofs.Common.{◌≡◌, ℕ, Bool, true, false, List, [], ◌∷◌, Option, Some, None, refl}
+use Rattle.std.proofs.Common.{◌≡◌, ℕ, Bool, true, false, not, nat_le, List, [], ◌∷◌, length, Option, Some, None, refl, sym}
+use Rattle.std.proofs.lemmas.Bool.{true≢false}
+use Rattle.layout.specs.Layout.{Layout, live_items}
+use Rattle.layout.specs.Merges.{with_factor}
 use Rattle.line_reader.specs.Request.{Request}
 use Rattle.mapping.specs.Mapping.{Mapping}
 use Rattle.reply_text.specs.declared.refusal.Refusal.{Refusal}
+use Rattle.reply_text.specs.declared.refusal.Refusal.TheVariants.{TooManyPits, UnknownPit}
 use Rattle.reply_text.specs.declared.reply.Reply.{Reply}
 use Rattle.reply_text.specs.declared.reply.WriteResult.TheVariants.{Deleted}
 use Rattle.request_form.specs.Asked.{Asked, refused, asks, asked_of}
@@ -12,23 +16,37 @@ use Rattle.tree_objects.specs.Tree.{Tree, without}
 use Rattle.query_ast.specs.declared.search.SearchBody.{SearchBody}
 use Rattle.query_parser.specs.Search.{search_of}
 use Rattle.search_walk.specs.Refusal.{first_refusal}
-use Rattle.machine.specs.Answer.{Answer, refuses, answers, outcome_of, first_of, refused_if, unless, with_mapping}
+use Rattle.machine.specs.Answer.{Answer, refuses, answers, outcome_of, first_of, refused_if, unless, when, with_mapping}
+use Rattle.machine.specs.Beside.{is_of_layout}
 use Rattle.machine.specs.declared.limits.Limits.{Limits}
+use Rattle.machine.specs.Merging.{LayoutAnswer, declined, relaid, with_layout, merged_by, answer_of, merge_step, automerge_step, segments_step}
+use Rattle.machine.specs.declared.merge_command.MergeCommand.{MergeCommand}
+use Rattle.machine.specs.declared.merge_command.MergeCommand.TheVariants.{Start, Advance, Finish, Abort, Force}
+use Rattle.machine.proofs.Merged.{LaysLive, merged_keeps}
+use Rattle.machine.specs.Points.{most_points, with_points, with_point, without_point, is_open, open_done, open_step, close_done, close_step}
 use Rattle.machine.specs.MappingLine.{first_refusals, first_done, first_mapping, growing_refusals, growing_done, grown_mapping, mapping_by, mapping_step, with_content_mapping}
 use Rattle.machine.specs.Searching.{is_built, searched, search_all, search_over, search_by, body_refusal, search_step}
 use Rattle.machine.specs.State.{State, sealed_state}
 use Rattle.machine.specs.Step.{refresh_step, action_step, asked_step, step}
 use Rattle.machine.specs.Write.{live_tree, live_number, early_refusals, nothing_to_do, leaves_source, new_source, added_body, grown_by, put_refusals, put_result, changed, changed_state, put_tree, new_tree, full, with_put, take_out, change, answered_or, change_or_nothing, write_step}
 
--- it stays so by sealing, by a mapping, by a tree that is put with the next number, and by one that is taken out
-pub record Stays (P : State → Type 0) : Type 0 where
+-- it stays so by sealing, and by another layout of the same live trees
+pub record StaysLaid (P : State → Type 0) : Type 0 where
   pub sealed : (state : State) → P state → P (sealed_state state)
+  pub relaid : (layout : Layout Tree) (state : State) → live_items layout ≡ live_items state.layout → P state → P (with_layout layout state)
+
+-- it stays so besides by a mapping, by a tree that is put with the next number, by one that is taken out, and, where that is
+-- asked for, by a point in time that is opened or closed
+pub record Stays (P : State → Type 0) (asked : Asked) : Type 0 where
+  pub laid : StaysLaid P
   pub mapped : (m : Mapping) (state : State) → P state → P (with_content_mapping m state)
   pub put : (m : Mapping) (tree : Tree) (state : State) → tree.number ≡ state.content.next → P state → P (changed_state m tree.id (with_put tree state.content.live) (tree ∷ []) state)
   pub taken : (m : Mapping) (id : List ℕ) (state : State) → P state → P (changed_state m id (without id state.content.live) [] state)
+  pub opened : asked ≡ asks open_pit → (state : State) → P state → P (with_points (with_point state.content.live state.points) state)
+  pub closed : (id : ℕ) → asked ≡ asks (close_pit id) → (state : State) → P state → P (with_points (without_point id state.points) state)
 
 -- where nothing is refused it is so of the state afterwards
-abbrev After : (State → Type 0) → Answer → Type 0
+abbrev pub After : (State → Type 0) → Answer → Type 0
 After P (refuses why) = Unit {0}
 After P (answers reply after) = P after
 
@@ -45,44 +63,44 @@ mapped_so P (Some m) command so = so m
 
 -- ---- writes
 
-put_so : (P : State → Type 0) (limits : Limits) (m : Mapping) (body : Option JsonValue) (tree : Tree) (live : Option Tree) (state : State) → Stays P → tree.number ≡ state.content.next → P state
+put_so : (P : State → Type 0) (asked : Asked) (limits : Limits) (m : Mapping) (body : Option JsonValue) (tree : Tree) (live : Option Tree) (state : State) → Stays P asked → tree.number ≡ state.content.next → P state
     → After P (put_tree limits m body tree live state)
-put_so P limits m body tree live state stays next so =
+put_so P asked limits m body tree live state stays next so =
     unless_so P (put_refusals limits m body tree state) (changed (grown_by m body) tree.id (with_put tree state.content.live) (tree ∷ []) (put_result live) state)
     (stays.put (grown_by m body) tree state next so)
 
-take_so : (P : State → Type 0) (limits : Limits) (m : Mapping) (id : List ℕ) (state : State) → Stays P → P state → After P (take_out limits m id state)
-take_so P limits m id state stays so =
+take_so : (P : State → Type 0) (asked : Asked) (limits : Limits) (m : Mapping) (id : List ℕ) (state : State) → Stays P asked → P state → After P (take_out limits m id state)
+take_so P asked limits m id state stays so =
     unless_so P (full limits m (without id state.content.live) state.content.next ∷ []) (changed m id (without id state.content.live) [] Deleted state)
     (stays.taken m id state so)
 
-changes_so : (P : State → Type 0) (limits : Limits) (m : Mapping) (id : List ℕ) (source : Option JsonValue) (live : Option Tree) (state : State) → Stays P → P state
+changes_so : (P : State → Type 0) (asked : Asked) (limits : Limits) (m : Mapping) (id : List ℕ) (source : Option JsonValue) (live : Option Tree) (state : State) → Stays P asked → P state
     → After P (change limits m id source live state)
-changes_so P limits m id None live state stays so = take_so P limits m id state stays so
-changes_so P limits m id (Some source) live state stays so =
-    put_so P limits m (added_body m source) (new_tree id source (grown_by m (added_body m source)) state.content.next) live state stays refl so
+changes_so P asked limits m id None live state stays so = take_so P asked limits m id state stays so
+changes_so P asked limits m id (Some source) live state stays so =
+    put_so P asked limits m (added_body m source) (new_tree id source (grown_by m (added_body m source)) state.content.next) live state stays refl so
 
 answered_so : (P : State → Type 0) (reply : Option Reply) (state : State) (answer : Answer) → P state → After P answer → After P (answered_or reply state answer)
 answered_so P None state answer before after = after
 answered_so P (Some reply) state answer before after = before
 
-write_so : (P : State → Type 0) (limits : Limits) (m : Mapping) (it : Write) (state : State) → Stays P → P state → After P (write_step limits m it state)
+write_so : (P : State → Type 0) (asked : Asked) (limits : Limits) (m : Mapping) (it : Write) (state : State) → Stays P asked → P state → After P (write_step limits m it state)
 unfolding write_step
-write_so P limits m it state stays so =
+write_so P asked limits m it state stays so =
     let live = live_tree it.target.id state.content.live in
     refused_so P (first_of (early_refusals m it (live_number live))) (change_or_nothing limits m it live state)
     (answered_so P (nothing_to_do (leaves_source it.operation live) it.target.id it.operation live) state (change limits m it.target.id (new_source it.operation live) live state) so
-    (changes_so P limits m it.target.id (new_source it.operation live) live state stays so))
+    (changes_so P asked limits m it.target.id (new_source it.operation live) live state stays so))
 
 -- ---- the other commands
 
-mapping_so : (P : State → Type 0) (body : JsonValue) (m : Option Mapping) (state : State) → Stays P → P state → After P (mapping_by body m state)
-mapping_so P body None state stays so = unless_so P (first_refusals body) (first_done body state) (stays.mapped (first_mapping body) state so)
-mapping_so P body (Some m) state stays so = unless_so P (growing_refusals m body) (growing_done m body state) (stays.mapped (grown_mapping m body) state so)
+mapping_so : (P : State → Type 0) (asked : Asked) (body : JsonValue) (m : Option Mapping) (state : State) → Stays P asked → P state → After P (mapping_by body m state)
+mapping_so P asked body None state stays so = unless_so P (first_refusals body) (first_done body state) (stays.mapped (first_mapping body) state so)
+mapping_so P asked body (Some m) state stays so = unless_so P (growing_refusals m body) (growing_done m body state) (stays.mapped (grown_mapping m body) state so)
 
-line_so : (P : State → Type 0) (body : JsonValue) (state : State) → Stays P → P state → After P (mapping_step body state)
+line_so : (P : State → Type 0) (asked : Asked) (body : JsonValue) (state : State) → Stays P asked → P state → After P (mapping_step body state)
 unfolding mapping_step
-line_so P body state stays so = mapping_so P body state.content.mapping state stays so
+line_so P asked body state stays so = mapping_so P asked body state.content.mapping state stays so
 
 all_so : (P : State → Type 0) (limits : Limits) (m : Mapping) (body : SearchBody) (live : List Tree) (built : Bool) (state : State) → P state → After P (search_all limits m body live built state)
 all_so P limits m body live false state so = tt
@@ -98,32 +116,79 @@ search_so P limits body m state so =
     refused_so P (body_refusal (first_refusal m body)) (search_by limits m (search_of m body) state)
     (over_so P limits m (search_of m body) (searched (search_of m body).pit state) state so)
 
-action_so : (P : State → Type 0) (limits : Limits) (action : Action) (state : State) → Stays P → P state → After P (action_step limits action state)
-action_so P limits (map_body body) state stays so = line_so P body (sealed_state state) stays (stays.sealed state so)
-action_so P limits (write it) state stays so = mapped_so P state.content.mapping (λ m. write_step limits m it state) (λ m. write_so P limits m it state stays so)
+-- ---- points in time
+
+open_so : (P : State → Type 0) (asked : Asked) (m : Mapping) (state : State) → Stays P asked → asked ≡ asks open_pit → P state → After P (open_step m state)
+unfolding open_step
+open_so P asked m state stays is so =
+    unless_so P (when (nat_le most_points (length state.points.points)) TooManyPits ∷ []) (open_done state) (stays.opened is state so)
+
+close_so : (P : State → Type 0) (asked : Asked) (id : ℕ) (m : Mapping) (state : State) → Stays P asked → asked ≡ asks (close_pit id) → P state → After P (close_step id m state)
+unfolding close_step
+close_so P asked id m state stays is so =
+    unless_so P (when (not (is_open id state.points)) UnknownPit ∷ []) (close_done id state) (stays.closed id is state so)
+
+-- ---- the layout
+
+merge_so : (P : State → Type 0) (state : State) (answer : LayoutAnswer Tree) → StaysLaid P → LaysLive state.layout answer → P state → After P (answer_of state answer)
+merge_so P state (declined why) laid lives so = tt
+merge_so P state (relaid reply layout) laid lives so = laid.relaid layout state lives so
+
+command_so : (P : State → Type 0) (command : MergeCommand) (m : Mapping) (state : State) → StaysLaid P → P state → After P (merge_step command m state)
+command_so P command m state laid so = merge_so P state (merged_by command state.layout) laid (merged_keeps command state.layout) so
+
+automerge_so : (P : State → Type 0) (factor : Option ℕ) (m : Mapping) (state : State) → StaysLaid P → P state → After P (automerge_step factor m state)
+unfolding automerge_step
+automerge_so P factor m state laid so =
+    laid.sealed (with_layout (with_factor factor state.layout) state) (laid.relaid (with_factor factor state.layout) state refl so)
+
+segments_so : (P : State → Type 0) (limits : Limits) (m : Mapping) (state : State) → P state → After P (segments_step limits m state)
+unfolding segments_step
+segments_so P limits m state so = so
+
+-- what is asked of the layout lays the same live trees out in another way
+pub layout_so : (P : State → Type 0) (limits : Limits) (action : Action) (state : State) → is_of_layout action ≡ true → StaysLaid P → P state → After P (action_step limits action state)
+layout_so P limits (map_body body) state is laid so = absurd (true≢false (sym is))
+layout_so P limits (write it) state is laid so = absurd (true≢false (sym is))
+layout_so P limits (search body) state is laid so = absurd (true≢false (sym is))
+layout_so P limits refresh state is laid so = absurd (true≢false (sym is))
+layout_so P limits segments state is laid so = tt
+layout_so P limits open_pit state is laid so = absurd (true≢false (sym is))
+layout_so P limits (close_pit id) state is laid so = absurd (true≢false (sym is))
+layout_so P limits (force_merge most) state is laid so = tt
+layout_so P limits (start_merge from count) state is laid so = tt
+layout_so P limits (advance_merge id roots) state is laid so = tt
+layout_so P limits (finish_merge id) state is laid so = tt
+layout_so P limits (abort_merge id) state is laid so = tt
+layout_so P limits commit state is laid so = absurd (true≢false (sym is))
+layout_so P limits (automerge factor) state is laid so = tt
+
+action_so : (P : State → Type 0) (limits : Limits) (action : Action) (state : State) → Stays P (asks action) → P state → After P (action_step limits action state)
+action_so P limits (map_body body) state stays so = line_so P (asks (map_body body)) body (sealed_state state) stays (stays.laid.sealed state so)
+action_so P limits (write it) state stays so = mapped_so P state.content.mapping (λ m. write_step limits m it state) (λ m. write_so P (asks (write it)) limits m it state stays so)
 action_so P limits (search body) state stays so =
-    mapped_so P state.content.mapping (λ m. search_step limits body m (sealed_state state)) (λ m. search_so P limits body m (sealed_state state) (stays.sealed state so))
-action_so P limits refresh state stays so = mapped_so P state.content.mapping (λ m. refresh_step m (sealed_state state)) (λ m. stays.sealed state so)
-action_so P limits segments state stays so = tt
+    mapped_so P state.content.mapping (λ m. search_step limits body m (sealed_state state)) (λ m. search_so P limits body m (sealed_state state) (stays.laid.sealed state so))
+action_so P limits refresh state stays so = mapped_so P state.content.mapping (λ m. refresh_step m (sealed_state state)) (λ m. stays.laid.sealed state so)
+action_so P limits segments state stays so = layout_so P limits segments state refl stays.laid so
 action_so P limits open_pit state stays so = tt
 action_so P limits (close_pit id) state stays so = tt
-action_so P limits (force_merge most) state stays so = tt
-action_so P limits (start_merge from count) state stays so = tt
-action_so P limits (advance_merge id roots) state stays so = tt
-action_so P limits (finish_merge id) state stays so = tt
-action_so P limits (abort_merge id) state stays so = tt
+action_so P limits (force_merge most) state stays so = layout_so P limits (force_merge most) state refl stays.laid so
+action_so P limits (start_merge from count) state stays so = layout_so P limits (start_merge from count) state refl stays.laid so
+action_so P limits (advance_merge id roots) state stays so = layout_so P limits (advance_merge id roots) state refl stays.laid so
+action_so P limits (finish_merge id) state stays so = layout_so P limits (finish_merge id) state refl stays.laid so
+action_so P limits (abort_merge id) state stays so = layout_so P limits (abort_merge id) state refl stays.laid so
 action_so P limits commit state stays so = tt
-action_so P limits (automerge factor) state stays so = tt
+action_so P limits (automerge factor) state stays so = layout_so P limits (automerge factor) state refl stays.laid so
 
-asked_so : (P : State → Type 0) (limits : Limits) (asked : Asked) (state : State) → Stays P → P state → After P (asked_step limits asked state)
+asked_so : (P : State → Type 0) (limits : Limits) (asked : Asked) (state : State) → Stays P asked → P state → After P (asked_step limits asked state)
 asked_so P limits (refused why) state stays so = tt
 asked_so P limits (asks action) state stays so = action_so P limits action state stays so
 
-outcome_so : (P : State → Type 0) (answer : Answer) (state : State) → P state → After P answer → P (outcome_of state answer).state
+pub outcome_so : (P : State → Type 0) (answer : Answer) (state : State) → P state → After P answer → P (outcome_of state answer).state
 outcome_so P (refuses why) state before after = before
 outcome_so P (answers reply later) state before after = after
 
-pub step_so : (P : State → Type 0) (limits : Limits) (state : State) (request : Request) → Stays P → P state → P (step limits state request).state
+pub step_so : (P : State → Type 0) (limits : Limits) (state : State) (request : Request) → Stays P (asked_of request.first request.source) → P state → P (step limits state request).state
 unfolding step
 step_so P limits state request stays so =
     outcome_so P (asked_step limits (asked_of request.first request.source) state) state so (asked_so P limits (asked_of request.first request.source) state stays so)

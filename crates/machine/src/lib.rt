@@ -7,6 +7,12 @@
 
 mod law;
 mod limits;
+mod merge_command;
 
-pub use law::{live_trees_are_numbered, the_layout_has_the_live_trees};
+pub use law::{
+    live_trees_are_numbered, merge_commands_are_alike, merges_change_no_other_reply,
+    no_other_reply_shows_the_layout, points_in_time_keep_their_trees,
+    the_layout_has_the_live_trees,
+};
 pub use limits::Limits;
+pub use merge_command::MergeCommand;

@@ -1,0 +1,2 @@
+-- Ids as the keys of a map.
+pub mod Ids
