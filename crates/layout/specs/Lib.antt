@@ -1,10 +1,7 @@
--- To be believed: how items are laid out in segments, what is done to a layout, how few segments settling leaves, and numbers
--- that ascend.
+-- To be believed: how items are laid out in segments, what is done to a layout, how few segments settling leaves, merges that
+-- are asked for, and numbers that ascend.
 pub mod Layout
 pub mod Settled
--- To be believed: how items are laid out in segments, what is done to a layout, merges that are asked for, and numbers that
--- ascend.
-pub mod Layout
 pub mod Merges
 pub mod Ascending
 -- These serve proofs alone: a layout of other items.
