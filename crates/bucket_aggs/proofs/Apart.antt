@@ -1,11 +1,10 @@
 -- Different objects: of runs of the same ones each is taken once.
-use Rattle.std.proofs.Common.{◌≡◌, ◌≢◌, ℕ, zero, suc, ◌+◌, ◌==◌, ◌<◌, ◌≤◌, Bool, true, false, ◌&&◌, ◌||◌, cond, List, [], ◌∷◌, ◌++◌, length, map, filter, get_or, refl, sym, ap, subst, ◌∙◌, arith}
-use Rattle.std.specs.List.{AllByRecursion, AllPairs, flat_map, list_any}
-use Rattle.std.proofs.lemmas.Bool.{and_parts, eq-eqb, eqb-true, false≢true}
+use Rattle.std.proofs.Common.{◌≡◌, ◌≢◌, ℕ, suc, ◌+◌, ◌==◌, ◌<◌, Bool, true, false, ◌&&◌, List, [], ◌∷◌, ◌++◌, length, filter, get_or, refl, ap, subst, ◌∙◌, arith}
+use Rattle.std.specs.List.{flat_map, list_any}
+use Rattle.std.proofs.lemmas.Bool.{and_parts, eq-eqb, eqb-true}
 use Rattle.query_ast.specs.Buckets.{is_same_object}
 use Rattle.query_ast.specs.Compare.{each_once, each_once_but}
 use Rattle.tree_objects.specs.Object.{Object, root, inside, place, tree_of}
-use Rattle.tree_objects.specs.Tree.{Tree}
 use Rattle.bucket_aggs.proofs.Lists.{Each, by_test, each_as}
 
 -- ---- runs

@@ -1,16 +1,15 @@
 -- Documents that have a score, one after the other, and the objects that they stand for.
-use Rattle.std.proofs.Common.{◌≡◌, ℕ, zero, suc, ◌+◌, ◌==◌, ◌<◌, ◌≤◌, Bool, true, false, cond, List, [], ◌∷◌, ◌++◌, length, map, filter, drop, get_or, count_by, sum_by, Option, Some, None, is_some, refl, sym, ap, subst, ◌∙◌, arith, append_assoc}
+use Rattle.std.proofs.Common.{◌≡◌, ℕ, zero, suc, ◌+◌, ◌==◌, Bool, true, false, List, [], ◌∷◌, ◌++◌, length, map, filter, drop, count_by, sum_by, Option, Some, None, is_some, refl, sym, ap, ◌∙◌, arith, append_assoc}
 use Rattle.std.specs.List.{flat_map, position_from, range_with_len}
 use Rattle.std.proofs.lemmas.List.{length-append, length-map, map-append}
 use Rattle.std.proofs.lemmas.List.Concat.{flat_map-append}
 use Rattle.std.proofs.lemmas.List.Elements.{filter-append}
 use Rattle.std.proofs.lemmas.List.Sums.{sum_by-cons}
-use Rattle.std.proofs.lemmas.List.FromFn.{length-map-range_with_len}
 use Rattle.std.proofs.lemmas.Option.{same_Some}
 use Rattle.block_bits.specs.Flags.{is_marked}
 use Rattle.block_bits.specs.Places.{next_place}
 use Rattle.flattener.specs.Flat.{flat_of as flat_of_object}
-use Rattle.flattener.specs.StandsFor.{EntryStandsFor, Marked, ViewStandsFor, by_document, flat_at}
+use Rattle.flattener.specs.StandsFor.{Marked, ViewStandsFor, by_document, flat_at}
 use Rattle.mapping.specs.Mapping.{Mapping}
 use Rattle.query_eval.specs.Found.{AreLong, IsSeen, live_in, live_trees}
 use Rattle.segment.specs.Flat.{FlatDocument, flat_of, flats_of}
@@ -24,7 +23,6 @@ use Rattle.tree_objects.specs.Tree.{Tree}
 use Rattle.view_objects.specs.Hits.{live_objects}
 use Rattle.bucket_aggs.specs.Counts.{documents_in, flats_in, flats_of_view, marked_count}
 use Rattle.bucket_aggs.specs.Given.{is_given, objects_given}
-use Rattle.bucket_aggs.proofs.Lists.{by_test}
 use Rattle.bucket_aggs.proofs.Rowed.{count_cons}
 
 abbrev pub Scores : Type 0

@@ -1,8 +1,8 @@
 -- The answers of forms, by the objects that they hand on.
-use Rattle.std.proofs.Common.{◌≡◌, ◌≢◌, ℕ, zero, suc, ℤ, pos, ◌+◌, ◌<◌, Bool, true, false, ◌&&◌, ◌||◌, cond, List, [], ◌∷◌, ◌++◌, length, map, filter, take, drop, sum_by, Option, Some, None, is_some, get_or, min, ◌-◌, ◌≤◌, refl, sym, ap, subst, ◌∙◌, arith, append_assoc}
+use Rattle.std.proofs.Common.{◌≡◌, ℕ, zero, suc, ℤ, pos, ◌+◌, ◌<◌, Bool, true, false, ◌||◌, cond, List, [], ◌∷◌, ◌++◌, length, map, take, drop, sum_by, Option, Some, None, is_some, get_or, min, ◌-◌, refl, sym, ap, subst, ◌∙◌, arith, append_assoc}
 use Rattle.std.specs.Prelude.{IsTrue}
 use Rattle.std.specs.Int.{saturate_signed, w64}
-use Rattle.std.specs.List.{AllByRecursion, flat_map, list_any}
+use Rattle.std.specs.List.{flat_map, list_any}
 use Rattle.std.specs.List.Sorted.{IsPermutation}
 use Rattle.std.proofs.lemmas.List.{length-append, map-append, take_all}
 use Rattle.std.proofs.lemmas.List.Sorted.{length_permutation}
@@ -10,7 +10,7 @@ use Rattle.std.proofs.lemmas.List.Sums.{sum_by-cons}
 use Rattle.block_join.specs.Merge.{put_together}
 use Rattle.block_join.specs.declared.rule.Rule.TheVariants.{Kept as KeptRule}
 use Rattle.flattener.specs.Flat.{flat_of}
-use Rattle.flattener.specs.StandsFor.{Marked, ViewStandsFor}
+use Rattle.flattener.specs.StandsFor.{ViewStandsFor}
 use Rattle.mapping.specs.Mapping.{Mapping, IsAbove, kind_at}
 use Rattle.mapping_body.specs.declared.kind.Kind.{Kind}
 use Rattle.mapping_body.specs.declared.kind.Kind.TheVariants.{Text, Keyword, Long, Boolean, Date, Object as Plain, Nested as NestedKind, Join}
@@ -21,13 +21,12 @@ use Rattle.query_ast.specs.Compare.{each_once, in_order, is_less, is_same_value,
 use Rattle.query_ast.specs.Agg.View.{agg_of}
 use Rattle.query_ast.specs.Definition.{Definition, Definitions, definition, definition_size, definitions_of, no_definitions, with_definition}
 use Rattle.query_ast.specs.declared.agg.AggDef.{AggDef}
-use Rattle.query_ast.specs.Hit.{hit, those_hit}
+use Rattle.query_ast.specs.Hit.{hit}
 use Rattle.query_ast.specs.Joined.{roots}
-use Rattle.query_ast.specs.Leaf.{is_one_of, is_text, leaf_holds, terms, terms_of}
+use Rattle.query_ast.specs.Leaf.{is_one_of, is_text, leaf_holds, terms_of}
 use Rattle.query_ast.specs.Replies.{BucketPart, ReplyPart, ReplyValue, buckets_of, metric, no_buckets, replies_of, several, single}
 use Rattle.query_ast.specs.SortKey.{greatest_value, least_value, total}
 use Rattle.query_ast.specs.Uses.{IsValueOf, is_written, uses_of}
-use Rattle.query_ast.specs.declared.agg.AggForm.{AggForm}
 use Rattle.query_ast.specs.declared.agg.AggForm.TheVariants.{Filter, Nested, ReverseNested, Children, Parent, Terms}
 use Rattle.query_eval.specs.Folds.{paired_by}
 use Rattle.query_eval.specs.Found.{IsSeen, live_trees, score_by}
@@ -53,7 +52,7 @@ use Rattle.bucket_aggs.proofs.Groups.{first_buckets, other_counts}
 use Rattle.bucket_aggs.proofs.Joined.{children_are, parents_are}
 use Rattle.bucket_aggs.proofs.Keys.{same_back}
 use Rattle.bucket_aggs.proofs.Least.{greatest_is, least_is}
-use Rattle.bucket_aggs.proofs.Lists.{any_same, filter_same}
+use Rattle.bucket_aggs.proofs.Lists.{filter_same}
 use Rattle.bucket_aggs.proofs.Sums.{all_told, sum_told}
 use Rattle.bucket_aggs.proofs.Handed.{Laws, down_are, filtered_are, up_are}
 use Rattle.bucket_aggs.proofs.Values.{value_exact, value_total}

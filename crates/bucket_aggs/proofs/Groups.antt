@@ -1,8 +1,7 @@
 -- Counted rows are the groups of a bucket for each value.
-use Rattle.std.proofs.Common.{◌≡◌, ℕ, zero, suc, ◌+◌, ◌<◌, ◌≤◌, Bool, true, false, ◌&&◌, ◌||◌, cond, nat_lt, List, [], ◌∷◌, ◌++◌, length, map, filter, reverse, take, drop, count_by, sum_by, Option, Some, None, refl, sym, ap, subst, ◌∙◌, arith}
-use Rattle.std.specs.List.{AllByRecursion, flat_map, list_any}
+use Rattle.std.proofs.Common.{◌≡◌, ℕ, zero, suc, ◌+◌, ◌<◌, Bool, true, false, ◌||◌, cond, nat_lt, List, [], ◌∷◌, ◌++◌, length, map, filter, reverse, take, drop, count_by, sum_by, Some, refl, sym, ap, ◌∙◌, arith}
+use Rattle.std.specs.List.{flat_map, list_any}
 use Rattle.std.specs.List.Sorted.{IsPermutation}
-use Rattle.std.specs.Prelude.{IsTrue}
 use Rattle.std.proofs.lemmas.Bool.{lt-ltb}
 use Rattle.std.proofs.lemmas.List.{map-append, reverse-append}
 use Rattle.std.proofs.lemmas.List.Folds.{list_any-append}
@@ -11,7 +10,7 @@ use Rattle.std.proofs.lemmas.List.Sorted.{list_any-IsPermutation}
 use Rattle.flattener.specs.Flat.{flat_of}
 use Rattle.mapping.specs.Mapping.{Mapping, kind_at}
 use Rattle.mapping_body.specs.declared.kind.Kind.{Kind}
-use Rattle.query_ast.specs.Buckets.{Group, all_shown, bucket_of, comes_first, count_of, group_of, groups_of, has_value, ordered, several_of, shown_by}
+use Rattle.query_ast.specs.Buckets.{Group, all_shown, bucket_of, comes_first, count_of, group_of, groups_of, has_value, ordered, shown_by}
 use Rattle.query_ast.specs.Compare.{each_once, in_order, is_less, is_same_value, placed, value_cmp}
 use Rattle.query_ast.specs.Replies.{BucketPart, ReplyPart, replies_of}
 use Rattle.query_ast.specs.Uses.{IsValueOf}
@@ -21,7 +20,7 @@ use Rattle.tree_objects.specs.declared.field_value.FieldValue.{FieldValue}
 use Rattle.view_objects.specs.Values.{values_shown}
 use Rattle.bucket_aggs.specs.Counts.{AreCounts, KeysAscend, count_in, row_first, rows_ordered, shows, weight, weight_in}
 use Rattle.bucket_aggs.specs.declared.rows.CountRow.{CountRow}
-use Rattle.bucket_aggs.proofs.Keys.{Ascend, any_key, behind_apart, keys_ascend, less_apart, less_back, one_ascending, same_itself}
+use Rattle.bucket_aggs.proofs.Keys.{Ascend, any_key, keys_ascend, less_apart, less_back, one_ascending, same_itself}
 use Rattle.bucket_aggs.proofs.Lists.{Each, by_test, each_as}
 use Rattle.bucket_aggs.proofs.Rowed.{count_mapped, count_same, sum_mapped}
 use Rattle.bucket_aggs.proofs.Values.{value_exact, value_total}

@@ -1,10 +1,9 @@
 -- The objects that are given something: of filters, and on the ways down and up.
-use Rattle.std.proofs.Common.{◌≡◌, ◌≢◌, ℕ, zero, suc, ◌+◌, ◌==◌, ◌<◌, ◌≤◌, Bool, true, false, ◌&&◌, cond, List, [], ◌∷◌, ◌++◌, length, map, filter, filter_map, get_or, Option, Some, None, is_some, refl, sym, ap, subst, ◌∙◌, arith}
-use Rattle.std.specs.List.{AllByRecursion, AllPairs, Contains, flat_map}
+use Rattle.std.proofs.Common.{◌≡◌, ◌≢◌, ℕ, suc, ◌+◌, ◌<◌, true, false, ◌&&◌, cond, List, [], ◌∷◌, ◌++◌, length, map, filter, filter_map, get_or, Option, Some, None, is_some, refl, sym, ap, subst, ◌∙◌, arith}
+use Rattle.std.specs.List.{AllByRecursion, flat_map}
 use Rattle.std.proofs.lemmas.Bool.{eqb-true}
 use Rattle.block_join.specs.Merge.{put_together}
 use Rattle.block_join.specs.declared.rule.Rule.TheVariants.{Kept}
-use Rattle.mapping.specs.IsMapping.{IsMapping}
 use Rattle.mapping.specs.Mapping.{Mapping, IsAbove}
 use Rattle.query_ast.specs.Buckets.{around_at, below_at, is_same_object}
 use Rattle.query_ast.specs.Clause.{Clause}
@@ -18,7 +17,7 @@ use Rattle.tree_objects.specs.Object.{Object, around, below, block_objects, plac
 use Rattle.tree_objects.specs.Tree.{Tree}
 use Rattle.view_objects.specs.Hits.{live_objects}
 use Rattle.bucket_aggs.specs.Given.{HaveOwnNumbers, is_given, objects_given}
-use Rattle.bucket_aggs.proofs.Lists.{Each, by_test, each_as, each_kept, each_passes, filter_flat, filter_map_list, filter_same, filter_twice, filter_whole, flat_flat, flat_same, map_flat}
+use Rattle.bucket_aggs.proofs.Lists.{Each, by_test, each_as, each_kept, each_passes, filter_flat, filter_same, filter_twice, filter_whole, flat_flat, map_flat}
 use Rattle.bucket_aggs.proofs.Apart.{Apart, apart_append, apart_by, apart_kept, other_number, other_place, runs_once, same_itself, some_in}
 
 -- ---- filters

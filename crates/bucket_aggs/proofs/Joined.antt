@@ -1,19 +1,18 @@
 -- The objects that are given something across the join.
-use Rattle.std.proofs.Common.{◌≡◌, ℕ, ◌≤◌, Bool, true, false, ◌&&◌, ◌||◌, cond, nat_le, List, [], ◌∷◌, length, map, filter, filter_map, Option, Some, None, is_some, refl, sym, ap, ◌∙◌, arith}
+use Rattle.std.proofs.Common.{◌≡◌, ℕ, Bool, true, false, ◌&&◌, cond, nat_le, List, [], ◌∷◌, length, filter, filter_map, Option, Some, None, is_some, refl, sym, ap, ◌∙◌, arith}
 use Rattle.std.specs.List.{list_any}
 use Rattle.std.proofs.lemmas.Bool.{le-leb}
 use Rattle.mapping.specs.Mapping.{Mapping}
 use Rattle.query_ast.specs.Buckets.{has_child_in, has_parent_in}
-use Rattle.query_ast.specs.Hit.{children_score, is_at_most}
+use Rattle.query_ast.specs.Hit.{children_score}
 use Rattle.query_ast.specs.Joined.{child_trees, is_child_by, roots}
 use Rattle.query_eval.specs.Sides.{by_relation, children_by, has_given_parent}
-use Rattle.score_math.specs.Scores.{mode_of}
 use Rattle.score_math.specs.declared.score.ScoreMode.TheVariants.{Max}
 use Rattle.tree_objects.specs.Object.{Object, root, tree_of}
 use Rattle.tree_objects.specs.Tree.{Tree}
 use Rattle.view_objects.specs.Hits.{live_objects}
 use Rattle.bucket_aggs.specs.Given.{is_given, objects_given}
-use Rattle.bucket_aggs.proofs.Lists.{and_back, any_kept, any_map, any_same, by_test, filter_map_list, filter_same}
+use Rattle.bucket_aggs.proofs.Lists.{and_back, any_kept, any_map, any_same, filter_map_list, filter_same}
 
 if_some : (b : Bool) → is_some {T = ℕ} (cond b (Some 1) None) ≡ b
 if_some true = refl

@@ -1,9 +1,9 @@
 -- The first of some values is the first of the numbers that they are, in whatever order these are looked at.
-use Rattle.std.proofs.Common.{◌≡◌, ℕ, zero, suc, ℤ, ◌+◌, ◌<◌, ◌≤◌, Bool, true, false, List, [], ◌∷◌, length, map, get_or, Option, Some, None, refl, sym, ap, subst, ◌∙◌, arith}
+use Rattle.std.proofs.Common.{◌≡◌, ℕ, zero, suc, ℤ, ◌<◌, Bool, true, false, List, [], ◌∷◌, length, map, get_or, Option, Some, None, refl, sym, ap, subst, ◌∙◌, arith}
 use Rattle.std.specs.Cmp.{IsStrictWeakOrder}
-use Rattle.std.specs.List.{All, AllByRecursion, Contains, best_of}
+use Rattle.std.specs.List.{All, Contains, best_of}
 use Rattle.std.specs.List.Sorted.{IsPermutation}
-use Rattle.std.specs.Ordering.{int_cmp, is_eq, is_lt}
+use Rattle.std.specs.Ordering.{int_cmp, is_eq}
 use Rattle.std.proofs.lemmas.Bool.{false≢true}
 use Rattle.std.proofs.lemmas.Cmp.{int_cmp_total}
 use Rattle.std.proofs.lemmas.List.{get_or_default, length-map}
@@ -15,7 +15,7 @@ use Rattle.query_ast.specs.Buckets.{number_if}
 use Rattle.query_ast.specs.Compare.{is_less}
 use Rattle.query_ast.specs.SortKey.{greatest_value, is_greater, least_value, number_in}
 use Rattle.tree_objects.specs.declared.field_value.FieldValue.{FieldValue}
-use Rattle.tree_objects.specs.declared.field_value.FieldValue.TheVariants.{Number, Written}
+use Rattle.tree_objects.specs.declared.field_value.FieldValue.TheVariants.{Number}
 use Rattle.bucket_aggs.specs.Sums.{IsFirst, above, below}
 use Rattle.bucket_aggs.proofs.Keys.{greater_is, same_is}
 use Rattle.bucket_aggs.proofs.Lists.{Each, by_test}

@@ -1,10 +1,9 @@
 -- Documents counted by what they show of a field, where a column has it.
-use Rattle.std.proofs.Common.{◌≡◌, ℕ, zero, suc, ◌+◌, ◌==◌, ◌<◌, ◌≤◌, ℤ, Bool, true, false, ◌&&◌, ◌||◌, not, cond, List, [], ◌∷◌, ◌++◌, length, map, get_or, count_by, sum_by, Option, Some, None, refl, sym, ap, subst, ◌∙◌, arith}
-use Rattle.std.specs.List.{All, AllByRecursion, flat_map, list_any}
-use Rattle.std.specs.List.Sorted.{IsPermutation, IsSorted, IsSortedBy}
-use Rattle.std.specs.Ordering.{int_cmp, is_eq, is_lt}
+use Rattle.std.proofs.Common.{◌≡◌, ℕ, ◌+◌, ◌==◌, ℤ, Bool, true, false, ◌&&◌, cond, List, [], ◌∷◌, ◌++◌, length, map, count_by, sum_by, Option, Some, None, refl, sym, ap, ◌∙◌, arith}
+use Rattle.std.specs.List.{flat_map, list_any}
+use Rattle.std.specs.List.Sorted.{IsPermutation, IsSorted}
+use Rattle.std.specs.Ordering.{int_cmp, is_eq}
 use Rattle.std.specs.declared.cmp.Ordering.{Ordering}
-use Rattle.std.proofs.lemmas.Bool.{eqb-true}
 use Rattle.std.proofs.lemmas.Cmp.{int_cmp_total}
 use Rattle.std.proofs.lemmas.Map.Lookups.{exact_signed}
 use Rattle.std.proofs.lemmas.List.{length-map}
@@ -14,7 +13,7 @@ use Rattle.doc_values.specs.Values.{AreRows, AreValues, values_of}
 use Rattle.mapping_body.specs.declared.kind.Kind.{Kind}
 use Rattle.query_ast.specs.Compare.{is_same_value}
 use Rattle.query_ast.specs.Uses.{is_written}
-use Rattle.segment.specs.Flat.{FlatDocument, bytes_at, flat_of}
+use Rattle.segment.specs.Flat.{bytes_at, flat_of}
 use Rattle.segment.specs.Shows.{column_values}
 use Rattle.segment_parts.specs.Fields.{column_of}
 use Rattle.segment_parts.specs.Lists.{terms_of}
@@ -22,11 +21,10 @@ use Rattle.segment_parts.specs.declared.columns.Columns.{Columns}
 use Rattle.tree_objects.specs.declared.field_value.FieldValue.{FieldValue}
 use Rattle.tree_objects.specs.declared.field_value.FieldValue.TheVariants.{Number, Written}
 use Rattle.view_objects.specs.Values.{values_shown}
-use Rattle.bucket_aggs.specs.Counts.{Weighed, is_number, once, shows, weight}
+use Rattle.bucket_aggs.specs.Counts.{is_number, once, shows}
 use Rattle.bucket_aggs.specs.Sums.{numbers_in, values_in}
-use Rattle.bucket_aggs.specs.declared.rows.CountRow.{CountRow}
-use Rattle.bucket_aggs.proofs.Lists.{Each, any_map, any_same, by_test}
-use Rattle.bucket_aggs.proofs.Onces.{Up, once_counts, sorted_up}
+use Rattle.bucket_aggs.proofs.Lists.{Each, any_map, by_test}
+use Rattle.bucket_aggs.proofs.Onces.{once_counts, sorted_up}
 use Rattle.bucket_aggs.proofs.Rowed.{count_flat, count_mapped, count_never, count_same, one_if, sum_mapped, sum_never, sum_same}
 
 -- ---- the law of one segment

@@ -1,5 +1,5 @@
 -- The buckets of a search, over the roots of live trees.
-use Rattle.std.proofs.Common.{◌≡◌, ◌≢◌, ℕ, zero, suc, ◌+◌, ◌<◌, Bool, true, false, ◌||◌, List, [], ◌∷◌, filter, length, get_or, Option, refl, ap, ◌∙◌, arith}
+use Rattle.std.proofs.Common.{◌≡◌, ◌≢◌, ℕ, zero, suc, ◌<◌, Bool, true, false, ◌||◌, List, [], ◌∷◌, filter, length, get_or, refl, ap, ◌∙◌, arith}
 use Rattle.std.specs.List.{list_any}
 use Rattle.flattener.specs.StandsFor.{Marked, ViewStandsFor}
 use Rattle.mapping.specs.Mapping.{Mapping}

@@ -1,23 +1,22 @@
 -- What numbers come to, one number after the other, and what the values of objects come to.
-use Rattle.std.proofs.Common.{◌≡◌, ℕ, zero, suc, ℤ, pos, negsuc, ◌+ℤ◌, ◌+◌, ◌<◌, ◌≤◌, Bool, true, false, cond, List, [], ◌∷◌, ◌++◌, length, map, fold, get_or, sum_by, Option, Some, None, refl, sym, ap, subst, ◌∙◌, arith}
-use Rattle.std.specs.List.{AllByRecursion, Contains, best_of, flat_map}
+use Rattle.std.proofs.Common.{◌≡◌, ℕ, suc, ℤ, pos, negsuc, ◌+ℤ◌, ◌+◌, Bool, true, false, cond, List, [], ◌∷◌, ◌++◌, map, fold, sum_by, Option, Some, None, refl, sym, ap, subst, ◌∙◌, arith}
+use Rattle.std.specs.List.{flat_map}
 use Rattle.std.specs.List.Sorted.{IsPermutation}
-use Rattle.std.specs.Ordering.{int_cmp, is_lt, is_eq, ordering_reverse}
+use Rattle.std.specs.Ordering.{int_cmp, is_lt}
 use Rattle.std.specs.declared.cmp.Ordering.{Ordering}
 use Rattle.std.specs.declared.cmp.Ordering.TheVariants.{Less, Equal, Greater}
 use Rattle.std.proofs.lemmas.Bool.{false≢true}
 use Rattle.std.proofs.lemmas.Cmp.{int_cmp_total, tied_itself}
 use Rattle.std.proofs.lemmas.Int.{ints}
-use Rattle.std.proofs.lemmas.List.{length-append, length-map, map-append}
-use Rattle.std.proofs.lemmas.List.Elements.{All-contains, All-from_recursion, Contains-append_left, Contains-push, recursion_from_All}
-use Rattle.std.proofs.lemmas.List.Sorted.{All-permutation, Contains-permutation, IsPermutation-append, IsPermutation-refl, IsPermutation-sym, length_permutation, sum_by-IsPermutation}
+use Rattle.std.proofs.lemmas.List.{length-append, map-append}
+use Rattle.std.proofs.lemmas.List.Elements.{Contains-append_left, Contains-push}
+use Rattle.std.proofs.lemmas.List.Sorted.{IsPermutation-append, IsPermutation-refl, sum_by-IsPermutation}
 use Rattle.std.proofs.lemmas.List.Sums.{fold_push, sum_by-cons}
 use Rattle.doc_values.specs.Values.{values_of}
 use Rattle.flattener.specs.Flat.{flat_of}
 use Rattle.mapping.specs.Mapping.{Mapping, kind_at}
 use Rattle.query_ast.specs.Buckets.{all_shown}
 use Rattle.query_ast.specs.Uses.{is_written}
-use Rattle.query_ast.specs.Compare.{is_less, value_cmp}
 use Rattle.query_ast.specs.SortKey.{number_in, total}
 use Rattle.tree_objects.specs.Object.{Object}
 use Rattle.tree_objects.specs.Values.{values}

@@ -1,8 +1,8 @@
 -- The documents of a view with scores, entry by entry.
-use Rattle.std.proofs.Common.{◌≡◌, ℕ, zero, suc, ℤ, ◌+◌, ◌<◌, ◌≤◌, Bool, true, false, cond, List, [], ◌∷◌, ◌++◌, length, map, drop, get_or, count_by, sum_by, Option, Some, None, is_some, refl, sym, ap, subst, ◌∙◌, arith, append_assoc}
+use Rattle.std.proofs.Common.{◌≡◌, ℕ, zero, suc, ℤ, ◌+◌, ◌<◌, ◌≤◌, Bool, List, [], ◌∷◌, ◌++◌, length, map, drop, get_or, sum_by, Option, is_some, refl, sym, ap, subst, ◌∙◌, arith, append_assoc}
 use Rattle.std.specs.List.{flat_map}
 use Rattle.std.proofs.lemmas.List.Concat.{flat_map-append}
-use Rattle.std.proofs.lemmas.List.Sums.{sum_by-append, sum_by-cons}
+use Rattle.std.proofs.lemmas.List.Sums.{sum_by-append}
 use Rattle.mapping_body.specs.declared.kind.Kind.{Kind}
 use Rattle.query_eval.specs.Found.{AreLong}
 use Rattle.segment.specs.Flat.{FlatDocument, flat_of}
@@ -10,8 +10,8 @@ use Rattle.segment.specs.Live.{EntryState}
 use Rattle.segment_parts.specs.Text.{marked_places}
 use Rattle.segment_parts.specs.declared.columns.Columns.{Columns}
 use Rattle.tree_objects.specs.declared.field_value.FieldValue.{FieldValue}
-use Rattle.bucket_aggs.specs.Counts.{AreCounts, AreKeys, KeysAscend, Weighed, flats_in, flats_of_view, marked_count, shows, weight}
-use Rattle.bucket_aggs.specs.Sums.{IsSummary, numbers_in, values_in}
+use Rattle.bucket_aggs.specs.Counts.{AreCounts, AreKeys, KeysAscend, Weighed, flats_in, flats_of_view, shows, weight}
+use Rattle.bucket_aggs.specs.Sums.{IsSummary, numbers_in}
 use Rattle.bucket_aggs.specs.declared.metrics.Summary.{Summary}
 use Rattle.bucket_aggs.specs.declared.rows.CountRow.{CountRow}
 use Rattle.bucket_aggs.proofs.Rowed.{one_if}

@@ -1,11 +1,10 @@
 -- Rows of keys with their counts, put together by key.
-use Rattle.std.proofs.Common.{◌≡◌, ℕ, zero, suc, ◌+◌, ◌<◌, ◌≤◌, Bool, true, false, ◌&&◌, ◌||◌, cond, nat_lt, List, [], ◌∷◌, ◌++◌, length, map, filter, get_or, count_by, sum_by, refl, sym, ap, subst, ◌∙◌, arith, append_assoc}
+use Rattle.std.proofs.Common.{◌≡◌, ℕ, suc, ◌+◌, ◌<◌, Bool, true, false, cond, List, [], ◌∷◌, ◌++◌, get_or, refl, sym, ap, subst, ◌∙◌, arith, append_assoc}
 use Rattle.std.specs.Cmp.{IsStrictWeakOrder}
-use Rattle.std.specs.List.{AllByRecursion, list_any}
 use Rattle.std.specs.List.Sorted.{IsPermutation, IsSortedBy}
 use Rattle.std.proofs.lemmas.Bool.{false≢true}
 use Rattle.std.proofs.lemmas.List.Elements.{recursion_from_All, All-from_recursion}
-use Rattle.std.proofs.lemmas.List.Sorted.{All-permutation, IsPermutation-sym, ranks_by, sorted_far, sum_by-IsPermutation}
+use Rattle.std.proofs.lemmas.List.Sorted.{All-permutation, ranks_by, sorted_far, sum_by-IsPermutation}
 use Rattle.std.proofs.lemmas.List.Sums.{sum_by-cons}
 use Rattle.tree_objects.specs.declared.field_value.FieldValue.{FieldValue}
 use Rattle.mapping_body.specs.declared.kind.Kind.{Kind}
@@ -13,8 +12,8 @@ use Rattle.query_ast.specs.Uses.{IsValueOf}
 use Rattle.query_ast.specs.Compare.{is_less, is_same_value, value_cmp}
 use Rattle.bucket_aggs.specs.Counts.{AreKeys, KeysAscend, added, weight, weight_in}
 use Rattle.bucket_aggs.specs.declared.rows.CountRow.{CountRow}
-use Rattle.bucket_aggs.proofs.Keys.{Ascend, by_order, greater_is, less_apart, less_on, same_is, same_itself}
-use Rattle.bucket_aggs.proofs.Lists.{Each, by_test, each_as}
+use Rattle.bucket_aggs.proofs.Keys.{greater_is, less_on, same_is, same_itself}
+use Rattle.bucket_aggs.proofs.Lists.{Each, by_test}
 use Rattle.bucket_aggs.proofs.Values.{value_exact, value_total}
 
 abbrev pub Rows : Type 0

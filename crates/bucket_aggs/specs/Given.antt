@@ -1,5 +1,5 @@
 -- Buckets over the objects of one scope that the documents of a view stand for: those at which a document has a score.
-use Rattle.std.specs.Prelude.{◌≡◌, ◌≢◌, ℕ, ℤ, pos, Bool, List, ◌++◌, filter, length, map, Option, Some, None, is_some}
+use Rattle.std.specs.Prelude.{◌≡◌, ◌≢◌, ℕ, ℤ, pos, Bool, List, ◌++◌, filter, length, map, Option, Some, is_some}
 use Rattle.std.specs.Int.{saturate_signed, w64}
 use Rattle.std.specs.List.{AllPairs}
 use Rattle.flattener.specs.StandsFor.{Marked, ViewStandsFor}

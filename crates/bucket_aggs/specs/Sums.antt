@@ -1,5 +1,5 @@
 -- What numbers come to: how many there are, their sum, the least and the greatest.
-use Rattle.std.specs.Prelude.{◌≡◌, ℕ, ℤ, pos, ◌+ℤ◌, Bool, false, if◌then◌else◌, List, [], ◌∷◌, length, fold, Option, Some, None}
+use Rattle.std.specs.Prelude.{◌≡◌, ℕ, ℤ, pos, ◌+ℤ◌, Bool, false, if◌then◌else◌, List, [], length, fold, Option, Some, None}
 use Rattle.std.specs.List.{AllByRecursion, Contains}
 use Rattle.std.specs.Ordering.{int_cmp, is_lt}
 use Rattle.doc_values.specs.Values.{values_of}

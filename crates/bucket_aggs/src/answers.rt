@@ -1,20 +1,17 @@
 //! The answers to definitions of buckets.
 
-ghost use Rattle.std.specs.Prelude.{◌≡◌, ◌<◌, ◌≤◌, ◌++◌, ℕ, true, List, [], ◌∷◌, Option, Some, None, map, pos, IfOk};
+ghost use Rattle.std.specs.Prelude.{◌≡◌, ◌<◌, ℕ, true, List, [], Option, Some, None, map, pos, IfOk};
 ghost use Rattle.join_ordinals.specs.Ordinals.{AreOrdinals};
 ghost use Rattle.query_ast.specs.Agg.View.{agg_of};
-ghost use Rattle.query_ast.specs.Definition.{definition, definitions_of, no_definitions};
+ghost use Rattle.query_ast.specs.Definition.{definitions_of};
 ghost use Rattle.query_ast.specs.Joins.{agg_joins, form_joins, joins, some_agg_joins};
 ghost use Rattle.query_ast.specs.Replies.{no_buckets as no_bucket, several};
-ghost use Rattle.query_ast.specs.Clause.View.{clause_of};
-ghost use Rattle.block_join.specs.declared.rule.Rule.{Rule};
 ghost use Rattle.query_ast.specs.declared.agg.AggForm.{AggForm};
-ghost use Rattle.query_eval.specs.Folds.{paired_by};
 ghost use Rattle.query_ast.specs.Replies.View.{bucket_part, reply_part, value_of};
 ghost use Rattle.query_ast.specs.Resolved.{AreAggDefinitions, IsAggDefinition, IsChildRelation, IsForm, IsResolved, IsUse, scope_of_form};
-ghost use Rattle.query_ast.specs.Uses.{IsValueOf, uses_at};
+ghost use Rattle.query_ast.specs.Uses.{IsValueOf};
 ghost use Rattle.mapping.specs.Mapping.{Mapping as Meaning, IsAbove, kind_at};
-ghost use Rattle.query_eval.specs.Found.{AreLong, IsSeen, score_by};
+ghost use Rattle.query_eval.specs.Found.{AreLong, IsSeen};
 ghost use Rattle.tree_objects.specs.Object.{Object};
 ghost use Rattle.tree_objects.specs.Tree.{Tree};
 ghost use Rattle.bucket_aggs.specs.Counts.{AreKeys};

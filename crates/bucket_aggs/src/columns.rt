@@ -1,6 +1,6 @@
 //! The ordinals that documents have in the column of a field of texts, counted.
 
-ghost use Rattle.std.specs.Prelude.{◌≡◌, List, [], ◌∷◌, false, map, slice_index_or, OnOk};
+ghost use Rattle.std.specs.Prelude.{◌≡◌, [], ◌∷◌, false, map, slice_index_or, OnOk};
 ghost use Rattle.std.specs.List.Sorted.{IsSorted};
 ghost use Rattle.std.specs.Ordering.{nat_cmp};
 ghost use Rattle.doc_values.specs.Values.{values_of};

@@ -1,6 +1,6 @@
 //! What the values of a field come to over all objects.
 
-ghost use Rattle.std.specs.Prelude.{◌≡◌, ◌++◌, ℕ, ℤ, List, [], ◌∷◌, map, length, sum_by, is_some, IfOk, OnOk, Some, None};
+ghost use Rattle.std.specs.Prelude.{◌≡◌, ◌++◌, ℤ, List, [], ◌∷◌, map, length, sum_by, IfOk, OnOk, Some, None};
 ghost use Rattle.std.specs.List.{flat_map};
 ghost use Rattle.std.specs.Int.{saturate_signed, w64};
 ghost use Rattle.doc_values.specs.Values.{values_of};

@@ -1,6 +1,6 @@
 //! The values of a field over all entries of a view, each with the number of objects that show it.
 
-ghost use Rattle.std.specs.Prelude.{◌≡◌, ◌<◌, ◌≤◌, ◌+◌, ℕ, List, true, false, count_by, length, map, replicate, IfOk, OnOk};
+ghost use Rattle.std.specs.Prelude.{◌≡◌, ◌<◌, ◌≤◌, ◌+◌, true, false, count_by, length, map, replicate, IfOk, OnOk};
 ghost use Rattle.std.specs.List.{AllByRecursion};
 ghost use Rattle.mapping_body.specs.declared.kind.Kind.{Kind as Kinds};
 ghost use Rattle.query_ast.specs.Uses.{is_written};

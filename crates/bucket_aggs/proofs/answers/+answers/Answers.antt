@@ -1,13 +1,12 @@
 use Rattle.std.proofs.lemmas.Bool.{eqb-true}
 use Rattle.std.proofs.lemmas.List.{map-append, take_all, take_more}
-use Rattle.std.proofs.Common.{◌≡◌, ℕ, ℤ, ◌<◌, ◌≤◌, ◌+◌, ◌-◌, ◌++◌, List, [], ◌∷◌, Option, Some, None, length, map, min, take, drop, get_or, sum_by, refl, sym, ap, subst, ◌∙◌, arith, rules, w64}
+use Rattle.std.proofs.Common.{◌≡◌, ℕ, ℤ, ◌+◌, ◌-◌, ◌++◌, List, [], ◌∷◌, Option, Some, None, length, map, min, take, drop, sum_by, refl, sym, ap, subst, ◌∙◌, arith, rules, w64}
 use Rattle.std.proofs.lemmas.Int.{to_z-of_z}
 use mir.Val.{SFits, of_z, to_z}
 use Rattle.block_join.specs.declared.rule.Rule.TheVariants.{Kept}
-use Rattle.mapping.specs.Mapping.{Mapping, kind_at}
+use Rattle.mapping.specs.Mapping.{kind_at}
 use Rattle.mapping_body.specs.declared.kind.Kind.{Kind}
 use Rattle.query_ast.specs.Clause.{Clause, is_among, leaf, on_field}
-use Rattle.query_ast.specs.Clause.View.{clause_of}
 use Rattle.query_ast.specs.Agg.{Agg}
 use Rattle.query_ast.specs.Agg.View.{agg_of}
 use Rattle.query_ast.specs.Definition.{Definition, Definitions, definitions_of, no_definitions}

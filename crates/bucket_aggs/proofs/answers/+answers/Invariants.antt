@@ -1,4 +1,4 @@
-use Rattle.std.proofs.Common.{◌≡◌, ◌+◌, ◌*◌, ℕ, List, Option, map, take}
+use Rattle.std.proofs.Common.{◌+◌, ◌*◌, ℕ, List, Option, map, take}
 use Rattle.query_ast.specs.Agg.View.{agg_of}
 use Rattle.query_ast.specs.Definition.{definition_size, definitions_of, definitions_size}
 use Rattle.query_ast.specs.Replies.View.{bucket_part}

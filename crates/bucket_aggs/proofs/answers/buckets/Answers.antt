@@ -1,4 +1,4 @@
-use Rattle.std.proofs.Common.{◌≡◌, List, map, sym, subst}
+use Rattle.std.proofs.Common.{List, map, sym, subst}
 use Rattle.query_ast.specs.Agg.{Agg}
 use Rattle.query_ast.specs.Definition.{Definition, definitions_of}
 use Rattle.query_ast.specs.Replies.{ReplyPart}

@@ -1,4 +1,4 @@
-use Rattle.std.proofs.Common.{◌≡◌, ℕ, ℤ, pos, sum_by, Option, Some, None, sym, subst, ◌∙◌, rules, w64}
+use Rattle.std.proofs.Common.{◌≡◌, ℕ, ℤ, pos, sum_by, Option, Some, sym, subst, ◌∙◌, rules, w64}
 use Rattle.std.proofs.lemmas.Int.{to_z-of_z}
 use mir.Val.{SFits, of_z, to_z}
 use Rattle.mapping.specs.Mapping.{kind_at}

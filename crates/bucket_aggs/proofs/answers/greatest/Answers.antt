@@ -1,4 +1,4 @@
-use Rattle.std.proofs.Common.{◌≡◌, ℕ, Option, Some, None, sym, subst}
+use Rattle.std.proofs.Common.{ℕ, Option, None, sym, subst}
 use Rattle.mapping.specs.Mapping.{kind_at}
 use Rattle.query_ast.specs.Resolved.{IsUse}
 use Rattle.bucket_aggs.specs.Given.{IsAnswer, greatest_by}

@@ -1,4 +1,4 @@
-use Rattle.std.proofs.Common.{◌≡◌, ◌<◌, ◌+◌, ℕ, List, [], ap, arith}
+use Rattle.std.proofs.Common.{◌+◌, ap, arith}
 use Rattle.bucket_aggs.proofs.Ordinals.{left_at_start, list_alone, one_left}
 use Rattle.bucket_aggs.proofs.columns.count_values.Goals as goal
 

@@ -1,4 +1,4 @@
-use Rattle.std.proofs.Common.{◌≡◌, ◌<◌, ◌+◌, ◌++◌, ℕ, List, length, get_or, ap, ◌∙◌, arith}
+use Rattle.std.proofs.Common.{◌≡◌, ◌+◌, ◌++◌, List, length, get_or, ap, ◌∙◌, arith}
 use Rattle.bucket_aggs.proofs.Viewed.{Scores, flats_from, flats_step, long_view, own_flats, summing_step}
 use Rattle.bucket_aggs.proofs.metrics.summed.Goals as goal
 

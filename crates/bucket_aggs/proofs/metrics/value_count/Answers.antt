@@ -1,4 +1,4 @@
-use Rattle.std.proofs.Common.{◌≡◌, ◌<◌, ◌+◌, ◌++◌, ℕ, List, length, get_or, ap, ◌∙◌, arith}
+use Rattle.std.proofs.Common.{◌≡◌, ◌+◌, ◌++◌, ℕ, List, length, get_or, ap, ◌∙◌, arith}
 use Rattle.bucket_aggs.specs.Sums.{values_in}
 use Rattle.bucket_aggs.proofs.Viewed.{Scores, adds_step, flats_from, flats_step, long_view, own_flats}
 use Rattle.bucket_aggs.proofs.metrics.value_count.Goals as goal

@@ -1,4 +1,4 @@
-use Rattle.std.proofs.Common.{◌≡◌, [], ◌∷◌, sym, subst, rules}
+use Rattle.std.proofs.Common.{[], sym, subst, rules}
 use Rattle.std.proofs.lemmas.List.Sorted.{answers_always}
 use Rattle.std.specs.Vec.Iter.{into_iter_items}
 use Rattle.bucket_aggs.proofs.Weights.{Merging, Rows, key_before, keys_rank, merging_more, merging_start}

@@ -1,4 +1,3 @@
-use Rattle.std.proofs.Common.{◌≡◌}
 use Rattle.std.specs.Vec.Iter.{into_iter_items}
 use Rattle.bucket_aggs.proofs.Weights.{Merging}
 use Rattle.bucket_aggs.proofs.rows.merged.Given as goal

@@ -1,15 +1,11 @@
-use Rattle.std.proofs.Common.{◌≡◌, ◌+◌, ◌<◌, count_by, ◌-◌, ◌≤◌, ℕ, List, None, Some, ap, sym, subst, length, map, replicate, get_or, ◌∙◌, arith}
+use Rattle.std.proofs.Common.{◌≡◌, ◌<◌, count_by, ◌-◌, ℕ, List, None, Some, ap, sym, subst, length, ◌∙◌, arith}
 use Rattle.std.specs.List.Sorted.{IsPermutation}
-use Rattle.doc_values.specs.Values.{values_of}
 use Rattle.segment_parts.specs.Fields.{column_of}
-use Rattle.segment_parts.specs.Lists.{terms_of}
 use Rattle.segment_parts.specs.Text.{marked_places}
-use Rattle.term_table.specs.Ranges.{IsRange, is_of_field}
-use Rattle.term_table.specs.Terms.{AreAscending}
 use Rattle.bucket_aggs.specs.Counts.{is_term}
 use Rattle.bucket_aggs.proofs.Lists.{Each}
 use Rattle.bucket_aggs.proofs.Numbered.{no_texts_shown, texts_shown}
-use Rattle.bucket_aggs.proofs.Termed.{TermList, different, ordinals_counted, ordinals_within, texts_counted}
+use Rattle.bucket_aggs.proofs.Termed.{different, ordinals_counted, ordinals_within, texts_counted}
 use Rattle.bucket_aggs.proofs.terms.add_texts.Goals as goal
 
 pub returns-in_default-clause-counts : goal.returns-in_default-clause-counts

@@ -1,6 +1,4 @@
-use Rattle.std.proofs.Common.{◌≡◌, ◌<◌, ◌+◌, ◌++◌, ℕ, List, length, get_or, ap, ◌∙◌, arith}
-use Rattle.std.specs.List.{flat_map}
-use Rattle.bucket_aggs.specs.Counts.{AreCounts, flats_of_view}
+use Rattle.std.proofs.Common.{◌≡◌, ◌+◌, ◌++◌, List, length, get_or, ap, ◌∙◌, arith}
 use Rattle.bucket_aggs.proofs.Viewed.{Scores, counting_end, counting_step, flats_from, flats_step, long_view, own_flats}
 use Rattle.bucket_aggs.proofs.terms.counted.Goals as goal
 

@@ -1,7 +1,7 @@
-use Rattle.std.proofs.Common.{◌≡◌, ◌<◌, ◌+◌, ℤ, pos, ap, sym, subst, ◌∙◌, get_or, length, rules, arith, w64}
+use Rattle.std.proofs.Common.{◌≡◌, ℤ, pos, ap, sym, subst, ◌∙◌, get_or, rules, arith, w64}
 use Rattle.std.proofs.lemmas.Int.{to_z-of_z}
 use Rattle.std.proofs.lemmas.List.Sums.{sum_by-drop_more}
-use mir.Val.{SFits, of_z, to_z}
+use mir.Val.{SFits}
 use Rattle.tree_objects.specs.declared.field_value.FieldValue.TheVariants.{Number}
 use Rattle.bucket_aggs.specs.Counts.{AreKeys, added, is_number, weight}
 use Rattle.bucket_aggs.proofs.Rowed.{one_if}

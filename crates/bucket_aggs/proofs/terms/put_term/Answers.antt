@@ -1,8 +1,8 @@
-use Rattle.std.proofs.Common.{◌≡◌, ◌+◌, ◌<◌, ℕ, List, [], Some, ap, sym, subst, ◌∙◌, arith}
+use Rattle.std.proofs.Common.{◌≡◌, ℕ, List, [], ap, sym, subst, ◌∙◌, arith}
 use Rattle.std.proofs.lemmas.Option.{get_or_from_slice_get}
 use Rattle.tree_objects.specs.declared.field_value.FieldValue.{FieldValue}
 use Rattle.tree_objects.specs.declared.field_value.FieldValue.TheVariants.{Written}
-use Rattle.bucket_aggs.specs.Counts.{AreKeys, added, count_if, term_key, weight}
+use Rattle.bucket_aggs.specs.Counts.{AreKeys, count_if, term_key, weight}
 use Rattle.bucket_aggs.proofs.Weights.{Rows, keys_added, weight_added}
 use Rattle.bucket_aggs.proofs.terms.put_term.Goals as goal
 

@@ -1,5 +1,4 @@
-use Rattle.std.proofs.Common.{◌≡◌, ◌+◌, ◌-◌, ◌<◌, ◌≤◌, ◌^◌, ℕ, List, length, ap, ◌∙◌, arith}
-use Rattle.bucket_aggs.specs.Counts.{AreKeys, count_if, counts_of, term_key, weight}
+use Rattle.std.proofs.Common.{◌-◌, length, arith}
 use Rattle.bucket_aggs.proofs.Termed.{counts_step}
 use Rattle.bucket_aggs.proofs.terms.put_terms.Goals as goal
 
