@@ -18,9 +18,9 @@ ghost use Rattle.engine.specs.Kept.{IsIndexOf};
 ghost use Rattle.engine.specs.Parts.{Leaves, IsRefusedAs, answered_of};
 
 use crate::engine::Answered;
+use crate::entries::entries_stand;
 use crate::no_memory::NoMemory;
 use crate::reply::{Ended, refuse};
-use crate::entries::entries_stand;
 use index_core::IndexCore;
 use machine::Limits;
 use mapping::Mapping;
