@@ -1,5 +1,10 @@
 """The made input of the scripts beside this one: products with up to three offers, each with up to two stocks."""
 
+MAPPING = ('{"mapping":{"properties":{"name":{"type":"text"},"offers":{"type":"nested","properties":'
+           '{"color":{"type":"keyword"},"price":{"type":"long"},"stock":{"type":"nested","properties":'
+           '{"n":{"type":"long"},"site":{"type":"keyword"}}}}},"rel":{"type":"join","relations":'
+           '{"question":"answer"}}}}}')
+
 
 class Draws:
     """Numbers that are the same on each machine."""

@@ -17,13 +17,10 @@ import sys
 import tempfile
 import time
 
-from made import Draws, product
+from made import MAPPING, Draws, product
 
 TOP = os.path.dirname(os.path.dirname(os.path.abspath(__file__)))
-MAPPING = ('{"mapping":{"properties":{"name":{"type":"text"},"offers":{"type":"nested","properties":'
-           '{"color":{"type":"keyword"},"price":{"type":"long"},"stock":{"type":"nested","properties":'
-           '{"n":{"type":"long"},"site":{"type":"keyword"}}}}},"rel":{"type":"join","relations":'
-           '{"question":"answer"}}}}}')
+
 
 
 def writes(count):

@@ -1,0 +1,68 @@
+#!/usr/bin/env python3
+"""How long the built program takes for buckets and metrics over nested objects, for each object that they look at.
+
+The trees are those of the made input, each written once. When they are loaded, each search is sent and its reply awaited, so many times, and the
+least time counts; that of a search for nothing but the number of trees is taken away. The objects that a search looks at are
+those of its own count: all offers for the bucket of `nested`. On a machine that does other work the figures are high. Run
+`./run --prove examples/shop.ndjson` once before: it builds the program.
+
+    python3 bench/buckets.py [TREES [PROGRAM]]       # 100,000 trees
+"""
+import json
+import os
+import subprocess
+import sys
+import tempfile
+import time
+
+from made import MAPPING, Draws, product
+
+TOP = os.path.dirname(os.path.dirname(os.path.abspath(__file__)))
+ALL = '{"search":{"size":0}}'
+OFFERS = '{"search":{"size":0,"aggs":{"offers":{"nested":{"path":"offers"}%s}}}}'
+SEARCHES = {
+    "nested alone": OFFERS % "",
+    "terms, and reverse_nested in each": OFFERS % ',"aggs":{"colors":{"terms":{"field":"offers.color"},"aggs":{"products":{"reverse_nested":{}}}}}',
+    "min, max and sum": OFFERS % ',"aggs":{"a":{"min":{"field":"offers.price"}},"b":{"max":{"field":"offers.price"}},"c":{"sum":{"field":"offers.price"}}}',
+}
+TIMES = 30
+
+
+def ask(program, line):
+    program.stdin.write(line.encode() + b"\n")
+    program.stdin.flush()
+    return program.stdout.readline()
+
+
+def least(program, line):
+    """The least of so many times, in nanoseconds."""
+    times = []
+    for _ in range(TIMES):
+        start = time.perf_counter_ns()
+        ask(program, line)
+        times.append(time.perf_counter_ns() - start)
+    return min(times)
+
+
+def main():
+    count = int(sys.argv[1]) if len(sys.argv) > 1 else 100_000
+    path = sys.argv[2] if len(sys.argv) > 2 else os.path.join(TOP, "crates/nestsearch/out/nestsearch")
+    with tempfile.TemporaryDirectory() as work:
+        program = subprocess.Popen([path, "serve", os.path.join(work, "store")], stdin=subprocess.PIPE, stdout=subprocess.PIPE)
+        draws = Draws(7)
+        ask(program, MAPPING)
+        for number in range(count):
+            ask(program, '{"index":{"_id":"%d"}}\n%s' % (number, product(number, draws)))
+        trees = json.loads(ask(program, ALL))["hits"]["total"]
+        base = least(program, ALL)
+        print(f"{trees:,} live trees; a search for their number takes {base / 1e6:.2f} ms")
+        for name, line in SEARCHES.items():
+            offers = json.loads(ask(program, line))["aggregations"]["offers"]["doc_count"]
+            spent = least(program, line) - base
+            print(f"{name}: {spent / 1e6:.2f} ms over {offers:,} offers, {spent / offers:.1f} ns an offer")
+        program.stdin.close()
+        program.wait()
+
+
+if __name__ == "__main__":
+    main()
