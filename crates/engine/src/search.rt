@@ -19,9 +19,9 @@ ghost use Rattle.engine.specs.Reads.{hits_of, page_reads_of};
 ghost use Rattle.search_page.specs.Searched.{page_reads};
 
 use crate::engine::Answered;
+use crate::entries::entries_stand;
 use crate::no_memory::NoMemory;
 use crate::reply::{Ended, refuse};
-use crate::entries::entries_stand;
 use index_core::IndexCore;
 use machine::Limits;
 use mapping::Mapping;

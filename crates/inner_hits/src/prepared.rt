@@ -181,8 +181,14 @@ fn one<L: Ledger>(
     match def.over {
         InnerOver::Below(path) => {
             let hits = matches(alloc, view, mapping, ordinals, def.query.get(), path, steps)?;
-            let filters =
-                filters_found(alloc, view, mapping, ordinals, def.sort.as_slice(), steps)?;
+            let filters = filters_found(
+                alloc,
+                view,
+                mapping,
+                ordinals,
+                def.sort.as_slice(),
+                steps,
+            )?;
             let owned = each(alloc, view, mapping, ordinals, &def.owned, path, steps)?;
             Ok(PreparedDef {
                 hits,

@@ -226,8 +226,12 @@ shown_page-returns-clause-steps g t c = λ trees stands kept are source.
     let there = subst (λ (l : List Hit). AreHits m c.args.scope trees l) (sym c.as_slice-listed.ensures.value) (among_all (λ (h : Hit). IsHitAt m c.args.scope trees h.place h.doc) found page among are) in
     let held = subst (λ (l : List Hit). HaveSource m trees c.args.scope l (seen_as c.args.source.now)) (sym c.as_slice-listed.ensures.value)
     (λ (some : 0 < c.args.scope). among_all (λ (h : Hit). seen_as c.args.source.now ≡ (tree_of (object_at m trees h.place h.doc)).source) found page among (source some)) in
-    omega (arith, c.in_ok-shown.ensures.steps trees stands kept there held, same_steps m trees def found page rows,
-    ap (λ (l : List Hit). joined_among (hits_of (map (shown_as m trees (inner_of def)) l))) c.as_slice-listed.ensures.value)
+    omega (
+      arith,
+      c.in_ok-shown.ensures.steps trees stands kept there held,
+      same_steps m trees def found page rows,
+      ap (λ (l : List Hit). joined_among (hits_of (map (shown_as m trees (inner_of def)) l))) c.as_slice-listed.ensures.value,
+    )
 
 pub shown_page-returns-in_err-shown-clause-steps : goal.shown_page-returns-in_err-shown-clause-steps
 shown_page-returns-in_err-shown-clause-steps g t c = λ trees stands kept are source.
@@ -241,8 +245,12 @@ shown_page-returns-in_err-shown-clause-steps g t c = λ trees stands kept are so
     let there = subst (λ (l : List Hit). AreHits m c.args.scope trees l) (sym c.as_slice-listed.ensures.value) (among_all (λ (h : Hit). IsHitAt m c.args.scope trees h.place h.doc) found page among are) in
     let held = subst (λ (l : List Hit). HaveSource m trees c.args.scope l (seen_as c.args.source.now)) (sym c.as_slice-listed.ensures.value)
     (λ (some : 0 < c.args.scope). among_all (λ (h : Hit). seen_as c.args.source.now ≡ (tree_of (object_at m trees h.place h.doc)).source) found page among (source some)) in
-    omega (arith, c.in_err-shown.ensures.steps trees stands kept there held, same_steps m trees def found page rows,
-    ap (λ (l : List Hit). joined_among (hits_of (map (shown_as m trees (inner_of def)) l))) c.as_slice-listed.ensures.value)
+    omega (
+      arith,
+      c.in_err-shown.ensures.steps trees stands kept there held,
+      same_steps m trees def found page rows,
+      ap (λ (l : List Hit). joined_among (hits_of (map (shown_as m trees (inner_of def)) l))) c.as_slice-listed.ensures.value,
+    )
 
 pub shown_page-returns-in_err-copied-clause-steps : goal.shown_page-returns-in_err-copied-clause-steps
 shown_page-returns-in_err-copied-clause-steps g t c = λ trees stands kept are source.
@@ -256,8 +264,12 @@ shown_page-returns-in_err-copied-clause-steps g t c = λ trees stands kept are s
     let there = subst (λ (l : List Hit). AreHits m c.args.scope trees l) (sym c.as_slice-listed.ensures.value) (among_all (λ (h : Hit). IsHitAt m c.args.scope trees h.place h.doc) found page among are) in
     let held = subst (λ (l : List Hit). HaveSource m trees c.args.scope l (seen_as c.args.source.now)) (sym c.as_slice-listed.ensures.value)
     (λ (some : 0 < c.args.scope). among_all (λ (h : Hit). seen_as c.args.source.now ≡ (tree_of (object_at m trees h.place h.doc)).source) found page among (source some)) in
-    omega (arith, c.in_ok-shown.ensures.steps trees stands kept there held, same_steps m trees def found page rows,
-    ap (λ (l : List Hit). joined_among (hits_of (map (shown_as m trees (inner_of def)) l))) c.as_slice-listed.ensures.value)
+    omega (
+      arith,
+      c.in_ok-shown.ensures.steps trees stands kept there held,
+      same_steps m trees def found page rows,
+      ap (λ (l : List Hit). joined_among (hits_of (map (shown_as m trees (inner_of def)) l))) c.as_slice-listed.ensures.value,
+    )
 
 pub shown_hits-hits-init : goal.shown_hits-hits-init
 shown_hits-hits-init g t c = λ trees stands kept are source. (
@@ -464,8 +476,13 @@ tree_hit-returns-clause-steps g t c = λ trees stands kept hit.
     let text = c.in_ok-text.ensures.source m entry.live ts there in
     let reads : ReadsBack (tree_of o) = kept_root m (λ trees doc is low. c.documents_are_of_objects.ensures.trees m trees doc is low) view trees place doc stands kept hit in
     let asked : IsAsked m view trees 0 place doc _ = record { stands = stands; kept = kept; hit = hit; holds = c.in_ok-source.ensures (tree_of o).source (ap reading (c.as_slice-2.ensures.value ∙ text) ∙ reads) } in
-    omega (arith, c.in_ok-text.ensures.step, c.in_ok-add_pages.ensures.steps trees asked, bound,
-    ap (λ (ds : List (Definition Inner)). joined_in (pages_of (inner_pages m (live_trees trees) (definitions_of ds) o))) c.as_slice-3.ensures)
+    omega (
+      arith,
+      c.in_ok-text.ensures.step,
+      c.in_ok-add_pages.ensures.steps trees asked,
+      bound,
+      ap (λ (ds : List (Definition Inner)). joined_in (pages_of (inner_pages m (live_trees trees) (definitions_of ds) o))) c.as_slice-3.ensures,
+    )
 
 pub tree_hit-returns-in_err-add_pages-clause-steps : goal.tree_hit-returns-in_err-add_pages-clause-steps
 tree_hit-returns-in_err-add_pages-clause-steps g t c = λ trees stands kept hit.
@@ -483,8 +500,13 @@ tree_hit-returns-in_err-add_pages-clause-steps g t c = λ trees stands kept hit.
     let text = c.in_ok-text.ensures.source m entry.live ts there in
     let reads : ReadsBack (tree_of o) = kept_root m (λ trees doc is low. c.documents_are_of_objects.ensures.trees m trees doc is low) view trees place doc stands kept hit in
     let asked : IsAsked m view trees 0 place doc _ = record { stands = stands; kept = kept; hit = hit; holds = c.in_ok-source.ensures (tree_of o).source (ap reading (c.as_slice-2.ensures.value ∙ text) ∙ reads) } in
-    omega (arith, c.in_ok-text.ensures.step, c.in_err-add_pages.ensures.steps trees asked, bound,
-    ap (λ (ds : List (Definition Inner)). joined_in (pages_of (inner_pages m (live_trees trees) (definitions_of ds) o))) c.as_slice-3.ensures)
+    omega (
+      arith,
+      c.in_ok-text.ensures.step,
+      c.in_err-add_pages.ensures.steps trees asked,
+      bound,
+      ap (λ (ds : List (Definition Inner)). joined_in (pages_of (inner_pages m (live_trees trees) (definitions_of ds) o))) c.as_slice-3.ensures,
+    )
 
 pub tree_hit-returns-in_err-root_id-clause-steps : goal.tree_hit-returns-in_err-root_id-clause-steps
 tree_hit-returns-in_err-root_id-clause-steps g t c = λ trees stands kept hit.
@@ -502,5 +524,10 @@ tree_hit-returns-in_err-root_id-clause-steps g t c = λ trees stands kept hit.
     let text = c.in_ok-text.ensures.source m entry.live ts there in
     let reads : ReadsBack (tree_of o) = kept_root m (λ trees doc is low. c.documents_are_of_objects.ensures.trees m trees doc is low) view trees place doc stands kept hit in
     let asked : IsAsked m view trees 0 place doc _ = record { stands = stands; kept = kept; hit = hit; holds = c.in_ok-source.ensures (tree_of o).source (ap reading (c.as_slice-2.ensures.value ∙ text) ∙ reads) } in
-    omega (arith, c.in_ok-text.ensures.step, c.in_ok-add_pages.ensures.steps trees asked, bound,
-    ap (λ (ds : List (Definition Inner)). joined_in (pages_of (inner_pages m (live_trees trees) (definitions_of ds) o))) c.as_slice-3.ensures)
+    omega (
+      arith,
+      c.in_ok-text.ensures.step,
+      c.in_ok-add_pages.ensures.steps trees asked,
+      bound,
+      ap (λ (ds : List (Definition Inner)). joined_in (pages_of (inner_pages m (live_trees trees) (definitions_of ds) o))) c.as_slice-3.ensures,
+    )

@@ -18,5 +18,8 @@ returns-clause-pages g c = λ trees asked.
 
 pub returns-clause-steps : goal.returns-clause-steps
 returns-clause-steps g c = λ trees asked.
-    omega (arith, c.in_ok-add_pages.ensures.steps trees asked,
-    ap (λ (ds : List (Definition Inner)). joined_in (pages_of (inner_pages c.args.mapping.now (live_trees trees) (definitions_of ds) (object_at c.args.mapping.now trees c.args.place c.args.doc)))) c.as_slice.ensures)
+    omega (
+      arith,
+      c.in_ok-add_pages.ensures.steps trees asked,
+      ap (λ (ds : List (Definition Inner)). joined_in (pages_of (inner_pages c.args.mapping.now (live_trees trees) (definitions_of ds) (object_at c.args.mapping.now trees c.args.place c.args.doc)))) c.as_slice.ensures,
+    )

@@ -28,8 +28,7 @@ returns-then-is_empty-clause-shown g c = λ trees stands kept hit.
     let in_root : o ≡ root (tree_of o) = at_root m (λ trees doc is low. c.documents_are_of_objects.ensures.trees m trees doc is low) view trees place doc stands hit in
     let entry = c.index-entries-place.result in
     let at = entry_at view place doc entry c.requires.doc (c.index-entries-place.is ∙ ap (λ (l : List EntryState). get_or l c.args.place c.index-entries-place.result) c.entries.ensures.entries) in
-    let there = standing_of m view trees place entry c.segment-segment.result.now stands at c.segment-segment.ensures in
-    (
+    let there = standing_of m view trees place entry c.segment-segment.result.now stands at c.segment-segment.ensures in (
       c.in_ok-bare.ensures.source m entry.live (get_or trees place []) there ∙ ap (λ (v : JsonValue). if c.args.source then Some (compact v) else None) (sym (ap content in_root)),
       c.in_ok-bare.ensures.inner ∙ sym (ap (λ (ds : List (Definition Inner)). inner_pages m (live_trees trees) (definitions_of ds) o) c.in_ok-bare.ensures.none),
     )
@@ -62,8 +61,7 @@ returns-clause-shown g c = λ trees stands kept hit.
     let there = standing_of m view trees place entry c.segment-segment.result.now stands at c.segment-segment.ensures in
     let text = c.in_ok-text.ensures.source m entry.live (get_or trees place []) there in
     let reads : ReadsBack (tree_of o) = kept_root m (λ trees doc is low. c.documents_are_of_objects.ensures.trees m trees doc is low) view trees place doc stands kept hit in
-    let asked : IsAsked m view trees 0 place doc _ = record { stands = stands; kept = kept; hit = hit; holds = c.in_ok-whole.ensures (tree_of o).source (ap reading (c.as_slice-2.ensures.value ∙ text) ∙ reads) } in
-    (
+    let asked : IsAsked m view trees 0 place doc _ = record { stands = stands; kept = kept; hit = hit; holds = c.in_ok-whole.ensures (tree_of o).source (ap reading (c.as_slice-2.ensures.value ∙ text) ∙ reads) } in (
       c.if_asked.ensures ∙ ap (λ (s : List ℕ). if c.args.source then Some s else None) text ∙ ap (λ (v : JsonValue). if c.args.source then Some (compact v) else None) (sym (ap content in_root)),
       c.in_ok-pages.ensures.pages trees asked,
     )

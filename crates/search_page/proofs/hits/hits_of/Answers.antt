@@ -24,16 +24,16 @@ rows-preserved g c =
     elim c.match-hit.branch [
       | in-Some+in_ok-push w ↦ (
         λ trees searched roots.
-        more_some (shown_at m view c.args.found.now trees body) rows c.rows.at c.in_ok-row.row low c.in_ok-row.ensures c.rows.hits.items c.match-hit.hits.items w.in-Some.hit (c.rows.invariant.0 trees searched roots)
-        (sym (whole m trees view c.args.found.now body c.in_ok-row.row _ c.in_ok-hit.ensures.hit (c.in_ok-hit.ensures.shown trees searched (row_within m trees rows c.rows.at c.in_ok-row.row roots low c.in_ok-row.ensures))) ∙ w.in-Some.is)
-        (ap (λ (v : Vec Hit Global). v.items) w.hits-is ∙ w.in_ok-push.ensures.items),
+            more_some (shown_at m view c.args.found.now trees body) rows c.rows.at c.in_ok-row.row low c.in_ok-row.ensures c.rows.hits.items c.match-hit.hits.items w.in-Some.hit (c.rows.invariant.0 trees searched roots)
+            (sym (whole m trees view c.args.found.now body c.in_ok-row.row _ c.in_ok-hit.ensures.hit (c.in_ok-hit.ensures.shown trees searched (row_within m trees rows c.rows.at c.in_ok-row.row roots low c.in_ok-row.ensures))) ∙ w.in-Some.is)
+            (ap (λ (v : Vec Hit Global). v.items) w.hits-is ∙ w.in_ok-push.ensures.items),
         (reads, unread),
       )
       | in_default w ↦ (
         λ trees searched roots.
-        more_none (shown_at m view c.args.found.now trees body) rows c.rows.at c.in_ok-row.row low c.in_ok-row.ensures c.rows.hits.items c.match-hit.hits.items (c.rows.invariant.0 trees searched roots)
-        (sym (whole m trees view c.args.found.now body c.in_ok-row.row _ c.in_ok-hit.ensures.hit (c.in_ok-hit.ensures.shown trees searched (row_within m trees rows c.rows.at c.in_ok-row.row roots low c.in_ok-row.ensures))) ∙ w.in_default.is)
-        (ap (λ (v : Vec Hit Global). v.items) w.hits-is),
+            more_none (shown_at m view c.args.found.now trees body) rows c.rows.at c.in_ok-row.row low c.in_ok-row.ensures c.rows.hits.items c.match-hit.hits.items (c.rows.invariant.0 trees searched roots)
+            (sym (whole m trees view c.args.found.now body c.in_ok-row.row _ c.in_ok-hit.ensures.hit (c.in_ok-hit.ensures.shown trees searched (row_within m trees rows c.rows.at c.in_ok-row.row roots low c.in_ok-row.ensures))) ∙ w.in_default.is)
+            (ap (λ (v : Vec Hit Global). v.items) w.hits-is),
         (reads, unread),
       )
     ]
