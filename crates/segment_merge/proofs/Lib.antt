@@ -1,0 +1,5 @@
+pub mod Spreading
+pub mod Back
+pub mod Carried
+pub mod Kept
+pub mod Cutting
