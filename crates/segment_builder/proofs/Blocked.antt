@@ -14,7 +14,7 @@ abbrev pub AreRootsIn : Mapping → List BlockState → Type 0
 AreRootsIn m blocks = AllByRecursion (λ (block : BlockState). IsRootOf m block.root block.flats) blocks
 
 -- roots and documents side by side
-paired : List FlatRoot → List (List FlatDocument) → List BlockState
+abbrev paired : List FlatRoot → List (List FlatDocument) → List BlockState
 paired [] lists = []
 paired (root ∷ roots) [] = []
 paired (root ∷ roots) (flats ∷ lists) = record { flats = flats; root = root } ∷ paired roots lists

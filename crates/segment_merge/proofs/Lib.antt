@@ -3,3 +3,7 @@ pub mod Back
 pub mod Carried
 pub mod Kept
 pub mod Cutting
+pub mod Rooted
+pub mod Changed
+pub mod Steps
+pub mod Listed
