@@ -324,3 +324,10 @@ module _ (columns : Columns) (own : AreColumns columns) (doc : ℕ) where
     numbers = each_value (λ (entry : ℕ × List ℤ). All (FitsSigned w64) entry.1) doc columns.numbers (λ k d h. (numbers_are k d h).fit);
     positions = each_word (λ (word : (ℕ × List ℕ) × List ℕ). All (λ position. position < 2 ^ 32) word.1) doc columns.terms (λ k d h. (positions_are k d h).fit);
   }
+
+-- ordinals are of terms that are there
+pub ordinals_within : (terms : List (ℕ × List ℕ)) (postings : List (List (ℕ × List ℕ))) (column : ℕ × List (ℕ × List ℕ)) → HaveOrdinals terms postings column → All (λ (row : ℕ × List ℕ). All (λ ordinal. ordinal < length terms) row.1) column.1
+ordinals_within terms postings column have k d h i e inside =
+    let ordinal : ℕ = get_or (get_or column.1 k d).1 i e in
+    let own : IsOf terms column.0 ordinal = of_field terms column.0 ordinal (have k d h i e inside).of_field in
+    slice_get_within terms ordinal (column.0, own.bytes) own.is

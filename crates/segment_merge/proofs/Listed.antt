@@ -1,10 +1,10 @@
 -- The places of a set, one after the other.
-use Rattle.std.proofs.Common.{◌≡◌, ℕ, ◌+◌, ◌-◌, Bool, List, [], ◌∷◌, ◌++◌, drop, Some, None, append_assoc, append-nil, refl, sym, ap, ◌∙◌, arith}
-use Rattle.std.proofs.lemmas.List.{drop-drop}
+use Rattle.std.proofs.Common.{◌≡◌, ℕ, ◌+◌, ◌-◌, ◌<◌, All, length, Bool, List, [], ◌∷◌, ◌++◌, drop, Some, None, append_assoc, append-nil, refl, sym, ap, ◌∙◌, arith}
+use Rattle.std.proofs.lemmas.List.{drop-drop, get_or_default}
 use Rattle.block_bits.specs.Flags.{is_marked}
 use Rattle.block_bits.specs.Places.{next_place}
 use Rattle.segment_parts.specs.Text.{marked_places}
-use Rattle.segment_parts.specs.Marks.{marked_places-next, marked_places-none}
+use Rattle.segment_parts.specs.Marks.{length-marked_places, marked_places-next, marked_places-none, marked_places-within}
 
 abbrev left : ℕ → List Bool → List ℕ
 left from flags = marked_places from (drop from flags)
@@ -21,3 +21,7 @@ pub listed_all : (flags : List Bool) (from : ℕ) (now all : List ℕ) → now +
 listed_all flags from now all was none =
     let nothing : marked_places from (drop from flags) ≡ [] = marked_places-none from (drop from flags) none in
     sym (append-nil now) ∙ ap (λ (ps : List ℕ). now ++ ps) (sym nothing) ∙ was
+
+pub places_below : (flags : List Bool) (count : ℕ) → length flags ≡ count → All (λ place. place < count) (marked_places 0 flags)
+places_below flags count long k d h =
+    omega (arith, (marked_places-within 0 flags k (omega (arith, h, length-marked_places 0 flags))).1, get_or_default (marked_places 0 flags) k d 0 h, long)

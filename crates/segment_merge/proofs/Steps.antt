@@ -1,6 +1,8 @@
 -- One step of a walk over columns, rows or postings.
-use Rattle.std.proofs.Common.{◌≡◌, ℕ, zero, suc, ◌+◌, ◌<◌, Bool, true, false, cond, nat_lt, List, [], ◌∷◌, length, map, get_or, slice_get, drop, Option, Some, None, refl, sym, ap, subst, ◌∙◌, arith}
+use Rattle.std.proofs.Common.{◌≡◌, ℕ, zero, suc, ◌+◌, ◌<◌, ◌==◌, Bool, true, false, cond, nat_lt, List, [], ◌∷◌, length, map, get_or, slice_get, drop, ◌≤◌, Option, Some, None, refl, sym, ap, subst, ◌∙◌, arith}
+use Rattle.std.specs.Prelude.{min}
 use Rattle.std.specs.List.{All, list_any}
+use Rattle.std.proofs.lemmas.Bool.{lt-ltb}
 use Rattle.std.specs.Option.{option_map, option_map_or}
 use Rattle.std.proofs.lemmas.List.{drop_more, get_or-map, length-map}
 use Rattle.std.proofs.lemmas.Option.{get_or_from_slice_get, slice_get_within}
@@ -36,7 +38,9 @@ row_at : (rows : List TermRow) (at : ℕ) (term : ℕ × List ℕ) → slice_get
     → map postings_in (drop at rows) ≡ (term, get_or (map (λ (row : TermRow). row.postings) rows) at []) ∷ map postings_in (drop (at + 1) rows)
 row_at [] at term is = absurd (cc (is))
 row_at (row ∷ rows) zero term is = let same : row.term ≡ term = cc (is) in ap (λ t. let own : (ℕ × List ℕ) × List (ℕ × List ℕ) = (t, row.postings) in own ∷ map postings_in rows) same
-row_at (row ∷ rows) (suc at) term is = row_at rows at term is
+row_at (row ∷ rows) (suc at) term is =
+    let e : suc at + 1 ≡ suc (at + 1) = omega arith in
+    rw e (row_at rows at term is)
 
 pub terms_step : (rows : List TermRow) (at field : ℕ) (word : List ℕ) (docs : List FlatDocument) → slice_get (map (λ (row : TermRow). row.term) rows) at ≡ Some (field, word)
     → spread with_word (map postings_in (drop at rows)) docs ≡ spread with_word (map postings_in (drop (at + 1) rows)) (put_rows with_word (field, word) (get_or (map (λ (row : TermRow). row.postings) rows) at []) docs)
@@ -54,7 +58,9 @@ pub terms_pass : (rows : List TermRow) (at : ℕ) (docs : List FlatDocument) →
     → spread with_word (map postings_in (drop at rows)) docs ≡ spread with_word (map postings_in (drop (at + 1) rows)) docs
 terms_pass [] at docs inside none = absurd (omega (arith, inside))
 terms_pass (row ∷ rows) zero docs inside none = ap (spread with_word (map postings_in rows)) (plain_rows row.term row.postings docs none)
-terms_pass (row ∷ rows) (suc at) docs inside none = terms_pass rows at docs (omega (arith, inside)) none
+terms_pass (row ∷ rows) (suc at) docs inside none =
+    let e : suc at + 1 ≡ suc (at + 1) = omega arith in
+    rw e (terms_pass rows at docs (omega (arith, inside)) none)
 
 -- the posting that a cursor is at, by its document and its positions
 pub posting_is : (postings : List (ℕ × List ℕ)) (at doc : ℕ) → option_map (λ (posting : ℕ × List ℕ). posting.0) (slice_get postings at) ≡ Some doc
@@ -74,3 +80,30 @@ texts_step columns at field flags docs is = ap (λ cs. texted cs docs) (left_at 
 pub scopes_step : (sets : List (List Bool)) (at : ℕ) (flags : List Bool) (docs : List FlatDocument) → at < length sets → flags ≡ get_or sets at flags
     → scoped at (drop at sets) docs ≡ scoped (at + 1) (drop (at + 1) sets) (at_places (with_scope at) (marked_places 0 flags) docs)
 scopes_step sets at flags docs inside is = ap (λ ss. scoped at ss docs) (drop_more sets at flags inside ∙ ap (λ f. f ∷ drop (at + 1) sets) (sym is))
+
+-- ---- reading
+
+pub has_at : {X : Type 0} (P : X → Type 0) (xs : List X) (at : ℕ) (x : X) → All P xs → slice_get xs at ≡ Some x → P x
+has_at P xs at x all is = subst P (get_or_from_slice_get xs at x x is) (all at x (slice_get_within xs at x is))
+
+pub row_some : {X : Type 0} (rows : List (ℕ × List X)) (at doc : ℕ) (values : List X) → All (λ (row : ℕ × List X). 0 < length row.1) rows → slice_get rows at ≡ Some (doc, values) → nat_lt 0 (length values) ≡ true
+row_some {X} rows at doc values all is = lt-ltb 0 (length values) (has_at (λ (row : ℕ × List X). 0 < length row.1) rows at (doc, values) all is)
+
+pub not_some : (n : ℕ) → n ≤ 0 → nat_lt 0 n ≡ false
+not_some zero none = refl
+not_some (suc n) none = absurd (omega (arith, none))
+
+pub next_left : (postings more : List (ℕ × List ℕ)) (at next : ℕ) → more ≡ postings → next ≡ min (at + 1) (length postings) → at < length postings → drop next more ≡ drop (at + 1) postings
+next_left postings more at next same place inside =
+    let e : next ≡ at + 1 = omega (arith, place, inside) in
+    ap (drop next) same ∙ ap (λ n. drop n postings) e
+
+pub end_left : (postings : List (ℕ × List ℕ)) (at : ℕ) → option_map (λ (posting : ℕ × List ℕ). posting.0) (slice_get postings at) ≡ None → drop at postings ≡ []
+end_left [] zero none = refl
+end_left [] (suc at) none = refl
+end_left (posting ∷ postings) zero none = absurd (cc (none))
+end_left (posting ∷ postings) (suc at) none = end_left postings at none
+
+pub nonzero : (n : ℕ) → false ≡ (n == 0) → 0 < n
+nonzero zero is = absurd (cc (is))
+nonzero (suc n) is = omega arith

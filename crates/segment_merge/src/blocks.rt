@@ -63,8 +63,9 @@ fn add_cut(
     requires marks { length live.now ≡ length sources.now }
     requires roots { length (filter is_root (map document_seen documents.items)) ≤ length sources.now }
     ensures { OnOk result (map block_seen into.new.items ≡ map block_seen into.old.items
-        ++ map item_in (filter is_live (marked_by (cut_from [] (map document_seen documents.entry.items) (map flat_root sources.now)) live.now))) }
+        ++ map item_in (filter is_live (marked_by (cut_from [] (map document_seen documents.items) (map flat_root sources.now)) live.now))) }
 {
+    let _count = sources.count();
     let mut front = Vec::new(alloc);
     let mut root = 0;
     'documents: for document in documents {

@@ -12,9 +12,7 @@ use crate::scopes::put_scopes;
 use crate::texts::put_texts;
 use crate::words::put_words;
 use flattener::Document;
-use segment::{
-    Segment, scopes_are_of_documents, terms_are_of_documents, values_are_of_documents,
-};
+use segment::{Segment, scopes_are_of_documents, terms_are_of_documents};
 use std::alloc::Global;
 
 /// The documents of a segment, in order.
@@ -22,6 +20,7 @@ pub(crate) fn documents_of(alloc: Global, segment: &Segment) -> Result<Vec<Docum
     ensures { IfOk result (λ documents. map document_seen documents.items ≡ flats_of segment.now) }
 {
     scopes_are_of_documents(segment);
+    terms_are_of_documents(segment);
     let count = segment.docs();
     let mut documents = blank_documents(alloc, count)?;
     put_scopes(alloc, segment.scopes().as_slice(), &mut documents)?;

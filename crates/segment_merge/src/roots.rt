@@ -36,7 +36,7 @@ fn source_of(alloc: Global, sources: &StoredSources, root: u32) -> Result<Bytes,
     let behind_id = text.as_slice().split_at(4 + sources.id(root).len()).1;
     let from_source = behind_id.split_at(BEFORE_SOURCE).1;
     let len = sources.source_len(root) as usize;
-    bytes_of(alloc, from_source.split_at(len).0)
+    Ok(bytes_of(alloc, from_source.split_at(len).0)?)
 }
 
 /// A join value, copied.
