@@ -11,6 +11,7 @@ ghost use Rattle.segment.specs.Lists.{terms_of};
 ghost use Rattle.segment_merge.specs.Spread.{AreOrdinals, bytes_in, changed, put_rows, spread, with_keyword, with_bytes};
 
 use crate::NoMemory;
+use crate::bytes::copied;
 use doc_values::{OrdinalColumn, Values};
 use flattener::{Document, KeywordField};
 use segment::Segment;
@@ -70,7 +71,7 @@ fn keywords_of(
     let mut keywords = Vec::with_capacity(alloc, rest.len() as usize)?;
     'values: while let Some(ordinal) = rest.next() {
         let (_, bytes) = terms.term(ordinal);
-        keywords.push(bytes.to_vec(alloc)?)?;
+        keywords.push(copied(alloc, bytes)?)?;
     }
     Ok(keywords)
 }

@@ -9,6 +9,7 @@
 
 mod agreed;
 mod blocks;
+mod bytes;
 mod documents;
 mod keywords;
 mod marks;

@@ -8,6 +8,7 @@ ghost use Rattle.segment.specs.Agree.{AreWithin};
 ghost use Rattle.segment_merge.specs.Spread.{changed, postings_in, put_rows, spread, with_word};
 
 use crate::NoMemory;
+use crate::bytes::copied;
 use flattener::{Document, Word};
 use postings::Cursor;
 use segment::{Segment, terms_are_of_documents};
@@ -51,7 +52,7 @@ fn put_postings(
     'postings: while let Some(doc) = cursor.doc() {
         if cursor.positions() > 0 {
             let positions = positions_of(alloc, &cursor)?;
-            put_word(documents, doc, field, word.to_vec(alloc)?, positions)?;
+            put_word(documents, doc, field, copied(alloc, word)?, positions)?;
         }
         cursor.next();
     }

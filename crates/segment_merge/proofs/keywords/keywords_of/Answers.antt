@@ -11,9 +11,9 @@ values-preserved c =
     let terms : List (ℕ × List ℕ) = c.args.terms.now in
     let rest : List ℕ = c.next.new.self in
     let done : List (List ℕ) = bytes_in c.values.keywords.items in
-    let bytes : List ℕ = c.in_ok-to_vec.field-0.items in
+    let bytes : List ℕ = c.in_ok-copied.field-0.items in
     let own : bytes_at terms c.in-Some.ordinal ≡ bytes =
-    ap (λ (term : ℕ × List ℕ). term.1) (get_or_from_slice_get terms c.in-Some.ordinal (c.term.result.0, c.term.result.1.now) (0, []) c.term.ensures) ∙ sym c.in_ok-to_vec.ensures.ok in
+    ap (λ (term : ℕ × List ℕ). term.1) (get_or_from_slice_get terms c.in-Some.ordinal (c.term.result.0, c.term.result.1.now) (0, []) c.term.ensures) ∙ sym c.in_ok-copied.ensures in
     (
       ap (λ items. bytes_in items ++ map (bytes_at terms) rest) c.in_ok-push.ensures.items
       ∙ ap (λ front. front ++ map (bytes_at terms) rest) (map-append (λ b. b.items) c.values.keywords.items _)

@@ -6,7 +6,7 @@ use Rattle.postings.specs.Postings.{present_positions}
 use Rattle.segment_merge.specs.Spread.{changed, put_rows, with_word}
 use Rattle.segment_merge.proofs.Steps.{end_left, next_left, not_some, posting_is, rows_pass, rows_step}
 use Rattle.segment_merge.proofs.words.put_postings.Goals as goal
-use Rattle.segment_merge.proofs.words.put_postings.Goals.{then-positions-gt0+in_ok-positions+in_ok-to_vec+in_ok-put_word, else-positions-gt0}
+use Rattle.segment_merge.proofs.words.put_postings.Goals.{then-positions-gt0+in_ok-positions+in_ok-copied+in_ok-put_word, else-positions-gt0}
 
 pub postings-preserved : goal.postings-preserved
 postings-preserved c =
@@ -20,14 +20,14 @@ postings-preserved c =
     let inside : at < length own = slice_get_within own at (doc, positions) here in
     let left : drop c.next.new.self.at c.next.new.self.postings ≡ drop (at + 1) own = next_left own c.next.new.self.postings at c.next.new.self.at c.next.ensures.postings c.next.ensures.place inside in
     elim c.if-positions-gt0.branch [
-      | then-positions-gt0+in_ok-positions+in_ok-to_vec+in_ok-put_word w ↦
+      | then-positions-gt0+in_ok-positions+in_ok-copied+in_ok-put_word w ↦
           let some : nat_lt 0 (length positions) ≡ true = lt-ltb 0 (length positions) (omega (arith, w.if-positions-gt0.true, c.positions.ensures)) in
           (
             ap (λ ps. put_rows with_word term ps (map document_seen c.if-positions-gt0.documents.items)) left
             ∙ ap (λ v. put_rows with_word term (drop (at + 1) own) (map document_seen v.items)) w.documents-is
             ∙ ap (put_rows with_word term (drop (at + 1) own))
             (w.in_ok-put_word.ensures.seen
-            ∙ ap (λ (bytes : List ℕ). changed (with_word (c.args.field, bytes) w.in_ok-positions.positions.items) doc docs) w.in_ok-to_vec.ensures.ok
+            ∙ ap (λ (bytes : List ℕ). changed (with_word (c.args.field, bytes) w.in_ok-positions.positions.items) doc docs) w.in_ok-copied.ensures
             ∙ ap (λ (ps : List ℕ). changed (with_word term ps) doc docs) w.in_ok-positions.ensures)
             ∙ sym (rows_step with_word term own at doc positions docs here some)
             ∙ c.postings.invariant.0,
