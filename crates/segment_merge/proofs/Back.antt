@@ -61,25 +61,34 @@ module _ (columns : Columns) (own : AreColumns columns)
     (posted_within : (ordinal : ℕ) → All (λ (posting : ℕ × List ℕ). posting.0 < columns.documents) (get_or (postings_of columns) ordinal [])) where
   abbrev docs0 : List FlatDocument
   docs0 = replicate columns.documents blank
+
   abbrev docs1 : List FlatDocument
   docs1 = scoped 0 columns.scopes docs0
+
   abbrev docs2 : List FlatDocument
   docs2 = spread with_number columns.numbers docs1
+
   abbrev docs3 : List FlatDocument
   docs3 = spread (with_keyword (terms_of columns)) columns.ordinals docs2
+
   abbrev docs4 : List FlatDocument
   docs4 = spread with_word (map postings_in columns.terms) docs3
+
   abbrev docs5 : List FlatDocument
   docs5 = texted columns.present docs4
 
   long1 : length docs1 ≡ columns.documents
   long1 = length_scoped 0 columns.scopes docs0 ∙ length-replicate columns.documents blank
+
   long2 : length docs2 ≡ columns.documents
   long2 = length_spread with_number columns.numbers docs1 ∙ long1
+
   long3 : length docs3 ≡ columns.documents
   long3 = length_spread (with_keyword (terms_of columns)) columns.ordinals docs2 ∙ long2
+
   long4 : length docs4 ≡ columns.documents
   long4 = length_spread with_word (map postings_in columns.terms) docs3 ∙ long3
+
   long5 : length docs5 ≡ columns.documents
   long5 = length_texted columns.present docs4 ∙ long4
 

@@ -41,8 +41,7 @@ documents-preserved-then-ends c =
     ∙ ap (λ (b : Bool). old ++ block_if b (map document_seen c.push.new.self.items) own) c.has.ensures
     ∙ ap (λ (fs : List FlatDocument). old ++ block_if (get_or marks root false) fs own) grown in
     let was : old ++ live_cut front (flat ∷ rest) (drop root (map flat_root roots)) (drop root marks) ≡ all =
-    ap (λ (fs : List FlatDocument). old ++ live_cut front fs (drop root (map flat_root roots)) (drop root marks)) (sym next) ∙ c.documents.invariant.2 in
-    (
+    ap (λ (fs : List FlatDocument). old ++ live_cut front fs (drop root (map flat_root roots)) (drop root marks)) (sym next) ∙ c.documents.invariant.2 in (
       tt,
       tt,
       block_more rest flat front old all roots marks root (map block_seen c.add_block.new.into.items) (map document_seen c.new-front-then-ends.result.items) is inside c.requires.marks put (ap (map document_seen) c.new-front-then-ends.ensures.items) was,
@@ -61,8 +60,7 @@ documents-preserved c =
     let next : map document_seen (into_iter_items c.documents.document-iterator) ≡ flat ∷ rest = ap (map document_seen) c.in-Some.ensures.steps.0 in
     let isnt : (flat.scope == 0) ≡ false = split (flat.scope == 0) (λ is. absurd (c.if-ends.false (eqb-true flat.scope 0 is))) (λ no. no) in
     let grown : map document_seen c.push.new.self.items ≡ front ++ flat ∷ [] = ap (map document_seen) c.in_ok-push.ensures.items ∙ map-append document_seen c.documents.front.items _ in
-    let was : old ++ live_cut front (flat ∷ rest) roots marks ≡ all = ap (λ (fs : List FlatDocument). old ++ live_cut front fs roots marks) (sym next) ∙ c.documents.invariant.2 in
-    (
+    let was : old ++ live_cut front (flat ∷ rest) roots marks ≡ all = ap (λ (fs : List FlatDocument). old ++ live_cut front fs roots marks) (sym next) ∙ c.documents.invariant.2 in (
       tt,
       tt,
       document_more rest flat front old all roots marks (map document_seen c.push.new.self.items) isnt grown was,

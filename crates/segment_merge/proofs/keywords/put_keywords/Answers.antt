@@ -22,11 +22,10 @@ put_column-requires-clause-ordinals c =
 pub columns-preserved : goal.columns-preserved
 columns-preserved c =
     let own = c.args.segment.now in
-    let docs = map document_seen c.columns.documents.items in
-    (
+    let docs = map document_seen c.columns.documents.items in (
       ap (spread (with_keyword (terms_of own)) (drop (c.columns.at + 1) own.ordinals))
-      (c.in_ok-put_column.ensures.seen ∙ ap (λ (terms : List (ℕ × List ℕ)). put_rows (with_keyword terms) c.ordinal_column-field.result.0 c.ordinal_column-field.result.1 docs) c.terms-terms.ensures)
-      ∙ sym (spread_step (with_keyword (terms_of own)) own.ordinals c.columns.at c.ordinal_column-field.result.0 c.ordinal_column-field.result.1 docs c.ordinal_column-field.ensures)
-      ∙ c.columns.invariant.0,
+          (c.in_ok-put_column.ensures.seen ∙ ap (λ (terms : List (ℕ × List ℕ)). put_rows (with_keyword terms) c.ordinal_column-field.result.0 c.ordinal_column-field.result.1 docs) c.terms-terms.ensures)
+          ∙ sym (spread_step (with_keyword (terms_of own)) own.ordinals c.columns.at c.ordinal_column-field.result.0 c.ordinal_column-field.result.1 docs c.ordinal_column-field.ensures)
+          ∙ c.columns.invariant.0,
       c.in_ok-put_column.ensures.count ∙ c.columns.invariant.1,
     )

@@ -14,8 +14,7 @@ pub made_of-requires : goal.made_of-requires
 made_of-requires c =
     let entries = c.args.entries.now in
     let same : map block_seen c.as_slice.result.now ≡ flat_map live_blocks entries = ap (map block_seen) c.as_slice.ensures.value ∙ c.in_ok-blocks.ensures in
-    let some : 0 < length (flat_map live_blocks entries) = omega (arith, nonzero _ c.if-is_empty.ensures, c.as_slice.ensures.len, length-map c.as_slice.result.now block_seen, ap length same) in
-    (
+    let some : 0 < length (flat_map live_blocks entries) = omega (arith, nonzero _ c.if-is_empty.ensures, c.as_slice.ensures.len, length-map c.as_slice.result.now block_seen, ap length same) in (
       c.requires.made.0,
       subst (AreGiven c.requires.made.0) (sym same)
           (given entries c.columns_agree.ensures c.fitting_segments_are_blocks.ensures.flats c.fitting_segments_are_blocks.ensures.roots c.requires.made.0 c.requires.made.1 c.requires.made.2 c.requires.few some),
@@ -23,8 +22,7 @@ made_of-requires c =
 
 pub returns-clause-none : goal.returns-clause-none
 returns-clause-none c =
-    let same : map block_seen c.as_slice.result.now ≡ flat_map live_blocks c.args.entries.now = ap (map block_seen) c.as_slice.ensures.value ∙ c.in_ok-blocks.ensures in
-    (
+    let same : map block_seen c.as_slice.result.now ≡ flat_map live_blocks c.args.entries.now = ap (map block_seen) c.as_slice.ensures.value ∙ c.in_ok-blocks.ensures in (
       λ no. absurd (cc (no)),
       λ none. absurd (omega (arith, nonzero _ c.if-is_empty.ensures, c.as_slice.ensures.len, length-map c.as_slice.result.now block_seen, ap length same, ap length none)),
     )

@@ -13,7 +13,7 @@ put_column-requires-clause-within c =
 pub columns-preserved : goal.columns-preserved
 columns-preserved c = (
   ap (spread with_number (drop (c.columns.at + 1) c.args.segment.now.numbers)) c.in_ok-put_column.ensures.seen
-  ∙ sym (spread_step with_number c.args.segment.now.numbers c.columns.at c.number_column-field.result.0 c.number_column-field.result.1 (map document_seen c.columns.documents.items) c.number_column-field.ensures)
-  ∙ c.columns.invariant.0,
+      ∙ sym (spread_step with_number c.args.segment.now.numbers c.columns.at c.number_column-field.result.0 c.number_column-field.result.1 (map document_seen c.columns.documents.items) c.number_column-field.ensures)
+      ∙ c.columns.invariant.0,
   c.in_ok-put_column.ensures.count ∙ c.columns.invariant.1,
 )

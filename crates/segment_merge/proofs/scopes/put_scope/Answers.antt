@@ -11,10 +11,9 @@ places-preserved c =
     let old : Document = c.index_mut.result.now in
     let new : Document = record { scope = c.args.scope; numbers = old.numbers; keywords = old.keywords; words = old.words; texts = old.texts } in
     let place = get_or c.args.places.now c.places.place-index 0 in
-    let step = changed_is (with_scope c.args.scope) c.places.documents.items place old new (omega (arith, c.requires c.places.place-index 0 c.places-test.true, c.places.invariant.1)) c.index_mut.ensures.value refl in
-    (
+    let step = changed_is (with_scope c.args.scope) c.places.documents.items place old new (omega (arith, c.requires c.places.place-index 0 c.places-test.true, c.places.invariant.1)) c.index_mut.ensures.value refl in (
       ap (at_places (with_scope c.args.scope) (drop (c.places.place-index + 1) c.args.places.now)) step
-      ∙ sym (at_drop_more (λ places. at_places (with_scope c.args.scope) places (map document_seen c.places.documents.items)) c.args.places.now c.places.place-index 0 c.places-test.true)
-      ∙ c.places.invariant.0,
+          ∙ sym (at_drop_more (λ places. at_places (with_scope c.args.scope) places (map document_seen c.places.documents.items)) c.args.places.now c.places.place-index 0 c.places-test.true)
+          ∙ c.places.invariant.0,
       length-set c.places.documents.items place new ∙ c.places.invariant.1,
     )

@@ -21,26 +21,24 @@ postings-preserved c =
     let left : drop c.next.new.self.at c.next.new.self.postings ≡ drop (at + 1) own = next_left own c.next.new.self.postings at c.next.new.self.at c.next.ensures.postings c.next.ensures.place inside in
     elim c.if-positions-gt0.branch [
       | then-positions-gt0+in_ok-positions+in_ok-copied+in_ok-put_word w ↦
-          let some : nat_lt 0 (length positions) ≡ true = lt-ltb 0 (length positions) (omega (arith, w.if-positions-gt0.true, c.positions.ensures)) in
-          (
+          let some : nat_lt 0 (length positions) ≡ true = lt-ltb 0 (length positions) (omega (arith, w.if-positions-gt0.true, c.positions.ensures)) in (
             ap (λ ps. put_rows with_word term ps (map document_seen c.if-positions-gt0.documents.items)) left
-            ∙ ap (λ v. put_rows with_word term (drop (at + 1) own) (map document_seen v.items)) w.documents-is
-            ∙ ap (put_rows with_word term (drop (at + 1) own))
-            (w.in_ok-put_word.ensures.seen
-            ∙ ap (λ (bytes : List ℕ). changed (with_word (c.args.field, bytes) w.in_ok-positions.positions.items) doc docs) w.in_ok-copied.ensures
-            ∙ ap (λ (ps : List ℕ). changed (with_word term ps) doc docs) w.in_ok-positions.ensures)
-            ∙ sym (rows_step with_word term own at doc positions docs here some)
-            ∙ c.postings.invariant.0,
+                ∙ ap (λ v. put_rows with_word term (drop (at + 1) own) (map document_seen v.items)) w.documents-is
+                ∙ ap (put_rows with_word term (drop (at + 1) own))
+                (w.in_ok-put_word.ensures.seen
+                ∙ ap (λ (bytes : List ℕ). changed (with_word (c.args.field, bytes) w.in_ok-positions.positions.items) doc docs) w.in_ok-copied.ensures
+                ∙ ap (λ (ps : List ℕ). changed (with_word term ps) doc docs) w.in_ok-positions.ensures)
+                ∙ sym (rows_step with_word term own at doc positions docs here some)
+                ∙ c.postings.invariant.0,
             c.next.ensures.postings ∙ c.postings.invariant.1,
             ap (λ v. length v.items) w.documents-is ∙ w.in_ok-put_word.ensures.count ∙ c.postings.invariant.2,
           )
       | else-positions-gt0 w ↦
-          let none : nat_lt 0 (length positions) ≡ false = not_some (length positions) (omega (arith, w.if-positions-gt0.false, c.positions.ensures)) in
-          (
+          let none : nat_lt 0 (length positions) ≡ false = not_some (length positions) (omega (arith, w.if-positions-gt0.false, c.positions.ensures)) in (
             ap (λ ps. put_rows with_word term ps (map document_seen c.if-positions-gt0.documents.items)) left
-            ∙ ap (λ v. put_rows with_word term (drop (at + 1) own) (map document_seen v.items)) w.documents-is
-            ∙ sym (rows_pass with_word term own at doc positions docs here none)
-            ∙ c.postings.invariant.0,
+                ∙ ap (λ v. put_rows with_word term (drop (at + 1) own) (map document_seen v.items)) w.documents-is
+                ∙ sym (rows_pass with_word term own at doc positions docs here none)
+                ∙ c.postings.invariant.0,
             c.next.ensures.postings ∙ c.postings.invariant.1,
             ap (λ v. length v.items) w.documents-is ∙ c.postings.invariant.2,
           )
