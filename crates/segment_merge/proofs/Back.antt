@@ -1,8 +1,8 @@
 -- Documents that are read back from columns that agree are those that the columns say.
-use Rattle.std.proofs.Common.{◌≡◌, ◌⊎◌, inl, inr, ℕ, ℤ, zero, suc, ◌+◌, ◌<◌, ◌≤◌, ◌==◌, Bool, true, false, List, [], ◌∷◌, length, map, filter, get_or, replicate, refl, sym, ap, subst, ◌∙◌, arith}
-use Rattle.std.specs.List.{All, AllByRecursion, range_with_len}
+use Rattle.std.proofs.Common.{◌≡◌, inr, ℕ, ℤ, suc, ◌+◌, ◌<◌, ◌≤◌, ◌==◌, Bool, false, List, [], ◌∷◌, length, map, filter, get_or, replicate, refl, sym, ap, subst, ◌∙◌, arith}
+use Rattle.std.specs.List.{All, AllByRecursion}
 use Rattle.std.specs.List.Sorted.{IsStrictlyIncreasing}
-use Rattle.std.proofs.lemmas.List.{get_or-map, get_or-replicate, get_or_default, length-map, length-replicate, same_lists}
+use Rattle.std.proofs.lemmas.List.{get_or-map, get_or-replicate, get_or_default, length-replicate, same_lists}
 use Rattle.std.proofs.lemmas.List.Elements.{All-map, recursion_from_All}
 use Rattle.std.proofs.lemmas.List.FromFn.{get_or-map-range_with_len, length-map-range_with_len}
 use Rattle.doc_values.specs.Values.{values_of}
@@ -12,7 +12,7 @@ use Rattle.segment.specs.Lists.{terms_of, postings_of}
 use Rattle.segment_builder.specs.Rising.{AreRisingFrom}
 use Rattle.segment_parts.specs.declared.columns.Columns.{Columns}
 use Rattle.term_table.specs.declared.rows.TermRow.{TermRow}
-use Rattle.segment_merge.specs.Spread.{blank, postings_in, scoped, spread, texted, with_keyword, with_number, with_scope, with_text, with_word}
+use Rattle.segment_merge.specs.Spread.{blank, postings_in, scoped, spread, texted, with_keyword, with_number, with_scope, with_word}
 use Rattle.segment_merge.proofs.Spreading.{added, added_keywords, added_numbers, added_words, at_scoped, at_spread, at_texted, length_scoped, length_spread, length_texted, texts_at, under, with_texts}
 
 -- ---- rows of a column

@@ -12,15 +12,14 @@ use Rattle.std.proofs.lemmas.List.{get_or-map, length-map}
 use Rattle.std.proofs.lemmas.List.Elements.{All-filter, All-map, All-head, All-tail, filter_passes}
 use Rattle.std.proofs.lemmas.Map.Keys.{sorted_from_all_adjacent, sorted_head, sorted_tail}
 use Rattle.std.proofs.lemmas.Option.{slice_get-get_or, get_or_from_slice_get, slice_get_within}
-use Rattle.doc_values.specs.Values.{values_of, AreValues}
-use Rattle.segment.specs.Agree.{AreColumns, IsKeywordAt, IsNumberAt, IsTermOf, IsWordAt, HaveOrdinals, IsOrdinalAt}
+use Rattle.doc_values.specs.Values.{values_of}
+use Rattle.segment.specs.Agree.{AreColumns, IsTermOf, IsWordAt, HaveOrdinals}
 use Rattle.segment.specs.Fields.{column_of, fields}
-use Rattle.segment.specs.Flat.{FlatDocument, bytes_at, flat_of, has_some, values_at, words_at}
+use Rattle.segment.specs.Flat.{bytes_at, flat_of, has_some, values_at, words_at}
 use Rattle.segment.specs.Lists.{terms_of, postings_of}
-use Rattle.segment_builder.specs.Form.{IsByField, IsByTerm, IsFit, IsOrdered}
+use Rattle.segment_builder.specs.Form.{IsFit, IsOrdered}
 use Rattle.flattener.specs.Small.{IsSmall}
 use Rattle.segment_parts.specs.declared.columns.Columns.{Columns}
-use Rattle.term_table.specs.Postings.{AreAscending}
 use Rattle.term_table.specs.Terms.{term_cmp}
 use Rattle.term_table.specs.declared.rows.TermRow.{TermRow}
 use Rattle.segment_merge.proofs.Spreading.{split, texts_at}

@@ -1,6 +1,6 @@
 -- A document that is changed in its place.
-use Rattle.std.proofs.Common.{◌≡◌, ℕ, ℤ, ◌<◌, List, [], ◌∷◌, ◌++◌, length, map, get_or, set, refl, sym, ap, ◌∙◌}
-use Rattle.std.proofs.lemmas.List.{get_or-map, map-append, map-set}
+use Rattle.std.proofs.Common.{◌≡◌, ℕ, ◌<◌, List, length, map, get_or, set, sym, ap, ◌∙◌}
+use Rattle.std.proofs.lemmas.List.{get_or-map, map-set}
 use Rattle.flattener.specs.Seen.{document_seen}
 use Rattle.flattener.specs.declared.document.Document.{Document}
 use Rattle.segment.specs.Flat.{FlatDocument}

@@ -1,5 +1,5 @@
 -- Live blocks: what is so of all blocks is so of them, and what a segment is made of they are.
-use Rattle.std.proofs.Common.{◌≡◌, ℕ, ◌<◌, ◌≤◌, Bool, true, false, List, [], ◌∷◌, ◌++◌, length, map, filter, get_or, refl, sym, ap, subst, ◌∙◌, arith}
+use Rattle.std.proofs.Common.{◌≡◌, ℕ, ◌<◌, ◌≤◌, Bool, true, false, List, [], ◌∷◌, ◌++◌, length, map, filter, get_or, refl, sym, ap, subst, arith}
 use Rattle.std.specs.List.{All, AllByRecursion, flat_map, range_with_len}
 use Rattle.std.proofs.lemmas.List.Concat.{length-flat_map}
 use Rattle.std.proofs.lemmas.List.{length-append, length-map}
@@ -7,19 +7,17 @@ use Rattle.std.proofs.lemmas.List.Elements.{All-from_recursion, All-head, All-ta
 use Rattle.flattener.specs.Block.{BlockState}
 use Rattle.flattener.specs.Fits.{IsRootOf, SegmentFits, is_root, most_live}
 use Rattle.flattener.specs.Small.{IsSmall}
-use Rattle.flattener.specs.StandsFor.{Marked}
 use Rattle.layout.specs.Layout.{is_live, item_in}
 use Rattle.mapping.specs.Mapping.{Mapping}
 use Rattle.segment.specs.Agree.{AreColumns}
-use Rattle.segment.specs.Flat.{FlatDocument, FlatRoot, flat_of, flat_root, flats_of, roots_of}
+use Rattle.segment.specs.Flat.{FlatDocument, flat_of, flat_root, flats_of, roots_of}
 use Rattle.segment.specs.Live.{EntryState}
-use Rattle.segment_builder.specs.Blocks.{blocks_in, blocks_of, live_blocks, marked_by, objects_of}
+use Rattle.segment_builder.specs.Blocks.{blocks_of, live_blocks, marked_by, objects_of}
 use Rattle.segment_builder.specs.Entries.{flats_in}
 use Rattle.segment_builder.specs.Form.{IsFit, IsOrdered}
 use Rattle.segment_builder.specs.Given.{AreGiven, IsNumbered}
 use Rattle.segment_parts.specs.declared.columns.Columns.{Columns}
 use Rattle.segment_merge.proofs.Carried.{fit, ordered, small}
-use Rattle.segment_merge.proofs.Spreading.{split}
 
 -- ---- lists
 

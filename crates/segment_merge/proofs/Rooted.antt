@@ -1,5 +1,5 @@
 -- Where the source stands in the text of a root.
-use Rattle.std.proofs.Common.{◌≡◌, ℕ, ◌+◌, ◌≤◌, List, [], ◌∷◌, ◌++◌, length, take, drop, refl, sym, ap, ◌∙◌, append_assoc, length-append, arith}
+use Rattle.std.proofs.Common.{◌≡◌, ℕ, ◌+◌, ◌≤◌, List, ◌++◌, length, take, drop, refl, ap, ◌∙◌, append_assoc, length-append, arith}
 use Rattle.std.proofs.lemmas.List.{drop_at, take_at}
 use Rattle.part_text.specs.Reads.{length-u32_text, length-u64_text}
 use Rattle.part_text.specs.Text.{u32_text, u64_text, string_text}

@@ -1,12 +1,12 @@
 -- What a document is once the rows of columns are put to their documents.
 use Rattle.std.specs.List.{AllByRecursion}
-use Rattle.std.proofs.Common.{◌≡◌, ◌≢◌, ◌⊎◌, inl, inr, ℕ, ℤ, zero, suc, ◌+◌, ◌-◌, ◌<◌, ◌≤◌, ◌==◌, Bool, true, false, cond, if◌then◌else◌, nat_lt, List, [], ◌∷◌, ◌++◌, length, map, filter, get_or, set, refl, sym, ap, subst, ◌∙◌, append_assoc, append-nil, arith, eq-eqb, eqb-true}
+use Rattle.std.proofs.Common.{◌≡◌, ◌⊎◌, inl, inr, ℕ, ℤ, zero, suc, ◌+◌, ◌<◌, ◌≤◌, ◌==◌, Bool, true, false, cond, if◌then◌else◌, nat_lt, List, [], ◌∷◌, ◌++◌, length, map, filter, get_or, refl, sym, ap, subst, ◌∙◌, append_assoc, append-nil, arith, eq-eqb, eqb-true}
 use Rattle.std.proofs.lemmas.List.{length-set, get_or-set_same, get_or-set_other}
 use Rattle.doc_values.specs.Values.{values_of}
 use Rattle.segment.specs.Flat.{FlatDocument, has_some, bytes_at}
 use Rattle.segment_builder.specs.Rising.{AreRisingFrom}
 use Rattle.segment_parts.specs.Text.{marked_places}
-use Rattle.segment_merge.specs.Spread.{at_places, blank, changed, put_rows, scoped, spread, texted, with_bytes, with_keyword, with_number, with_scope, with_text, with_word}
+use Rattle.segment_merge.specs.Spread.{at_places, blank, changed, put_rows, scoped, spread, texted, with_keyword, with_number, with_scope, with_text, with_word}
 
 -- cases of a test, with its equation
 pub split : {C : Type 0} (t : Bool) → (t ≡ true → C) → (t ≡ false → C) → C

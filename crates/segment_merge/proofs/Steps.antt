@@ -1,13 +1,13 @@
 -- One step of a walk over columns, rows or postings.
 use Rattle.std.proofs.Common.{◌≡◌, ℕ, zero, suc, ◌+◌, ◌<◌, ◌==◌, Bool, true, false, cond, nat_lt, List, [], ◌∷◌, length, map, get_or, slice_get, drop, ◌≤◌, Option, Some, None, refl, sym, ap, subst, ◌∙◌, arith}
 use Rattle.std.specs.Prelude.{min}
-use Rattle.std.specs.List.{All, list_any}
+use Rattle.std.specs.List.{All}
 use Rattle.std.proofs.lemmas.Bool.{lt-ltb}
 use Rattle.std.specs.Option.{option_map, option_map_or}
-use Rattle.std.proofs.lemmas.List.{drop_more, get_or-map, length-map}
+use Rattle.std.proofs.lemmas.List.{drop_more}
 use Rattle.std.proofs.lemmas.Option.{get_or_from_slice_get, slice_get_within}
 use Rattle.postings.specs.Marks.{has_positions}
-use Rattle.segment.specs.Flat.{FlatDocument, has_some}
+use Rattle.segment.specs.Flat.{FlatDocument}
 use Rattle.segment_parts.specs.Text.{marked_places}
 use Rattle.term_table.specs.declared.rows.TermRow.{TermRow}
 use Rattle.segment_merge.specs.Spread.{at_places, changed, postings_in, put_rows, scoped, spread, texted, with_scope, with_text, with_word}

@@ -1,5 +1,5 @@
 -- How documents are read back from the columns of a segment: row after row, each to its document.
-use Rattle.std.specs.Prelude.{ℕ, ℤ, ◌+◌, ◌<◌, Bool, List, [], ◌∷◌, ◌++◌, length, map, cond, if◌then◌else◌, slice_set, slice_index_or, Vec}
+use Rattle.std.specs.Prelude.{ℕ, ℤ, ◌+◌, ◌<◌, Bool, List, [], ◌∷◌, ◌++◌, map, cond, slice_set, slice_index_or, Vec}
 use Rattle.std.specs.List.{All}
 use Rattle.flattener.specs.Block.{BlockState}
 use Rattle.segment.specs.Flat.{FlatDocument, FlatRoot, bytes_at, has_some}

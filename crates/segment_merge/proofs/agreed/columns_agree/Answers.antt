@@ -1,4 +1,4 @@
-use Rattle.std.proofs.Common.{All, subst, take}
+use Rattle.std.proofs.Common.{All, subst}
 use Rattle.std.proofs.lemmas.List.{take_all}
 use Rattle.std.proofs.lemmas.List.Elements.{All-more}
 use Rattle.segment.specs.Agree.{AreColumns}

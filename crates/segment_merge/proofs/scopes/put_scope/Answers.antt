@@ -1,4 +1,4 @@
-use Rattle.std.proofs.Common.{◌+◌, length, drop, get_or, map, refl, sym, ap, ◌∙◌, arith}
+use Rattle.std.proofs.Common.{◌+◌, drop, get_or, map, refl, sym, ap, ◌∙◌, arith}
 use Rattle.std.proofs.lemmas.List.{at_drop_more, length-set}
 use Rattle.flattener.specs.Seen.{document_seen}
 use Rattle.flattener.specs.declared.document.Document.{Document}

@@ -1,9 +1,8 @@
-use Rattle.std.proofs.Common.{map, ap, ◌∙◌}
-use Rattle.std.proofs.lemmas.List.{map-append}
+use Rattle.std.proofs.Common.{map, ap}
 use Rattle.flattener.specs.Seen.{keyword_seen, number_seen, word_seen}
 use Rattle.flattener.specs.declared.document.Document.{Document}
 use Rattle.segment.specs.Flat.{FlatDocument}
-use Rattle.segment_merge.specs.Spread.{bytes_in, with_text}
+use Rattle.segment_merge.specs.Spread.{with_text}
 use Rattle.segment_merge.proofs.Changed.{changed_is}
 use Rattle.segment_merge.proofs.texts.put_text.Goals as goal
 

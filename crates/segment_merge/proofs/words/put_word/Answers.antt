@@ -3,7 +3,7 @@ use Rattle.std.proofs.lemmas.List.{map-append}
 use Rattle.flattener.specs.Seen.{keyword_seen, number_seen, word_seen}
 use Rattle.flattener.specs.declared.document.Document.{Document}
 use Rattle.segment.specs.Flat.{FlatDocument}
-use Rattle.segment_merge.specs.Spread.{bytes_in, with_word}
+use Rattle.segment_merge.specs.Spread.{with_word}
 use Rattle.segment_merge.proofs.Changed.{changed_is}
 use Rattle.segment_merge.proofs.words.put_word.Goals as goal
 
