@@ -4,4 +4,6 @@ pub mod Keeps
 pub mod Goes
 pub mod Ascending
 pub mod Looked
+pub mod Merging
+pub mod Settling
 pub mod Changes

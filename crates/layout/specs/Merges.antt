@@ -1,7 +1,7 @@
 -- Merges of neighbours that are asked for: when one is refused, what its start, its steps and its end do to a layout, and the
 -- rows that show a layout.
 use Rattle.std.specs.Prelude.{ℕ, ◌+◌, ◌-◌, ◌==◌, ◌≤◌, ◌<◌, nat_le, nat_lt, Bool, not, ◌&&◌, ◌||◌, if◌then◌else◌, ◌⊎◌, List, [], ◌∷◌, ◌++◌, length, map, filter, find, get_or, sum_by, Option, Some, None}
-use Rattle.std.specs.List.{All, AllPairs}
+use Rattle.std.specs.List.{AllByRecursion}
 use Rattle.layout.specs.Ascending.{Ascend}
 use Rattle.layout.specs.Layout.{SegmentOf, OpenMerge, Layout, item_in, live_count, dead_count, live_of_range, remade}
 
@@ -23,11 +23,16 @@ AreApart one other = (one.from + one.count ≤ other.from) ⊎ (other.from + oth
 abbrev pub merge_id : OpenMerge → ℕ
 merge_id merge = merge.id
 
+-- no two share a segment
+abbrev pub AreAllApart : List OpenMerge → Type 0
+AreAllApart [] = Unit {0}
+AreAllApart (merge ∷ merges) = AllByRecursion (AreApart merge) merges × AreAllApart merges
+
 -- What is so of open merges at all times, beside as many segments: each is of some of these, no two share one, and they stand
 -- by ascending ids, which are among those that were given.
 pub record AreOpen (segments started : ℕ) (merges : List OpenMerge) : Type 0 where
-  pub within : All (IsWithin segments) merges
-  pub apart : AllPairs AreApart merges
+  pub within : AllByRecursion (IsWithin segments) merges
+  pub apart : AreAllApart merges
   pub ids : Ascend 1 (map merge_id merges) (started + 1)
   pub few : length merges ≤ most_merges
 
