@@ -11,3 +11,4 @@ pub mod Writing
 pub mod Jobs
 pub mod Opened
 pub mod Relaying
+pub mod Settled

@@ -1,11 +1,11 @@
 //! The merge calls: what they answer, and when they are refused.
 
-ghost use Rattle.std.specs.Prelude.{◌≡◌, ◌<◌, length};
+ghost use Rattle.std.specs.Prelude.{◌≡◌, ◌<◌, find, length};
 ghost use Rattle.std.specs.Option.{option_map};
 ghost use Rattle.flattener.specs.Block.{BlockState};
 ghost use Rattle.layout.specs.Layout.{Layout};
-ghost use Rattle.layout.specs.Merges.{finish_fault, force_fault, start_fault, step_fault};
-ghost use Rattle.merge_jobs.specs.Open.{merges_shown};
+ghost use Rattle.layout.specs.Merges.{finish_fault, force_fault, has_merge_id, start_fault, step_fault};
+ghost use Rattle.merge_jobs.specs.Open.{merge_shown, merges_shown};
 ghost use Rattle.index_core.specs.Merge.{refusal_of};
 
 use crate::NoMemory;
@@ -112,8 +112,13 @@ pub(crate) fn finish_refusal(merges: &[MergeRow], id: u64) -> Option<MergeRefusa
     ensures { (layout : Layout BlockState) → layout.merges ≡ merges_shown merges.now → result ≡ option_map refusal_of (finish_fault id layout) }
 {
     match row_named(merges, id) {
-        Some(row) if row.left > 0 => Some(MergeRefusal::NotDone(row.left)),
-        Some(_) => None,
+        Some(row) => {
+            if row.left > 0 {
+                Some(MergeRefusal::NotDone(row.left))
+            } else {
+                None
+            }
+        }
         None => Some(MergeRefusal::Unknown),
     }
 }

@@ -12,7 +12,7 @@ ghost use Rattle.segment_builder.specs.Blocks.{objects_of};
 ghost use Rattle.segment_builder.specs.Given.{IsNumbered};
 ghost use Rattle.segment_view.specs.Views.{HaveOwnIds};
 ghost use Rattle.view_merge.specs.Given.{AreFitting, IsKeptOrMade};
-ghost use Rattle.index_core.specs.Found.{AreBelow, AreFit, layout_ready};
+ghost use Rattle.index_core.specs.Found.{AreBelow, AreFit, AreWhole, layout_ready};
 ghost use Rattle.index_core.specs.Kept.{most_factor};
 
 use crate::NoMemory;

@@ -2,10 +2,10 @@
 use Rattle.std.proofs.Common.{◌≡◌, ℕ, ◌+◌, ◌-◌, ◌==◌, ◌≤◌, Bool, true, false, List, [], ◌∷◌, ◌++◌, length, map, filter, refl, ap, ◌∙◌, arith}
 use Rattle.std.specs.List.{AllByRecursion, count_by, flat_map}
 use Rattle.std.proofs.lemmas.List.{length-append, length-map}
-use Rattle.std.proofs.lemmas.List.Sums.{sum_by-append}
+use Rattle.std.proofs.lemmas.List.Sums.{sum_by-cons}
 use Rattle.block_bits.specs.Flags.{is_marked}
 use Rattle.flattener.specs.Block.{BlockState}
-use Rattle.layout.proofs.Goes.{split}
+use Rattle.layout.proofs.Goes.{counted, split}
 use Rattle.layout.proofs.Merging.{all_both}
 use Rattle.layout.specs.Layout.{Marked, is_live, item_in}
 use Rattle.segment.specs.Flat.{FlatDocument, FlatRoot, flat_root, flats_of, roots_of}
@@ -18,8 +18,8 @@ marked_count : (blocks : List BlockState) (marks : List Bool) → length blocks 
 marked_count [] [] long = refl
 marked_count [] (mark ∷ marks) long = absurd (omega (arith, long))
 marked_count (block ∷ blocks) [] long = absurd (omega (arith, long))
-marked_count (block ∷ blocks) (true ∷ marks) long = let rest = marked_count blocks marks (omega (arith, long)) in omega (arith, rest)
-marked_count (block ∷ blocks) (false ∷ marks) long = let rest = marked_count blocks marks (omega (arith, long)) in omega (arith, rest)
+marked_count (block ∷ blocks) (true ∷ marks) long = let rest = marked_count blocks marks (omega (arith, long)) in omega (arith, rest, counted is_marked true marks)
+marked_count (block ∷ blocks) (false ∷ marks) long = let rest = marked_count blocks marks (omega (arith, long)) in omega (arith, rest, counted is_marked false marks)
 
 pub live_count : (entry : EntryState) → map (λ (block : BlockState). block.root) (blocks_of entry.columns) ≡ roots_of entry.columns → IsLiveOver entry.columns entry.live → count_by is_marked entry.live.roots ≡ length (live_blocks entry)
 live_count entry roots over =
@@ -55,7 +55,7 @@ all_have (entry ∷ entries) = all_both HasObject (live_blocks entry) (live_in_a
 
 no_more : (blocks : List BlockState) → AllByRecursion HasObject blocks → length blocks ≤ objects_of blocks
 no_more [] all = omega arith
-no_more (block ∷ blocks) all = omega (arith, all.0, no_more blocks all.1)
+no_more (block ∷ blocks) all = omega (arith, all.0, no_more blocks all.1, sum_by-cons block_objects block blocks)
 
 -- no more blocks than objects
 pub few_live : (entries : List EntryState) → length (live_in_all entries) ≤ objects_of (live_in_all entries)

@@ -1,6 +1,8 @@
 -- Merges one after the other, as they are moved or changed.
 use Rattle.std.proofs.Common.{◌≡◌, ℕ, zero, suc, ◌+◌, ◌-◌, ◌==◌, ◌<◌, Bool, true, false, not, cond, List, [], ◌∷◌, ◌++◌, length, map, filter, take, drop, set, get_or, slice_get, Option, Some, None, refl, sym, ap, subst, ◌∙◌, arith, eqb-true}
 use Rattle.std.specs.List.{find}
+use Rattle.std.proofs.lemmas.Bool.{eqb-false}
+use Rattle.std.proofs.lemmas.List.{drop_more}
 use Rattle.layout.proofs.Goes.{split}
 use Rattle.layout.proofs.Looked.{find_passes}
 use Rattle.layout.specs.Ascending.{Ascend}
@@ -13,7 +15,7 @@ use Rattle.merge_jobs.proofs.Keyed.{changed_if, map_same, one_changed, one_out}
 -- ---- one after the other
 
 pub next_set : {A : Type 0} (f : A → A) (old now : List A) (index : ℕ) (x y d : A) → now ≡ map f (take index old) ++ drop index old → index < length now → x ≡ get_or now index d → y ≡ f x → set now index y ≡ map f (take (index + 1) old) ++ drop (index + 1) old
-next_set f old now index x y d is within at put =
+next_set {A = A} f old now index x y d is within at put =
     ap (set now index) put ∙ ap (λ z. set now index (f z)) at ∙ ap (λ zs. set zs index (f (get_or zs index d))) is ∙ step old index (subst (λ zs. index < length zs) is within)
   where
     step : (xs : List A) (i : ℕ) → i < length (map f (take i xs) ++ drop i xs) → set (map f (take i xs) ++ drop i xs) i (f (get_or (map f (take i xs) ++ drop i xs) i d)) ≡ map f (take (i + 1) xs) ++ drop (i + 1) xs
@@ -21,6 +23,12 @@ next_set f old now index x y d is within at put =
     step [] (suc i) h = absurd (omega (arith, h))
     step (z ∷ xs) zero h = refl
     step (z ∷ xs) (suc i) h = let next : suc i + 1 ≡ suc (i + 1) = omega arith in rw next (ap (λ zs. f z ∷ zs) (step xs i (omega (arith, h))))
+
+pub next_length : {A : Type 0} (f : A → A) (old : List A) (index : ℕ) → length (map f (take index old) ++ drop index old) ≡ length old
+next_length f [] zero = refl
+next_length f [] (suc index) = refl
+next_length f (x ∷ old) zero = refl
+next_length f (x ∷ old) (suc index) = omega (arith, next_length f old index)
 
 abbrev pub put_at : OpenState → ℕ → OpenState
 put_at job from = record job { merge = record job.merge { from = from } }
@@ -68,6 +76,24 @@ placed_parts (job ∷ jobs) [] = refl
 placed_parts (job ∷ jobs) (row ∷ rows) = ap (λ ps. job.parts ∷ ps) (placed_parts jobs rows)
 
 -- ---- the one with an id
+
+get_here : {A : Type 0} (xs : List A) (index : ℕ) (d : A) → index < length xs → slice_get xs index ≡ Some (get_or xs index d)
+get_here [] index d h = absurd (omega (arith, h))
+get_here (x ∷ xs) zero d h = refl
+get_here (x ∷ xs) (suc index) d h = get_here xs index d (omega (arith, h))
+
+pub named_is : (id : ℕ) (job : OpenState) → job.merge.id ≡ id → is_named id job ≡ true
+named_is id job same = split (is_named id job) (λ yes. yes) (λ no. absurd (eqb-false job.merge.id id no same))
+
+-- what is found is what stands here
+pub found_here : (id index : ℕ) (jobs : List OpenState) (job : OpenState) → index < length jobs → job ≡ get_or jobs index job → is_named id job ≡ true → find (is_named id) (drop index jobs) ≡ find (is_named id) jobs
+    → slice_get jobs index ≡ find (is_named id) jobs
+found_here id index jobs job within at named left =
+    get_here jobs index job within ∙ ap (λ (j : OpenState). Some j) (sym at) ∙ sym (stops job (drop (index + 1) jobs) named)
+    ∙ ap (λ (j : OpenState). find (is_named id) (j ∷ drop (index + 1) jobs)) at ∙ ap (find (is_named id)) (sym (drop_more jobs index job within)) ∙ left
+  where
+    stops : (j : OpenState) (js : List OpenState) → is_named id j ≡ true → find (is_named id) (j ∷ js) ≡ Some j
+    stops j js is = rw is refl
 
 abbrev pub id_in : OpenState → ℕ
 id_in job = job.merge.id

@@ -8,6 +8,7 @@ ghost use Rattle.view_merge.specs.Given.{number_of_block, summary_shown};
 
 use crate::NoMemory;
 use merge_jobs::live_roots;
+use segment_builder::blocks_are_whole;
 use segment_view::Entry;
 use std::alloc::Global;
 

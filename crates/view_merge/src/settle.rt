@@ -17,6 +17,7 @@ use crate::NoMemory;
 use crate::entry::merged_entry;
 use merge_jobs::{MergeRow, is_held, live_roots};
 use merge_policy::{Run, SegmentCount};
+use segment_builder::blocks_are_whole;
 use segment_view::{Entry, View};
 use std::alloc::Global;
 
