@@ -1,5 +1,5 @@
 -- Layouts of the same blocks, and of one more; and the live block with a number, where they are the same.
-use Rattle.std.proofs.Common.{◌≡◌, ℕ, List, [], ◌++◌, None, refl, sym, ap, append-nil, arith}
+use Rattle.std.proofs.Common.{◌≡◌, ℕ, List, [], ◌++◌, None, refl, sym, ap, ◌∙◌, append-nil, arith}
 use Rattle.std.specs.List.{find, flat_map}
 use Rattle.flattener.specs.Block.{BlockState}
 use Rattle.layout.proofs.Goes.{none_goes, none_in, counted_both}

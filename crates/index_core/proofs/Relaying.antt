@@ -71,7 +71,7 @@ some_named id jobs none = at (find (is_named id) jobs) (sym (ap unknown_fault (n
   where
     at : (o : Option OpenState) → unknown_fault (option_map merge_in o) ≡ None → IsSome o
     at None e = absurd (cc (e))
-    at (Some job) e = tt
+    at (Some job) e = refl
 
 shifted_placeless : (from count by : ℕ) (ms : List OpenMerge) → map placeless (map (shifted from count by) ms) ≡ map placeless ms
 shifted_placeless from count by [] = refl
@@ -183,14 +183,15 @@ started_kept it from count left job own kept none is =
     let start = started_so from count (layout_of it) none in
     let open_is = opened_of it own kept in
     let open_now = start_open from count left (layout_of it) start open_is.open_are in
+    let new : OpenState = record { merge = record { id = it.started + 1; from = from; count = count; left = left }; parts = take count (drop from it.entries) } in
     let over : IsJobOver it.entries (record { merge = record { id = it.started + 1; from = from; count = count; left = left }; parts = take count (drop from it.entries) }) = record {
       ids = refl;
       later = all_take (ComesLater it.entries) count (drop from it.entries) (all_drop (ComesLater it.entries) from it.entries (own_later it.entries (own_ids it.entries own)));
     } in
     rw is (record {
       below = kept.below;
-      open_are = subst (λ ms. AreOpen (length it.entries) (it.started + 1) ms) (sym (map-append merge_in it.jobs _)) (subst (λ n. AreOpen n (it.started + 1) _) (length-map it.entries segment_kept) open_now);
-      over = all_both (IsJobOver it.entries) it.jobs _ kept.over (over, tt);
+      open_are = subst (λ ms. AreOpen (length it.entries) (it.started + 1) ms) (sym (map-append merge_in it.jobs (new ∷ []))) (subst (λ n. AreOpen n (it.started + 1) (merges_in it.jobs ++ new.merge ∷ [])) (length-map it.entries segment_kept) open_now);
+      over = all_both (IsJobOver it.entries) it.jobs (new ∷ []) kept.over (over, tt);
       factor_is = kept.factor_is;
     })
 
@@ -218,7 +219,7 @@ closed_kept it id kept = record {
 
 -- ---- a range of entries gives way
 
-entries_by : Option EntryState → List EntryState
+abbrev entries_by : Option EntryState → List EntryState
 entries_by None = []
 entries_by (Some entry) = entry ∷ []
 
@@ -254,6 +255,10 @@ pub all_index : {A : Type 0} (P : A → Type 0) (xs : List A) → AllByRecursion
 all_index P [] all = All-nil P
 all_index P (x ∷ xs) all = All-cons P x xs all.0 (all_index P xs all.1)
 
+-- entries are kept
+pub all_kept : (made : ℕ) (entries : List EntryState) → All (IsKeptOrMade entries made) entries
+all_kept made entries = All-weaker (Contains entries) (IsKeptOrMade entries made) (λ e here. inl here) entries (All-contains_itself entries)
+
 -- what a range of entries that gives way asks: none of the other merges has a segment of it, and what comes is whole
 pub record IsGiven (it : BlocksState) (from count : ℕ) (by : Option EntryState) (jobs : List OpenState) : Type 0 where
   pub within : from + count ≤ length it.entries
@@ -274,7 +279,7 @@ given_kept it from count by jobs below factor given =
     let ids = each (λ (e : EntryState). e.id < it.made) it.entries below.ids in
     let ids_now : AllByRecursion (λ (e : EntryState). e.id < more) now = all_replaced (λ (e : EntryState). e.id < more) from count by it.entries (all_weaker (λ (e : EntryState). e.id < it.made) (λ (e : EntryState). e.id < more) (λ e less. omega (arith, less)) it.entries ids) (new_id by given.id) in
     let whole_now = all_replaced IsWhole from count by it.entries (each IsWhole it.entries below.whole) given.whole in
-    let kept : AllByRecursion (IsKeptOrMade it.entries it.made) now = all_replaced (IsKeptOrMade it.entries it.made) from count by it.entries (each (IsKeptOrMade it.entries it.made) it.entries (All-from-contains it.entries)) (new_made by given.id) in
+    let kept : AllByRecursion (IsKeptOrMade it.entries it.made) now = all_replaced (IsKeptOrMade it.entries it.made) from count by it.entries (each (IsKeptOrMade it.entries it.made) it.entries (all_kept it.made it.entries)) (new_made by given.id) in
     let long : length now ≡ length it.entries - count + length (segments_of by) = long_now in
     let ranges : ranges_of (segments_kept now) (merges_in (map (with_merge shift) jobs)) ≡ ranges_of (segments_kept it.entries) (merges_in jobs) =
     ap (λ ms. ranges_of (segments_kept now) ms) (merges_changed shift jobs)
@@ -288,9 +293,6 @@ given_kept it from count by jobs below factor given =
       factor_is = factor;
     }
   where
-    All-from-contains : (es : List EntryState) → All (IsKeptOrMade es it.made) es
-    All-from-contains es = All-weaker (Contains es) (IsKeptOrMade es it.made) (λ e here. inl here) es (All-contains_itself es)
-
     new_id : (o : Option EntryState) → IfSome o (λ entry. entry.id ≡ it.made) → IfSome o (λ entry. entry.id < it.made + length (segments_of o))
     new_id None h = tt
     new_id (Some entry) h = omega (arith, h)

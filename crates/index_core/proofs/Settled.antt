@@ -15,8 +15,8 @@ use Rattle.merge_jobs.proofs.LiveRoots.{few_live}
 use Rattle.merge_jobs.specs.Job.{live_in_all, segment_kept, segments_kept}
 use Rattle.merge_jobs.specs.Open.{merges_shown}
 use Rattle.merge_policy.proofs.Passes.{settles_by_runs}
-use Rattle.merge_policy.specs.Policy.{live_counted, settled_made, settled_runs}
-use Rattle.merge_policy.specs.Runs.{IsAmong, count_at, counts_from, counts_of, laid_by, moved}
+use Rattle.merge_policy.specs.Policy.{settled_made, settled_runs}
+use Rattle.merge_policy.specs.Runs.{IsAmong, live_counted, count_at, counts_from, counts_of, laid_by, moved}
 use Rattle.merge_policy.specs.declared.runs.Run.{Run}
 use Rattle.segment.specs.Live.{EntryState}
 use Rattle.segment_builder.specs.Blocks.{live_blocks, objects_of}

@@ -1,5 +1,5 @@
 -- What an index keeps: the entries of its view, each a segment of blocks, and the blocks in its buffer.
-use Rattle.std.specs.Prelude.{ℕ, ◌+◌, ◌≤◌, ◌^◌, Bool, List, [], ◌∷◌, ◌++◌, length, map, max, count_by, find, Option, None}
+use Rattle.std.specs.Prelude.{ℕ, ◌+◌, ◌<◌, ◌≤◌, ◌^◌, Bool, List, [], ◌∷◌, ◌++◌, length, map, max, count_by, find, Option, None}
 use Rattle.std.specs.List.{All, flat_map}
 use Rattle.std.specs.Str.{bytes_eq}
 use Rattle.flattener.specs.Block.{BlockState}

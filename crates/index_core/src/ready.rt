@@ -1,6 +1,6 @@
 //! What sealing makes, before anything is replaced.
 
-ghost use Rattle.std.specs.Prelude.{◌≡◌, ◌⊎◌, ℕ, ◌+◌, ◌<◌, ◌≤◌, ◌^◌, [], List, Some, IfOk};
+ghost use Rattle.std.specs.Prelude.{◌≡◌, ℕ, ◌+◌, ◌<◌, ◌≤◌, length, Some, IfOk};
 ghost use Rattle.std.specs.List.{All};
 ghost use Rattle.flattener.specs.Fits.{SegmentFits, most_live};
 ghost use Rattle.layout.specs.Layout.{settled};

@@ -5,8 +5,9 @@ use Rattle.std.proofs.lemmas.List.{get_or-map, length-map}
 use Rattle.std.proofs.lemmas.List.FromFn.{length-range_with_len}
 use Rattle.block_bits.specs.Flags.{is_marked}
 use Rattle.flattener.specs.Block.{BlockState}
-use Rattle.layout.proofs.Goes.{counted}
+use Rattle.layout.proofs.Goes.{counted, split}
 use Rattle.layout.specs.Layout.{Marked, is_live, item_in}
+use Rattle.layout.specs.Merges.{SegmentSummary}
 use Rattle.segment.specs.Flat.{FlatRoot, flat_root, roots_of}
 use Rattle.segment.specs.Live.{EntryState, IsLiveOver, LiveState, live_docs, root_of as root_rank}
 use Rattle.segment_parts.specs.Parts.{root_flags}
@@ -96,3 +97,17 @@ objects_are entry roots over counts =
     let is : IsLiveOver columns all = record { roots = omega (arith, length-replicate n, long); documents = omega (arith, docs_long flags (replicate n true), flags_long); docs = refl } in
     ap (sum_by block_objects) (items_are blocks entry.live.roots (omega (arith, long, over.roots)))
     ∙ ap objects_of (sym (live_all blocks)) ∙ sym (counts all is) ∙ docs_all flags n ∙ flags_long
+
+-- ---- the row
+
+pub entry_long : (entry : EntryState) → map (λ (block : BlockState). block.root) (blocks_of entry.columns) ≡ roots_of entry.columns → IsLiveOver entry.columns entry.live → length (blocks_in entry) ≡ length entry.columns.roots
+entry_long entry roots over =
+    let long = blocks_long entry.columns roots in
+    marked_length (blocks_of entry.columns) entry.live.roots (omega (arith, long, over.roots)) ∙ long
+
+pub fewer_live : (ms : List (Marked BlockState)) → length (map item_in (filter is_live ms)) ≤ length ms
+fewer_live [] = omega arith
+fewer_live (m ∷ ms) = split m.live (λ is. rw is (omega (arith, fewer_live ms))) (λ isnt. rw isnt (omega (arith, fewer_live ms)))
+
+pub summary_same : (a b : SegmentSummary) → a.dead ≡ b.dead → a.first ≡ b.first → a.last ≡ b.last → a.live ≡ b.live → a.objects ≡ b.objects → a ≡ b
+summary_same a b dead first last live objects = λ i. record { dead = dead i; first = first i; last = last i; live = live i; objects = objects i }

@@ -45,7 +45,8 @@ fn segment_row(entry: &Entry) -> SegmentRow
     let segment = entry.segment();
     let _live = entry.live();
     blocks_are_whole(segment);
-    let _last = segment.root_of_doc(0);
+    let objects = segment.docs();
+    let _first = segment.root_of_doc(0);
     let roots = segment.roots();
     let live = live_roots(entry);
     SegmentRow {
@@ -53,6 +54,6 @@ fn segment_row(entry: &Entry) -> SegmentRow
         first: segment.root_number(0),
         last: segment.root_number(roots - 1),
         live: live as u64,
-        objects: segment.docs() as u64,
+        objects: objects as u64,
     }
 }
