@@ -1,6 +1,6 @@
 //! The end of an open merge: one entry takes the place of its neighbours, or none.
 
-ghost use Rattle.std.specs.Prelude.{◌≡◌, ℕ, ◌+◌, ◌≤◌, length, take, drop, IfSome, IfOk, OnOk, OnErr};
+ghost use Rattle.std.specs.Prelude.{◌≡◌, ℕ, ◌+◌, ◌<◌, ◌≤◌, length, take, drop, IfSome, IfOk, OnOk, OnErr};
 ghost use Rattle.flattener.specs.Fits.{SegmentFits, most_live};
 ghost use Rattle.layout.specs.Layout.{segment_of};
 ghost use Rattle.mapping.specs.Mapping.{Mapping as Mappings};
@@ -11,6 +11,7 @@ ghost use Rattle.segment_builder.specs.Given.{IsNumbered};
 ghost use Rattle.segment_view.specs.Views.{replaced};
 ghost use Rattle.view_merge.specs.Given.{segments_of};
 ghost use Rattle.index_core.specs.Found.{AreBelow, AreFit, HasJob, IsWhole};
+ghost use Rattle.index_core.specs.Kept.{most_made};
 
 use crate::NoMemory;
 use crate::place::entry_is_whole;
@@ -91,6 +92,7 @@ pub(crate) fn give_way(
     ensures made { OnOk result (made.new ≡ made.old + length (segments_of by)) }
     ensures put { IfOk result (λ put. put ≡ length (segments_of by)) }
     ensures whole { IfSome by IsWhole }
+    ensures top { made.new < most_made }
     ensures same_view { OnErr result (view.new ≡ view.old) }
     ensures same_made { OnErr result (made.new ≡ made.old) }
 {

@@ -17,7 +17,7 @@ ghost use Rattle.index_core.specs.Kept.{AreBlocks, HaveOwnIds, has_block_id, mos
 
 use crate::finish::{Finished, finishing, give_way};
 use crate::place::{Place, entry_is_whole, place_of};
-use crate::ready::{Ready, made_after, mapping_is_numbered, settled_ready};
+use crate::ready::{Ready, made_after, mapping_is_numbered, next_merge, settled_ready};
 use crate::{MergeDone, NoMemory};
 use flattener::{Block, blocks_are_of_their_mapping};
 use mapping::Mapping;
@@ -274,7 +274,7 @@ impl KeptBlocks {
         let range = neighbours(self.view.entries(), from, count);
         let job = MergeJob::start(self.alloc, range)?;
         let roots = job.left();
-        let id = self.started.checked_add(1).ok_or(NoMemory)?;
+        let id = next_merge(self.started)?;
         self.jobs.open(id, from, count, job)?;
         self.started = id;
         Ok(MergeDone { id, count: roots })

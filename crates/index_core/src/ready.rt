@@ -68,6 +68,13 @@ pub(crate) fn made_after(made: u128, more: u64) -> Result<u128, NoMemory>
     made.checked_add(more as u128).ok_or(NoMemory)
 }
 
+/// The id of the merge that is started next.
+pub(crate) fn next_merge(started: u64) -> Result<u64, NoMemory>
+    ensures { IfOk result (λ id. id ≡ started + 1) }
+{
+    started.checked_add(1).ok_or(NoMemory)
+}
+
 /// Says that a mapping's fields, scopes, bodies and relations are numbered. Does nothing.
 pub(crate) fn mapping_is_numbered(mapping: &Mapping)
     ensures { IsNumbered mapping.now }
