@@ -65,4 +65,19 @@ returns-clause-segments c = λ m fit.
     subst (AreFit m) (sym c.in_ok-by.ensures.view) (all_index P (replaced c.args.from c.args.count by it.entries) (all_replaced P c.args.from c.args.count by it.entries (each P it.entries old) own))
 
 pub returns-clause-relaid : goal.returns-clause-relaid
-returns-clause-relaid c = ?
+returns-clause-relaid c =
+    let it : BlocksState = the_view c.self.inside in
+    let by = c.in_ok-entry.entry in
+    let range : c.neighbours-range.result.now ≡ take c.args.count (drop c.args.from it.entries) = c.neighbours-range.ensures ∙ ap (λ (es : List EntryState). take c.args.count (drop c.args.from es)) c.entries.ensures.entries in
+    let within = subst (λ (s : BlocksState). c.args.from + c.args.count ≤ length s.entries) (sym c.self.view_is) c.requires.within in
+    let none = subst (λ (s : BlocksState). overlapping c.args.from c.args.count (layout_of s) ≡ None) (sym c.self.view_is) c.requires.clear in
+    let segments = c.in_ok-entry.ensures.segments ∙ ap (λ (es : List EntryState). segment_of it.made (live_in_all es)) range in
+    let given : IsGiven it c.args.from c.args.count by it.jobs = force_given it c.args.from c.args.count by c.self.invariant c.requires.some within none c.in_ok-entry.ensures.id c.give_way.ensures.whole segments in
+    let jobs_are = c.shift.ensures ∙ ap (λ (k : ℕ). map (with_merge (shifted c.args.from c.args.count k)) it.jobs) c.in_ok-by.ensures.put in
+    let now : BlocksState = record it { entries = c.give_way.new.view; made = c.give_way.new.made; jobs = c.shift.new.self } in
+    let laid : layout_of now ≡ remade c.args.from c.args.count (layout_of it) =
+    ap (λ (es : List EntryState). layout_of (record it { entries = es; made = c.give_way.new.made; jobs = c.shift.new.self })) c.in_ok-by.ensures.view
+    ∙ ap (λ (m : ℕ). layout_of (record it { entries = replaced c.args.from c.args.count by it.entries; made = m; jobs = c.shift.new.self })) c.in_ok-by.ensures.made
+    ∙ ap (λ (js : List OpenState). layout_of (record it { entries = replaced c.args.from c.args.count by it.entries; made = it.made + length (segments_of by); jobs = js })) jobs_are
+    ∙ given_layout it c.args.from c.args.count by it.jobs given in
+    subst (λ (s : BlocksState). IsRelaid s now) c.self.view_is (remade_relaid it now c.args.from c.args.count (merges_in it.jobs) c.give_way.ensures.top laid)
