@@ -1,0 +1,19 @@
+//! Commands on the layout of an index and on its points in time, each with the reply that it is given.
+//!
+//! It stands on `index_core`, which lays out blocks in segments and merges these, on `point_in_time`, and on the definitions of
+//! `machine`. The contracts that others use: `merge` does to the layout of blocks what `machine` says of a merge command, and
+//! gives that reply; `open_point` and `close_point` give and take points in time on the sealed index. Nothing here is written
+//! anywhere: the engine writes the reply. Begin with `specs/Ends`, then `merge`.
+#![tactic(auto)]
+
+mod automerge;
+mod merge;
+mod not_done;
+mod points;
+mod rows;
+
+pub use automerge::automerge;
+pub use merge::merge;
+pub use not_done::NotDone;
+pub use points::{close_point, open_point};
+pub use rows::rows;
