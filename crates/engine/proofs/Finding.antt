@@ -1,5 +1,5 @@
 -- Searches: what the machine finds among trees, as the engine finds it among blocks.
-use Rattle.std.proofs.Common.{◌≡◌, ◌≤◌, ◌+◌, ℕ, Bool, true, false, cond, List, [], ◌∷◌, ◌++◌, length, map, filter, Option, Some, None, is_some, Result, Ok, Err, IsErr, IfOk, OnOk, refl, sym, ap, subst, ◌∙◌, append-nil, arith}
+use Rattle.std.proofs.Common.{◌≡◌, ◌≢◌, ◌≤◌, ◌<◌, ◌+◌, ℕ, Bool, true, false, cond, List, [], ◌∷◌, ◌++◌, length, map, filter, Option, Some, None, is_some, Result, Ok, Err, IsErr, IfOk, OnOk, refl, sym, ap, subst, ◌∙◌, append-nil, arith}
 use Rattle.std.proofs.lemmas.List.{map-append}
 use Rattle.std.specs.List.{AllByRecursion, flat_map}
 use Rattle.flattener.specs.Block.{BlockState}
@@ -7,12 +7,13 @@ use Rattle.flattener.specs.StandsFor.{EntryStandsFor, Marked, ViewStandsFor}
 use Rattle.index_core.specs.Kept.{IndexState, laid, layout_kept, segment_kept}
 use Rattle.layout.specs.As.{marked_as, segment_as}
 use Rattle.layout.specs.Layout.{Layout, SegmentOf, is_live, item_in, live_in, sealed}
-use Rattle.machine.specs.Answer.{outcome_of, refused_if, refuses}
-use Rattle.machine.specs.Searching.{refusal_of, body_refusal, found_by, is_built, is_none, search_all, search_by, search_over, search_step, searched, within}
+use Rattle.machine.specs.Answer.{answers, outcome_of, refused_if, refuses}
+use Rattle.machine.specs.Searching.{refusal_of, body_refusal, found_by, search_by, search_over, search_step, searched, within}
 use Rattle.machine.specs.State.{State, sealed_state}
 use Rattle.machine.specs.declared.limits.Limits.{Limits}
 use Rattle.mapping.specs.IsMapping.{IsMapping}
 use Rattle.mapping.specs.Mapping.{Mapping}
+use Rattle.inner_hits.specs.Hits.{AllReadBack}
 use Rattle.query_ast.specs.Replies.{ReplyPart}
 use Rattle.query_ast.specs.Search.{found_buckets, hit_page}
 use Rattle.query_ast.specs.declared.hit.HitPage.{HitPage}
@@ -30,10 +31,12 @@ use Rattle.search_walk.specs.declared.refusal.SearchRefusal.TheVariants as body
 use Rattle.segment.specs.Live.{EntryState}
 use Rattle.segment_builder.specs.Blocks.{block_of_marked, blocks_in}
 use Rattle.tree_json.specs.Value.{JsonValue}
-use Rattle.tree_objects.specs.Tree.{Tree}
+use Rattle.search_page.specs.Searched.{AreSearched, page_reads}
+use Rattle.tree_objects.specs.Tree.{IsLiveList, Tree}
 use Rattle.engine.specs.Answers.{Answers, answered_by, reply_bytes}
 use Rattle.engine.specs.Faithful.{AreFaithful, Indexed, StandsFor, block_in, tree_in}
 use Rattle.engine.specs.Parts.{IsRefusedAs, answered_of}
+use Rattle.engine.specs.Reads.{page_reads_of}
 use Rattle.engine.specs.declared.no_memory.NoMemory as memory
 use Rattle.engine.specs.declared.reply.Ended.{Ended}
 use Rattle.engine.specs.declared.reply.Ended.TheVariants.{Accepted}
@@ -44,10 +47,6 @@ use Rattle.engine.proofs.Standing.{live_trees, map-map}
 no_option : {A : Type 0} (o : Option A) → is_some o ≡ false → o ≡ None
 no_option None e = refl
 no_option (Some x) e = absurd (cc)
-
-none_is : {A : Type 0} (xs : List A) → is_none xs ≡ true → xs ≡ []
-none_is [] e = refl
-none_is (x ∷ xs) e = absurd (cc)
 
 -- ---- the trees that a sealed index stands for
 
@@ -114,15 +113,28 @@ all_stand (entry ∷ entries) all m (t ∷ trees) is e =
 
 -- ---- what is found
 
-pub built_parts : (search : SearchBody) → is_built search ≡ true → search.inner ≡ []
-built_parts search e = none_is search.inner e
-
 pub found_same : (m : Mapping) (live : List Tree) (search : SearchBody) (page : HitPage) (parts : List ReplyPart) (trees : List (List (Marked Tree))) → found_trees trees ≡ live
     → page ≡ hit_page m (found_trees trees) search → parts ≡ found_buckets m (found_trees trees) search → reply.Found page parts ≡ found_by m live search
 found_same m live search page parts trees same is are =
     let first : page ≡ hit_page m live search = is ∙ ap (λ (l : List Tree). hit_page m l search) same in
     let rest : parts ≡ found_buckets m live search = are ∙ ap (λ (l : List Tree). found_buckets m l search) same in
     λ i. reply.Found (first i) (rest i)
+
+-- ---- the trees that are searched
+
+all_read : (m : Mapping) (its : List (Indexed m)) → AllReadBack (map (tree_in m) its)
+all_read m [] = tt
+all_read m (it ∷ its) = (it.reads, all_read m its)
+
+pub are_searched : (m : Mapping) (index : IndexState) (state : State) (f : AreFaithful (Some m) index state) (view : List EntryState) → index.buffer ≡ [] → ViewStandsFor m view (trees_of m (layout_kept index) state.layout f.stands)
+    → AreSearched m view (trees_of m (layout_kept index) state.layout f.stands)
+are_searched m index state f view buffer stands =
+    let trees = trees_of m (layout_kept index) state.layout f.stands in
+    record {
+      stands = stands;
+      read = subst AllReadBack (sym (live_of m f.stands.indexed.segments)) (all_read m (flat_map live_in f.stands.indexed.segments));
+      numbered = subst IsLiveList (sym (live_same m index state f buffer)) f.numbered.live;
+    }
 
 -- ---- what the machine answers
 
@@ -143,15 +155,14 @@ no_pit limits m search index state f some = ap (λ o. search_over limits m searc
     by None e = absurd (cc)
     by (Some id) e = rw f.points refl
 
-over_live : (limits : Limits) (m : Mapping) (search : SearchBody) (state : State) (built : Bool) → search.pit ≡ None → is_built search ≡ built
-    → search_by limits m search (sealed_state state) ≡ search_all limits m search state.content.live built (sealed_state state)
-over_live limits m search state built pit is =
-    ap (λ (o : Option ℕ). search_over limits m search (searched o (sealed_state state)) (sealed_state state)) pit
-    ∙ ap (λ (b : Bool). search_all limits m search state.content.live b (sealed_state state)) is
+over_live : (limits : Limits) (m : Mapping) (search : SearchBody) (state : State) → search.pit ≡ None
+    → search_by limits m search (sealed_state state) ≡ answers (within limits (found_by m state.content.live search)) (sealed_state state)
+over_live limits m search state pit = ap (λ (o : Option ℕ). search_over limits m search (searched o (sealed_state state)) (sealed_state state)) pit
 
-pub not_built : (limits : Limits) (m : Mapping) (search : SearchBody) (state : State) → is_some search.pit ≡ false → is_built search ≡ false
-    → search_by limits m search (sealed_state state) ≡ refuses why.BadRequest
-not_built limits m search state none other = over_live limits m search state false (no_option search.pit none) other
+-- ---- how much is read
+
+pub reads_live : (m : Mapping) (search : SearchBody) (state : State) → is_some search.pit ≡ false → page_reads_of m search (searched search.pit state) ≡ page_reads (hit_page m state.content.live search)
+reads_live m search state none = ap (λ (o : Option ℕ). page_reads_of m search (searched o state)) (no_option search.pit none)
 
 -- ---- a search of an index that was sealed
 
@@ -167,14 +178,14 @@ its_bytes Accepted out = refl
 its_bytes ended.Refused out = refl
 
 pub found_ends : (limits : Limits) (m : Mapping) (search : SearchBody) (index index' : IndexState) (state : State) (given : Reply) (result : Result Ended memory.NoMemory) (out : List ℕ)
-    → AreFaithful (Some m) index state → index'.next ≡ index.next → layout_kept index' ≡ sealed (layout_kept index) → is_some search.pit ≡ false → is_built search ≡ true
+    → AreFaithful (Some m) index state → index'.next ≡ index.next → layout_kept index' ≡ sealed (layout_kept index) → is_some search.pit ≡ false
     → given ≡ found_by m state.content.live search → IfOk result (λ ends. answered_of (Ok ends) ≡ answered_by (within limits given)) → OnOk result (out ≡ reply_text (within limits given))
     → Answers state (outcome_of state (search_by limits m search (sealed_state state))) (answered_of result) out (Some m) index'
-found_ends limits m search index index' state given (Ok ends) out f next seals no_pit built is told_so text =
-    subst (λ answer. Answers state (outcome_of state answer) (answered_of (Ok ends)) out (Some m) index') (sym (over_live limits m search state true (no_option search.pit no_pit) built))
+found_ends limits m search index index' state given (Ok ends) out f next seals no_pit is told_so text =
+    subst (λ answer. Answers state (outcome_of state answer) (answered_of (Ok ends)) out (Some m) index') (sym (over_live limits m search state (no_option search.pit no_pit)))
     (told (Some m) index' state (sealed_state state) (answered_of (Ok ends)) (within limits (found_by m state.content.live search)) out (sealed_faithful m index index' state f next seals) (its_bytes ends out)
     (told_so ∙ ap (λ (it : Reply). answered_by (within limits it)) is) (text ∙ ap (λ (it : Reply). reply_text (within limits it)) is))
-found_ends limits m search index index' state given (Err none) out f next seals no_pit built is told_so text =
+found_ends limits m search index index' state given (Err none) out f next seals no_pit is told_so text =
     lacking_sealed m index' state _ out (sealed_faithful m index index' state f next seals)
 
 -- ---- by what the writing of a body's refusal came to

@@ -250,7 +250,7 @@ impl Engine {
         requires empty { out.old.bytes ≡ [] }
         ensures answers { (state : State) → IsFaithful self.old state
             → Answers state (outcome_of state (action_step self.old.limits (searches (view body.now)) state)) (answered_of result) out.new.bytes self.new.mapping self.new.index }
-        ensures few { (state : State) → IsFaithful self.old state → steps.new ≤ steps.old + hits_of (view body.now) state.content.mapping state.content.live }
+        ensures few { (state : State) → IsFaithful self.old state → steps.new ≤ steps.old + hits_of (view body.now) state.content.mapping state }
         ensures stays { IfNotDone (answered_of result) (StaysOrSeals self.old.mapping self.new.mapping self.old.index self.new.index) }
         ensures limits { self.new.limits ≡ self.old.limits }
         ensures calls { self.new.calls ≡ self.old.calls }

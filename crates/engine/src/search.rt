@@ -1,13 +1,12 @@
 //! Searches.
 
-ghost use Rattle.std.specs.Prelude.{◌≡◌, ◌≤◌, ◌+◌, [], true, length, Option, Some, OnOk, IfOk};
+ghost use Rattle.std.specs.Prelude.{◌≡◌, ◌≤◌, ◌+◌, [], true, Option, Some, OnOk, IfOk};
 ghost use Rattle.index_core.specs.Kept.{IndexFits};
 ghost use Rattle.machine.specs.Answer.{outcome_of};
-ghost use Rattle.machine.specs.Searching.{found_by, is_built, refusal_of, search_by, search_step, within};
+ghost use Rattle.machine.specs.Searching.{found_by, refusal_of, search_by, search_step, searched, within};
 ghost use Rattle.machine.specs.State.{State, sealed_state};
 ghost use Rattle.query_ast.specs.Resolved.{IsSearch};
 ghost use Rattle.query_ast.specs.Search.{hit_page};
-ghost use Rattle.query_parser.specs.Search.{search_of};
 ghost use Rattle.reply_text.specs.Text.{reply_text};
 ghost use Rattle.search_form.specs.Form.{is_search_body};
 ghost use Rattle.tree_json.specs.Output.{room_of};
@@ -16,6 +15,8 @@ ghost use Rattle.engine.specs.Answers.{Answers, answered_by};
 ghost use Rattle.engine.specs.Faithful.{AreFaithful};
 ghost use Rattle.engine.specs.Kept.{IsIndexOf};
 ghost use Rattle.engine.specs.Parts.{Leaves, IsRefusedAs, answered_of};
+ghost use Rattle.engine.specs.Reads.{hits_of, page_reads_of};
+ghost use Rattle.search_page.specs.Searched.{page_reads};
 
 use crate::engine::Answered;
 use crate::entries::entries_stand;
@@ -51,7 +52,7 @@ pub(crate) fn search<L: Ledger>(
         → Answers state (outcome_of state (search_step limits.now (view body.now) mapping.now (sealed_state state))) (answered_of result) out.new.bytes (Some mapping.now) index.new }
     ensures leaves { Leaves (answered_of result) (Some mapping.now) (Some mapping.now) mapping.now index.old index.new }
     ensures reads { (state : State) → AreFaithful (Some mapping.now) index.old state
-        → steps.new ≤ steps.old + length (hit_page mapping.now state.content.live (search_of mapping.now (view body.now))).hits }
+        → steps.new ≤ steps.old + hits_of (view body.now) (Some mapping.now) state }
     ensures room { room_of out.old ≤ room_of out.new }
 {
     match search_form::search(body) {
@@ -86,7 +87,7 @@ fn refuse_search(why: SearchRefusal, out: &mut OutText) -> Result<Ended, NoMemor
     }
 }
 
-/// Answers a search whose body isn't refused. One that asks for inner hits is refused until these are built.
+/// Answers a search whose body isn't refused.
 #[tactic(auto, using(crate::proofs::Answering::left, crate::proofs::Answering::same_faithful))]
 fn search_over<L: Ledger>(
     alloc: Global,
@@ -103,28 +104,18 @@ fn search_over<L: Ledger>(
     ensures answers { (state : State) → AreFaithful (Some mapping.now) index.old state
         → Answers state (outcome_of state (search_by limits.now mapping.now search.now (sealed_state state))) (answered_of result) out.new.bytes (Some mapping.now) index.new }
     ensures leaves { Leaves (answered_of result) (Some mapping.now) (Some mapping.now) mapping.now index.old index.new }
-    ensures reads { (state : State) → AreFaithful (Some mapping.now) index.old state → steps.new ≤ steps.old + length (hit_page mapping.now state.content.live search.now).hits }
+    ensures reads { (state : State) → AreFaithful (Some mapping.now) index.old state → steps.new ≤ steps.old + page_reads_of mapping.now search.now (searched search.now.pit state) }
     ensures room { room_of out.old ≤ room_of out.new }
 {
     if search.pit.is_some() {
         return refuse(Refusal::UnknownPit, out);
-    }
-    if !is_built(search) {
-        return refuse(Refusal::BadRequest, out);
     }
     index.seal(mapping)?;
     let found = found_by(alloc, mapping, index, search, steps)?;
     write_within(limits, &found, out)
 }
 
-/// Whether no inner hits are asked for.
-fn is_built(search: &SearchBody) -> bool
-    ensures { result ≡ is_built search.now }
-{
-    search.inner.as_slice().is_empty()
-}
-
-/// What a search without inner hits finds in a sealed index.
+/// What a search finds in a sealed index.
 fn found_by<L: Ledger>(
     alloc: Global,
     mapping: &Mapping,
@@ -134,10 +125,9 @@ fn found_by<L: Ledger>(
 ) -> Result<Reply, NoMemory>
     requires fits { IndexFits mapping.now index.now }
     requires resolved { IsSearch mapping.now search.now }
-    requires built { is_built search.now ≡ true }
     ensures done { IfOk result (λ reply. answered_by reply ≡ Answered.Written) }
     ensures found { (state : State) → AreFaithful (Some mapping.now) index.now state → index.now.buffer ≡ [] → IfOk result (λ reply. reply ≡ found_by mapping.now state.content.live search.now) }
-    ensures reads { (state : State) → AreFaithful (Some mapping.now) index.now state → index.now.buffer ≡ [] → steps.new ≤ steps.old + length (hit_page mapping.now state.content.live search.now).hits }
+    ensures reads { (state : State) → AreFaithful (Some mapping.now) index.now state → index.now.buffer ≡ [] → steps.new ≤ steps.old + page_reads (hit_page mapping.now state.content.live search.now) }
 {
     let _scopes = mapping.scope_count();
     let view = index.view();

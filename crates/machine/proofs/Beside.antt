@@ -22,7 +22,7 @@ use Rattle.machine.specs.Beside.{AgreeBeside, shows_layout, is_of_layout, asks_s
 use Rattle.machine.specs.MappingLine.{first_refusals, first_done, growing_refusals, growing_done, mapping_by, mapping_step}
 use Rattle.machine.specs.Merging.{automerge_step}
 use Rattle.machine.specs.Points.{most_points, is_open, open_done, open_step, close_done, close_step}
-use Rattle.machine.specs.Searching.{is_built, searched, search_all, search_over, search_by, body_refusal, search_step}
+use Rattle.machine.specs.Searching.{searched, search_over, search_by, body_refusal, search_step}
 use Rattle.machine.specs.State.{Kept, State, sealed_state}
 use Rattle.machine.specs.Step.{refresh_step, action_step, asked_step, step}
 use Rattle.machine.specs.Write.{live_tree, live_number, early_refusals, nothing_to_do, leaves_source, new_source, added_body, grown_by, put_refusals, put_result, changed, put_tree, new_tree, full, with_put, take_out, change, answered_or, change_or_nothing, write_step}
@@ -105,15 +105,10 @@ module _ (layout : Layout Tree) (kept : Kept) where
       (change limits m it.target.id (new_source it.operation live) live (elsewhere layout kept state))
       (change_alike limits m it.target.id (new_source it.operation live) live state))
 
-  all_alike : (limits : Limits) (m : Mapping) (body : SearchBody) (live : List Tree) (built : Bool) (state : State)
-      → Alike (search_all limits m body live built state) (search_all limits m body live built (elsewhere layout kept state))
-  all_alike limits m body live false state = refl
-  all_alike limits m body live true state = (refl, record { content = refl; points = refl })
-
   over_alike : (limits : Limits) (m : Mapping) (body : SearchBody) (live : Option (List Tree)) (state : State)
       → Alike (search_over limits m body live state) (search_over limits m body live (elsewhere layout kept state))
   over_alike limits m body None state = refl
-  over_alike limits m body (Some live) state = all_alike limits m body live (is_built body) state
+  over_alike limits m body (Some live) state = (refl, record { content = refl; points = refl })
 
   -- a search asks which trees there are by the content and the points in time alone
   same_searched : (point : Option ℕ) (state : State) → searched point (elsewhere layout kept state) ≡ searched point state

@@ -25,7 +25,7 @@ use Rattle.machine.specs.declared.merge_command.MergeCommand.TheVariants.{Start,
 use Rattle.machine.proofs.Merged.{LaysLive, merged_keeps}
 use Rattle.machine.specs.Points.{most_points, with_points, with_point, without_point, is_open, open_done, open_step, close_done, close_step}
 use Rattle.machine.specs.MappingLine.{first_refusals, first_done, first_mapping, growing_refusals, growing_done, grown_mapping, mapping_by, mapping_step, with_content_mapping}
-use Rattle.machine.specs.Searching.{is_built, searched, search_all, search_over, search_by, body_refusal, search_step}
+use Rattle.machine.specs.Searching.{searched, search_over, search_by, body_refusal, search_step}
 use Rattle.machine.specs.State.{State, sealed_state}
 use Rattle.machine.specs.Step.{refresh_step, action_step, asked_step, step}
 use Rattle.machine.specs.Write.{live_tree, live_number, early_refusals, nothing_to_do, leaves_source, new_source, added_body, grown_by, put_refusals, put_result, changed, changed_state, put_tree, new_tree, full, with_put, take_out, change, answered_or, change_or_nothing, write_step}
@@ -102,13 +102,9 @@ line_so : (P : State → Type 0) (asked : Asked) (body : JsonValue) (state : Sta
 unfolding mapping_step
 line_so P asked body state stays so = mapping_so P asked body state.content.mapping state stays so
 
-all_so : (P : State → Type 0) (limits : Limits) (m : Mapping) (body : SearchBody) (live : List Tree) (built : Bool) (state : State) → P state → After P (search_all limits m body live built state)
-all_so P limits m body live false state so = tt
-all_so P limits m body live true state so = so
-
 over_so : (P : State → Type 0) (limits : Limits) (m : Mapping) (body : SearchBody) (live : Option (List Tree)) (state : State) → P state → After P (search_over limits m body live state)
 over_so P limits m body None state so = tt
-over_so P limits m body (Some live) state so = all_so P limits m body live (is_built body) state so
+over_so P limits m body (Some live) state so = so
 
 search_so : (P : State → Type 0) (limits : Limits) (body : JsonValue) (m : Mapping) (state : State) → P state → After P (search_step limits body m state)
 unfolding search_step

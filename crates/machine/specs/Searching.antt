@@ -1,6 +1,6 @@
 -- What a search answers: its first refusal under the mapping, or what it finds among the live trees or those of a point in
 -- time.
-use Rattle.std.specs.Prelude.{ℕ, ◌==◌, nat_lt, Bool, true, false, if◌then◌else◌, List, [], ◌∷◌, length, find, Option, Some, None, option_map}
+use Rattle.std.specs.Prelude.{ℕ, ◌==◌, nat_lt, Bool, if◌then◌else◌, List, length, find, Option, Some, None, option_map}
 use Rattle.mapping.specs.Mapping.{Mapping}
 use Rattle.query_ast.specs.Search.{hit_page, found_buckets}
 use Rattle.query_ast.specs.declared.search.SearchBody.{SearchBody}
@@ -38,16 +38,6 @@ abbrev pub body_refusal : Option SearchRefusal → Option Refusal
 body_refusal None = None
 body_refusal (Some refusal) = refusal_of refusal
 
--- ---- what is answered until inner hits are built
-
-abbrev pub is_none : {A : Type 0} → List A → Bool
-is_none {A} [] = true
-is_none {A} (x ∷ xs) = false
-
--- no inner hits are asked for
-abbrev pub is_built : SearchBody → Bool
-is_built search = is_none search.inner
-
 -- ---- what is found
 
 abbrev pub has_point_id : ℕ → PointInTime → Bool
@@ -65,14 +55,9 @@ found_by m live search = Found (hit_page m live search) (found_buckets m live se
 abbrev pub within : Limits → Reply → Reply
 within limits reply = if nat_lt limits.reply_bytes (length (line_of reply)) then Refused why.ReplyTooLarge else reply
 
--- a search that asks for inner hits is refused until these are built
-abbrev pub search_all : Limits → Mapping → SearchBody → List Tree → Bool → State → Answer
-search_all limits m search live false state = refuses why.BadRequest
-search_all limits m search live true state = answers (within limits (found_by m live search)) state
-
 abbrev pub search_over : Limits → Mapping → SearchBody → Option (List Tree) → State → Answer
 search_over limits m search None state = refuses why.UnknownPit
-search_over limits m search (Some live) state = search_all limits m search live (is_built search) state
+search_over limits m search (Some live) state = answers (within limits (found_by m live search)) state
 
 abbrev pub search_by : Limits → Mapping → SearchBody → State → Answer
 search_by limits m search state = search_over limits m search (searched search.pit state) state

@@ -17,8 +17,7 @@ use Rattle.mapping.specs.IsMapping.{IsMapping}
 use Rattle.mapping.specs.Mapping.{Mapping, kids}
 use Rattle.nested_sort.specs.Keyed.{keyed_row, rows_from, rows_in, scored}
 use Rattle.query_ast.specs.Hit.{hit}
-use Rattle.query_ast.specs.InnerHits.{inner_pages}
-use Rattle.query_ast.specs.Definition.{definitions_of}
+use Rattle.nested_sort.specs.Listed.{IsHitAt}
 use Rattle.query_ast.specs.Joined.{roots}
 use Rattle.query_ast.specs.Rows.{Row, number_of, row_if, row_of, rows_of}
 use Rattle.query_ast.specs.Search.{hit_of}
@@ -27,6 +26,7 @@ use Rattle.query_ast.specs.declared.search.SearchBody.{SearchBody}
 use Rattle.query_ast.specs.declared.sort.Key.{Key}
 use Rattle.query_ast.specs.declared.sort.KeyRow.{KeyRow}
 use Rattle.query_eval.specs.Found.{live_in, live_trees}
+use Rattle.view_objects.specs.Hits.{any_object, no_object}
 use Rattle.segment.specs.Flat.{FlatDocument, FlatRoot, flat_of, flat_root, flats_of}
 use Rattle.segment.specs.Live.{EntryState, root_of as block_root}
 use Rattle.stored_sources.specs.Roots.{no_root, root_of as stored_root}
@@ -34,7 +34,7 @@ use Rattle.tree_joins.specs.Seen.{at_scope, if_live, seen}
 use Rattle.tree_objects.specs.Enclosing.{stands_at}
 use Rattle.tree_objects.specs.Object.{Object, block_objects, children, objects, root, scope}
 use Rattle.tree_objects.specs.Tree.{Tree}
-use Rattle.search_page.specs.Hits.{hit_at, hit_in, root_at, root_marks, score_or_zero, stored_hit}
+use Rattle.search_page.specs.Hits.{hit_at, hit_in, root_at, root_marks, row_object, score_or_zero, shown_at, shown_of, stored_hit}
 use Rattle.search_page.proofs.Agreeing.{Agree, agree_append}
 
 abbrev Trees : Type 0
@@ -218,7 +218,10 @@ module _ (m : Mapping) (one_root : OneRoot m) (is : IsMapping m) where
 
 -- ---- rows
 
-module _ (m : Mapping) (one_root : OneRoot m) (view : Seq EntryState) (found : Seq Scores) (live : Seq Tree) (body : SearchBody) (plain : body.inner ≡ []) where
+module _ (m : Mapping) (one_root : OneRoot m) (view : Seq EntryState) (found : Seq Scores) (trees : Seq Trees) (body : SearchBody) where
+  abbrev live : Seq Tree
+  live = live_trees trees
+
   abbrev pub given : Object → Option ℕ
   given o = hit m live body.query o
 
@@ -226,7 +229,9 @@ module _ (m : Mapping) (one_root : OneRoot m) (view : Seq EntryState) (found : S
   pub record Same (row : KeyRow) (own : Row) : Type 0 where
     pub keys : row.keys ≡ own.keys
     pub number : row.number ≡ number_of own
-    pub shown : hit_at body.source view found row ≡ Some (hit_of m live body own)
+    pub object : row_object m trees row ≡ own.object
+    pub at_root : IsHitAt m 0 trees row.place row.doc
+    pub shown : shown_at m view found trees body row ≡ Some (hit_of m live body own)
 
   abbrev own_rows : Seq Tree → Seq Row
   own_rows trees = rows_of m live body.query body.sort (roots trees)
@@ -237,30 +242,31 @@ module _ (m : Mapping) (one_root : OneRoot m) (view : Seq EntryState) (found : S
       ap (filter_map (row_if m live body.query body.sort)) (map-append (λ tree. root tree) trees more)
       ∙ filter_map-append (row_if m live body.query body.sort) (roots trees) (roots more)
 
-  -- what is stored of a tree's root, as a hit
-  stored_is : (t : Tree) (score : ℕ) (keys : Seq Key) → keys ≡ (row_of m live body.sort (root t) score).keys → stored_hit body.source (root_of_tree m t) score keys ≡ hit_of m live body (row_of m live body.sort (root t) score)
+  -- what is stored of a tree's root, with what is shown of it
+  stored_is : (t : Tree) (score : ℕ) (row : KeyRow) → row.keys ≡ (row_of m live body.sort (root t) score).keys → row_object m trees row ≡ root t
+      → shown_of m trees body row (stored_hit (root_of_tree m t) score row.keys) ≡ hit_of m live body (row_of m live body.sort (root t) score)
   unfolding root_of_tree
-  stored_is t score keys same =
-      ap (stored_hit body.source (root_of_tree m t) score) same
-      ∙ ap (λ ds. record (hit_of m live body (row_of m live body.sort (root t) score)) { inner = inner_pages m live (definitions_of ds) (root t) }) (sym plain)
+  stored_is t score row same object = rw (same, object) refl
 
-  module _ (e : EntryState) (place : ℕ) (all : Trees) (stands : EntryStandsFor m e.columns e.live all) (at : slice_get view place ≡ Some e) (own : get_or found place [] ≡ seen m (at_scope 0 given) all) where
+  module _ (e : EntryState) (place : ℕ) (all : Trees) (stands : EntryStandsFor m e.columns e.live all) (at : slice_get view place ≡ Some e) (own : get_or found place [] ≡ seen m (at_scope 0 given) all) (there : get_or trees place [] ≡ all) where
     shown : (t : Marked Tree) (k doc score : ℕ) → slice_get all k ≡ Some t → block_root (by_document m mark all) doc ≡ k → doc < length (by_document m mark all) → get_or (seen m (at_scope 0 given) all) doc None ≡ Some score
-        → hit_at body.source view found (keyed_row m live body.sort place doc (root t.item, score)) ≡ Some (hit_of m live body (row_of m live body.sort (root t.item) score))
-    unfolding hit_at
-    shown t k doc score there number low is =
+        → row_object m trees (keyed_row m live body.sort place doc (root t.item, score)) ≡ root t.item
+        → shown_at m view found trees body (keyed_row m live body.sort place doc (root t.item, score)) ≡ Some (hit_of m live body (row_of m live body.sort (root t.item) score))
+    unfolding hit_at shown_at
+    shown t k doc score among number low is object =
         let row = keyed_row m live body.sort place doc (root t.item, score) in
         let within : nat_le e.columns.documents doc ≡ false = not_past e.columns.documents doc (let long : e.columns.documents ≡ length (by_document m mark all) = marks_long m e all stands in omega (arith, long, low)) in
         let root_is : root_at e.columns doc ≡ root_of_tree m t.item =
         ap (λ (marks : Seq Bool). flat_root (stored_root e.columns.roots (block_root marks doc))) (marks_are m e all stands)
         ∙ ap (λ (n : ℕ). flat_root (stored_root e.columns.roots n)) number
-        ∙ same_at flat_root (λ (t : Marked Tree). root_of_tree m t.item) e.columns.roots all k t no_root stands.roots there in
-        ap (λ (o : Option EntryState). hit_in body.source o (get_or found place []) row) at
-        ∙ ap (λ (scores : Scores). hit_in body.source (Some e) scores row) own
-        ∙ ap (λ (b : Bool). if b then None else Some (stored_hit body.source (root_at e.columns doc) (score_or_zero (get_or (seen m (at_scope 0 given) all) doc None)) row.keys)) within
-        ∙ ap (λ (s : Option ℕ). Some (stored_hit body.source (root_at e.columns doc) (score_or_zero s) row.keys)) is
-        ∙ ap (λ (r : FlatRoot). Some (stored_hit body.source r score row.keys)) root_is
-        ∙ ap (λ (h : Hit). Some h) (stored_is t.item score row.keys refl)
+        ∙ same_at flat_root (λ (t : Marked Tree). root_of_tree m t.item) e.columns.roots all k t no_root stands.roots among in
+        let bare : hit_at view found row ≡ Some (stored_hit (root_of_tree m t.item) score row.keys) =
+        ap (λ (o : Option EntryState). hit_in o (get_or found place []) row) at
+        ∙ ap (λ (scores : Scores). hit_in (Some e) scores row) own
+        ∙ ap (λ (b : Bool). if b then None else Some (stored_hit (root_at e.columns doc) (score_or_zero (get_or (seen m (at_scope 0 given) all) doc None)) row.keys)) within
+        ∙ ap (λ (s : Option ℕ). Some (stored_hit (root_at e.columns doc) (score_or_zero s) row.keys)) is
+        ∙ ap (λ (r : FlatRoot). Some (stored_hit r score row.keys)) root_is in
+        ap (option_map (shown_of m trees body row)) bare ∙ ap (λ (h : Hit). Some h) (stored_is t.item score row refl object)
 
     abbrev scores_at : Bool → Object → Option (Object × ℕ)
     scores_at alive = if_live (at_scope 0 (scored given)) alive
@@ -305,19 +311,27 @@ module _ (m : Mapping) (one_root : OneRoot m) (view : Seq EntryState) (found : S
         let more : Agree Same (rows_from m live body.sort place (suc doc) rest) (own_rows (live_in ts)) =
         subst (λ (k : ℕ). Agree Same (rows_from m live body.sort place k rest) (own_rows (live_in ts))) (next_begins m one_root is done t)
         (walk (done ++ t ∷ []) ts (same ∙ sym (append_assoc done (t ∷ []) ts))) in
+        let object : get_or (by_document m any_object (get_or trees place [])) doc no_object ≡ root t.item =
+        ap (λ (l : Trees). get_or (by_document m any_object l) doc no_object) (there ∙ same) ∙ root_read m one_root is any_object no_object done t ts in
+        let scored_at : (score : ℕ) → t.live ≡ true → given (root t.item) ≡ Some score → get_or (seen m (at_scope 0 given) all) doc None ≡ Some score =
+        λ score alive scores.
+        ap (λ (l : Trees). get_or (seen m (at_scope 0 given) l) doc None) same
+        ∙ root_read m one_root is (if_live (at_scope 0 given)) None done t ts
+        ∙ ap (λ (b : Bool). cond b (given (root t.item)) None) alive
+        ∙ scores in
         let here : (score : ℕ) → t.live ≡ true → given (root t.item) ≡ Some score → Same (keyed_row m live body.sort place doc (root t.item, score)) (row_of m live body.sort (root t.item) score) =
         λ score alive scores.
         record {
           keys = refl;
           number = refl;
+          object = object;
+          at_root = record { given = given; score = score; is = ap (λ (l : Trees). get_or (seen m (at_scope 0 given) l) doc None) there ∙ scored_at score alive scores };
           shown = shown t (length done) doc score
               (ap (λ (l : Trees). slice_get l (length done)) same ∙ get_seam done t ts (length done) refl)
               (ap (λ (l : Trees). block_root (by_document m mark l) doc) same ∙ root_number m one_root is done t ts)
               (subst (λ (l : Trees). doc < length (by_document m mark l)) (sym same) (root_within m one_root is done t ts))
-              (ap (λ (l : Trees). get_or (seen m (at_scope 0 given) l) doc None) same
-              ∙ root_read m one_root is (if_live (at_scope 0 given)) None done t ts
-              ∙ ap (λ (b : Bool). cond b (given (root t.item)) None) alive
-              ∙ scores);
+              (scored_at score alive scores)
+              object;
         } in
         subst (λ (rows : Seq KeyRow). Agree Same rows (own_rows (live_in (t ∷ ts))))
         (sym (ap (rows_from m live body.sort place (length (by_document m mark done))) (first_block m one_root is scores_at t ts)
@@ -325,25 +339,27 @@ module _ (m : Mapping) (one_root : OneRoot m) (view : Seq EntryState) (found : S
         (last t.live t.item doc ts rest here more)
 
   -- those of the entries behind some
-  pub rows_agree : (first rest : Seq EntryState) (done more : Seq Trees) (place : ℕ) → view ≡ first ++ rest → length first ≡ place → found ≡ map (seen m (at_scope 0 given)) (done ++ more) → length done ≡ place → ViewStandsFor m rest more
+  pub rows_agree : (first rest : Seq EntryState) (done more : Seq Trees) (place : ℕ) → view ≡ first ++ rest → length first ≡ place → trees ≡ done ++ more → found ≡ map (seen m (at_scope 0 given)) trees → length done ≡ place → ViewStandsFor m rest more
       → Agree Same (rows_in m 0 live body.sort given place more) (own_rows (live_trees more))
   unfolding rows_of
-  rows_agree first [] done [] place entries long scores count stand = tt
-  rows_agree first [] done (ts ∷ more) place entries long scores count stand = absurd stand
-  rows_agree first (e ∷ rest) done [] place entries long scores count stand = absurd stand
-  rows_agree first (e ∷ rest) done (ts ∷ more) place entries long scores count stand =
+  rows_agree first [] done [] place entries long split scores count stand = tt
+  rows_agree first [] done (ts ∷ more) place entries long split scores count stand = absurd stand
+  rows_agree first (e ∷ rest) done [] place entries long split scores count stand = absurd stand
+  rows_agree first (e ∷ rest) done (ts ∷ more) place entries long split scores count stand =
       let at : slice_get view place ≡ Some e = ap (λ (l : Seq EntryState). slice_get l place) entries ∙ get_seam first e rest place long in
       let own : get_or found place [] ≡ seen m (at_scope 0 given) ts =
-      ap (λ (l : Seq Scores). get_or l place []) (scores ∙ map-append (seen m (at_scope 0 given)) done (ts ∷ more))
+      ap (λ (l : Seq Scores). get_or l place []) (scores ∙ ap (map (seen m (at_scope 0 given))) split ∙ map-append (seen m (at_scope 0 given)) done (ts ∷ more))
       ∙ get_or_at (map (seen m (at_scope 0 given)) done) (seen m (at_scope 0 given) ts) (map (seen m (at_scope 0 given)) more) [] place (length-map done (seen m (at_scope 0 given)) ∙ count) in
+      let there : get_or trees place [] ≡ ts = ap (λ (l : Seq Trees). get_or l place []) split ∙ get_or_at done ts more [] place count in
       subst (Agree Same (rows_in m 0 live body.sort given place (ts ∷ more))) (sym (own_rows_append (live_in ts) (live_trees more)))
       (agree_append Same
       (rows_from m live body.sort place 0 (seen m (at_scope 0 (scored given)) ts)) (own_rows (live_in ts))
       (rows_in m 0 live body.sort given (suc place) more) (own_rows (live_trees more))
-      (walk e place ts stand.0 at own [] ts refl)
+      (walk e place ts stand.0 at own there [] ts refl)
       (rows_agree (first ++ e ∷ []) rest (done ++ ts ∷ []) more (suc place)
       (entries ∙ sym (append_assoc first (e ∷ []) rest))
       (length_push first e ∙ (let on : length first + 1 ≡ suc place = omega (arith, long) in on))
-      (scores ∙ ap (map (seen m (at_scope 0 given))) (sym (append_assoc done (ts ∷ []) more)))
+      (split ∙ sym (append_assoc done (ts ∷ []) more))
+      scores
       (length_push done ts ∙ (let on : length done + 1 ≡ suc place = omega (arith, count) in on))
       stand.1))

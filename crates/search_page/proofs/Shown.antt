@@ -1,8 +1,20 @@
 -- What is given row by row.
-use Rattle.std.proofs.Common.{◌≡◌, ℕ, ◌+◌, ◌<◌, List, [], ◌∷◌, ◌++◌, length, get_or, take, Option, Some, None, sym, ap, ◌∙◌}
-use Rattle.std.specs.List.{cons_option, filter_map}
+use Rattle.std.proofs.Common.{◌≡◌, ℕ, zero, suc, ◌+◌, ◌<◌, ◌≤◌, List, [], ◌∷◌, ◌++◌, length, get_or, take, Option, Some, None, IfSome, sym, ap, subst, ◌∙◌, arith}
+use Rattle.std.specs.List.{cons_option, filter_map, sum_by}
+use Rattle.std.specs.Option.{option_map}
 use Rattle.std.proofs.lemmas.List.{append-nil, take_more}
 use Rattle.std.proofs.lemmas.List.Elements.{filter_map-append}
+use Rattle.std.proofs.lemmas.List.Sums.{sum_by-append, sum_by-take-drop}
+use Rattle.flattener.specs.StandsFor.{Marked}
+use Rattle.mapping.specs.Mapping.{Mapping}
+use Rattle.nested_sort.specs.Listed.{IsHitAt}
+use Rattle.query_ast.specs.InnerHits.{source_of}
+use Rattle.query_ast.specs.declared.hit.Hit.{Hit}
+use Rattle.query_ast.specs.declared.search.SearchBody.{SearchBody}
+use Rattle.query_ast.specs.declared.sort.KeyRow.{KeyRow}
+use Rattle.segment.specs.Live.{EntryState}
+use Rattle.tree_objects.specs.Tree.{Tree}
+use Rattle.search_page.specs.Hits.{AreRootRows, bare_of, hit_at, row_object, row_pages, shown_at, shown_of}
 
 module _ {A B : Type 0} (f : A → Option B) (xs : List A) (i : ℕ) (x : A) (low : i < length xs) (is : x ≡ get_or xs i x) where
   -- of one element more
@@ -18,3 +30,33 @@ module _ {A B : Type 0} (f : A → Option B) (xs : List A) (i : ℕ) (x : A) (lo
 
   pub more_none : (had now : List B) → had ≡ filter_map f (take i xs) → f x ≡ None → now ≡ had → now ≡ filter_map f (take (i + 1) xs)
   more_none had now so gives same = same ∙ so ∙ sym (one_more None gives ∙ append-nil (filter_map f (take i xs)))
+
+-- one more row costs what it may cost
+pub reads_more : {A : Type 0} (cost : A → ℕ) (xs : List A) (i : ℕ) (x : A) → i < length xs → x ≡ get_or xs i x → (first before after : ℕ) → before ≤ first + sum_by cost (take i xs) → after ≤ before + cost x → after ≤ first + sum_by cost (take (i + 1) xs)
+reads_more {A} cost xs i x low is first before after so more =
+    let all : sum_by cost (take (i + 1) xs) ≡ sum_by cost (take i xs) + cost x =
+    ap (sum_by cost) (take_more xs i x low) ∙ sum_by-append cost (take i xs) (get_or xs i x ∷ []) ∙ (let own : cost (get_or xs i x) ≡ cost x = ap cost (sym is) in omega (arith, own)) in
+    omega (arith, all, so, more)
+
+-- and no more rows are counted than there are
+pub reads_within : {A : Type 0} (cost : A → ℕ) (xs : List A) (i : ℕ) → sum_by cost (take i xs) ≤ sum_by cost xs
+reads_within cost xs i = omega (arith, sum_by-take-drop cost xs i)
+
+pub sum_first : {A : Type 0} (cost : A → ℕ) (x : A) (xs : List A) → sum_by cost (x ∷ xs) ≡ cost x + sum_by cost xs
+sum_first cost x xs =
+    let all : sum_by cost (x ∷ xs) ≡ sum_by cost (x ∷ []) + sum_by cost xs = sum_by-append cost (x ∷ []) xs in
+    let one : sum_by cost (x ∷ []) ≡ cost x = omega arith in
+    omega (arith, all, one)
+
+module _ (m : Mapping) (trees : List (List (Marked Tree))) where
+  pub row_within : (rows : List KeyRow) (i : ℕ) (row : KeyRow) → AreRootRows m trees rows → i < length rows → row ≡ get_or rows i row → IsHitAt m 0 trees row.place row.doc
+  row_within [] i row are low is = absurd (omega (arith, low))
+  row_within (r ∷ rows) zero row are low is = subst (λ (r : KeyRow). IsHitAt m 0 trees r.place r.doc) (sym is) are.0
+  row_within (r ∷ rows) (suc i) row are low is = row_within rows i row are.1 (omega (arith, low)) is
+
+  -- what is stored of a row's root, with what is shown of it
+  pub whole : (view : List EntryState) (found : List (List (Option ℕ))) (body : SearchBody) (row : KeyRow) (hit : Option Hit) → option_map bare_of hit ≡ hit_at view found row
+      → IfSome hit (λ (it : Hit). (it.source ≡ source_of body.source (row_object m trees row)) × (it.inner ≡ row_pages m trees body row)) → hit ≡ shown_at m view found trees body row
+  unfolding shown_at
+  whole view found body row None is are = ap (option_map (shown_of m trees body row)) is
+  whole view found body row (Some it) is are = (λ i. Some (record it { source = are.0 i; inner = are.1 i })) ∙ ap (option_map (shown_of m trees body row)) is

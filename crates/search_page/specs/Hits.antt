@@ -1,13 +1,27 @@
--- Serves proofs: the hit of a row, read from the segment that the row was found in.
-use Rattle.std.specs.Prelude.{ℕ, nat_le, Bool, if◌then◌else◌, List, [], map, get_or, slice_get, Option, Some, None}
+-- Serves proofs: the hit of a row. Its id and number are read from the segment that the row was found in; its source and its
+-- inner hits are those of the object that the row's document stands for.
+use Rattle.std.specs.Prelude.{ℕ, ◌+◌, nat_le, Bool, if◌then◌else◌, List, [], map, get_or, slice_get, Option, Some, None}
+use Rattle.std.specs.List.{AllByRecursion}
+use Rattle.std.specs.Option.{option_map}
 use Rattle.block_bits.specs.Blocks.{documents_of}
+use Rattle.flattener.specs.StandsFor.{Marked}
+use Rattle.inner_hits.specs.Steps.{joined_in}
+use Rattle.mapping.specs.Mapping.{Mapping}
+use Rattle.nested_sort.specs.Listed.{IsHitAt}
+use Rattle.query_ast.specs.Definition.{definitions_of}
+use Rattle.query_ast.specs.InnerHits.{inner_pages, source_of}
+use Rattle.query_ast.specs.Pages.{PagePart, pages_of}
 use Rattle.query_ast.specs.declared.hit.Hit.{Hit}
+use Rattle.query_ast.specs.declared.search.SearchBody.{SearchBody}
 use Rattle.query_ast.specs.declared.sort.Key.{Key}
 use Rattle.query_ast.specs.declared.sort.KeyRow.{KeyRow}
 use Rattle.segment.specs.Flat.{FlatDocument, FlatRoot, flat_root, flats_of}
 use Rattle.segment.specs.Live.{EntryState, root_of as block_root}
 use Rattle.segment_parts.specs.declared.columns.Columns.{Columns}
 use Rattle.stored_sources.specs.Roots.{root_of as stored_root}
+use Rattle.tree_objects.specs.Object.{Object}
+use Rattle.tree_objects.specs.Tree.{Tree}
+use Rattle.view_objects.specs.Hits.{live_trees, object_at}
 
 -- whether each document is a root's
 abbrev pub root_marks : Columns → List Bool
@@ -17,28 +31,49 @@ root_marks columns = documents_of (map (λ (document : FlatDocument). document.s
 abbrev pub root_at : Columns → ℕ → FlatRoot
 root_at columns doc = flat_root (stored_root columns.roots (block_root (root_marks columns) doc))
 
--- as a hit, without inner hits
-abbrev pub stored_hit : Bool → FlatRoot → ℕ → List Key → Hit
-stored_hit source root score keys = record {
-  id = root.id;
-  number = root.number;
-  score = score;
-  keys = keys;
-  source = if source then Some root.source else None;
-  inner = [];
-}
+-- as a hit, but for what is shown of it
+abbrev pub stored_hit : FlatRoot → ℕ → List Key → Hit
+stored_hit root score keys = record { id = root.id; number = root.number; score = score; keys = keys; source = None; inner = [] }
 
 abbrev pub score_or_zero : Option ℕ → ℕ
 score_or_zero None = 0
 score_or_zero (Some score) = score
 
 -- in an entry, from the scores of its documents
-abbrev pub hit_in : Bool → Option EntryState → List (Option ℕ) → KeyRow → Option Hit
-hit_in source None scores row = None
-hit_in source (Some entry) scores row =
+abbrev pub hit_in : Option EntryState → List (Option ℕ) → KeyRow → Option Hit
+hit_in None scores row = None
+hit_in (Some entry) scores row =
     if nat_le entry.columns.documents row.doc then None
-    else Some (stored_hit source (root_at entry.columns row.doc) (score_or_zero (get_or scores row.doc None)) row.keys)
+    else Some (stored_hit (root_at entry.columns row.doc) (score_or_zero (get_or scores row.doc None)) row.keys)
 
 -- None where there is no such document
-unfoldable pub hit_at : Bool → List EntryState → List (List (Option ℕ)) → KeyRow → Option Hit
-hit_at source view found row = hit_in source (slice_get view row.place) (get_or found row.place []) row
+unfoldable pub hit_at : List EntryState → List (List (Option ℕ)) → KeyRow → Option Hit
+hit_at view found row = hit_in (slice_get view row.place) (get_or found row.place []) row
+
+-- ---- what is shown of it
+
+-- a hit without what is shown of it
+abbrev pub bare_of : Hit → Hit
+bare_of hit = record hit { source = None; inner = [] }
+
+-- the object of a row's document
+abbrev pub row_object : Mapping → List (List (Marked Tree)) → KeyRow → Object
+row_object m trees row = object_at m trees row.place row.doc
+
+-- the pages of the definitions that the search hit owns
+abbrev pub row_pages : Mapping → List (List (Marked Tree)) → SearchBody → KeyRow → List PagePart
+row_pages m trees body row = inner_pages m (live_trees trees) (definitions_of body.inner) (row_object m trees row)
+
+abbrev pub shown_of : Mapping → List (List (Marked Tree)) → SearchBody → KeyRow → Hit → Hit
+shown_of m trees body row hit = record hit { source = source_of body.source (row_object m trees row); inner = row_pages m trees body row }
+
+unfoldable pub shown_at : Mapping → List EntryState → List (List (Option ℕ)) → List (List (Marked Tree)) → SearchBody → KeyRow → Option Hit
+shown_at m view found trees body row = option_map (shown_of m trees body row) (hit_at view found row)
+
+-- rows that were found at roots of these trees
+abbrev pub AreRootRows : Mapping → List (List (Marked Tree)) → List KeyRow → Type 0
+AreRootRows m trees rows = AllByRecursion (λ (row : KeyRow). IsHitAt m 0 trees row.place row.doc) rows
+
+-- how many stored sources a row may cost
+abbrev pub row_reads : Mapping → List (List (Marked Tree)) → SearchBody → KeyRow → ℕ
+row_reads m trees body row = 1 + joined_in (pages_of (row_pages m trees body row))

@@ -1,2 +1,4 @@
--- What `page` says is in the words of other crates; this serves contracts of private calls alone.
+-- To be believed: which trees a search is asked of, and how many sources its page may cost.
+pub mod Searched
+-- This serves contracts of private calls alone.
 pub mod Hits

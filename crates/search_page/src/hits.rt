@@ -1,14 +1,28 @@
 //! The hits of rows.
-ghost use Rattle.std.specs.Prelude.{◌≡◌, ◌≤◌, ◌+◌, ◌<◌, [], Some, None, false, length, filter_map, get_or, if◌then◌else◌, IfOk};
-ghost use Rattle.search_page.specs.Hits.{hit_at, root_marks, score_or_zero, stored_hit};
-ghost use Rattle.segment.specs.Flat.{flat_root};
+ghost use Rattle.std.specs.Prelude.{◌≡◌, ◌≤◌, ◌+◌, ◌<◌, List, [], None, true, false, length, get_or, IfOk, IfSome};
+ghost use Rattle.std.specs.List.{filter_map, sum_by};
+ghost use Rattle.std.specs.Option.{option_map};
+ghost use Rattle.flattener.specs.Fits.{ViewFits};
+ghost use Rattle.flattener.specs.StandsFor.{Marked};
+ghost use Rattle.inner_hits.specs.Prepared.{ArePrepared};
+ghost use Rattle.join_ordinals.specs.Ordinals.{AreOrdinals};
+ghost use Rattle.nested_sort.specs.Listed.{IsHitAt};
+ghost use Rattle.query_ast.specs.Definition.{definitions_of};
+ghost use Rattle.query_ast.specs.InnerHits.{source_of};
+ghost use Rattle.query_ast.specs.Joins.{some_inner_joins};
+ghost use Rattle.query_ast.specs.Resolved.{AreInnerDefinitions};
+ghost use Rattle.search_page.specs.Hits.{AreRootRows, bare_of, hit_at, root_marks, row_object, row_pages, row_reads, score_or_zero, shown_at};
+ghost use Rattle.search_page.specs.Searched.{AreSearched};
 ghost use Rattle.segment.specs.Live.{root_of as block_root};
-ghost use Rattle.stored_sources.specs.Roots.{root_of as stored_root};
+ghost use Rattle.tree_objects.specs.Tree.{Tree};
 
 use crate::NoMemory;
 use block_join::{Matches, Scored};
 use hit_order::KeyRows;
-use query_ast::{Hit, InnerPageList, KeyList, KeyRow};
+use inner_hits::{PreparedList, shown};
+use join_ordinals::JoinOrdinals;
+use mapping::Mapping;
+use query_ast::{Hit, KeyRow, SearchBody};
 use segment::{Segment, scopes_are_of_documents};
 use segment_view::View;
 use source_steps::Steps;
@@ -16,24 +30,36 @@ use std::alloc::Global;
 use std::sync::ledger::Ledger;
 use tree_objects::Bytes;
 
-/// The hits of rows that were found at roots, in their order: the stored id and number of each root, its score, and its
-/// source where it is asked for.
+/// The hits of rows that were found at roots, in their order: the stored id and number of each root, its score, its source
+/// where it is asked for, and its inner hits.
 pub(crate) fn hits_of<L: Ledger>(
     alloc: Global,
     view: &View,
+    mapping: &Mapping,
+    ordinals: &JoinOrdinals,
+    search: &SearchBody,
+    prepared: &PreparedList,
     found: &Matches,
     rows: &KeyRows,
-    source: bool,
     steps: &mut Steps<L>,
 ) -> Result<Vec<Hit>, NoMemory>
-    ensures hits { IfOk result (λ hits. hits.items ≡ filter_map (hit_at source view.now found.now) rows.now.rows) }
-    ensures reads { steps.new ≤ steps.old + length rows.now.rows }
-    ensures unread { source ≡ false → steps.new ≡ steps.old }
+    requires fits { ViewFits mapping.now view.now }
+    requires resolved { AreInnerDefinitions mapping.now 0 (definitions_of search.now.inner) }
+    requires prepared { ArePrepared mapping.now view.now ordinals.now (definitions_of search.now.inner) (definitions_of prepared.now) }
+    requires joined { some_inner_joins (definitions_of search.now.inner) ≡ true → AreOrdinals view.now ordinals.now }
+    ensures hits { IfOk result (λ hits. (trees : List (List (Marked Tree))) → AreSearched mapping.now view.now trees → AreRootRows mapping.now trees rows.now.rows
+        → hits.items ≡ filter_map (shown_at mapping.now view.now found.now trees search.now) rows.now.rows) }
+    ensures reads { (trees : List (List (Marked Tree))) → AreSearched mapping.now view.now trees → AreRootRows mapping.now trees rows.now.rows
+        → steps.new ≤ steps.old + sum_by (row_reads mapping.now trees search.now) rows.now.rows }
+    ensures unread { search.now.source ≡ false → search.now.inner ≡ [] → steps.new ≡ steps.old }
 {
     let mut hits = Vec::with_capacity(alloc, rows.len())?;
     'rows: for at in 0..rows.len() {
         let row = rows.row(alloc, at)?;
-        if let Some(hit) = hit(alloc, view, found, row, source, steps)? {
+        let hit = hit(
+            alloc, view, mapping, ordinals, search, prepared, found, row, steps,
+        )?;
+        if let Some(hit) = hit {
             hits.push(hit)?;
         }
     }
@@ -45,14 +71,24 @@ pub(crate) fn hits_of<L: Ledger>(
 fn hit<L: Ledger>(
     alloc: Global,
     view: &View,
+    mapping: &Mapping,
+    ordinals: &JoinOrdinals,
+    search: &SearchBody,
+    prepared: &PreparedList,
     found: &Matches,
     row: KeyRow,
-    source: bool,
     steps: &mut Steps<L>,
 ) -> Result<Option<Hit>, NoMemory>
-    ensures hit { IfOk result (λ hit. hit ≡ hit_at source view.now found.now row) }
-    ensures reads { steps.new ≤ steps.old + 1 }
-    ensures unread { source ≡ false → steps.new ≡ steps.old }
+    requires fits { ViewFits mapping.now view.now }
+    requires resolved { AreInnerDefinitions mapping.now 0 (definitions_of search.now.inner) }
+    requires prepared { ArePrepared mapping.now view.now ordinals.now (definitions_of search.now.inner) (definitions_of prepared.now) }
+    requires joined { some_inner_joins (definitions_of search.now.inner) ≡ true → AreOrdinals view.now ordinals.now }
+    ensures hit { IfOk result (λ hit. option_map bare_of hit ≡ hit_at view.now found.now row) }
+    ensures shown { IfOk result (λ hit. (trees : List (List (Marked Tree))) → AreSearched mapping.now view.now trees → IsHitAt mapping.now 0 trees row.place row.doc
+        → IfSome hit (λ hit. (hit.source ≡ source_of search.now.source (row_object mapping.now trees row)) × (hit.inner ≡ row_pages mapping.now trees search.now row))) }
+    ensures reads { (trees : List (List (Marked Tree))) → AreSearched mapping.now view.now trees → IsHitAt mapping.now 0 trees row.place row.doc
+        → steps.new ≤ steps.old + row_reads mapping.now trees search.now row }
+    ensures unread { search.now.source ≡ false → search.now.inner ≡ [] → steps.new ≡ steps.old }
 {
     let KeyRow {
         keys,
@@ -67,55 +103,27 @@ fn hit<L: Ledger>(
     if doc >= segment.docs() {
         return Ok(None);
     }
-    let score = score_at(found.as_slice(), place, doc);
+    let shown = shown(
+        alloc,
+        view,
+        mapping,
+        ordinals,
+        &search.inner,
+        prepared,
+        place,
+        doc,
+        search.source,
+        steps,
+    )?;
     let root = root_of(segment, doc);
-    Ok(Some(root_hit(alloc, segment, root, score, keys, source, steps)?))
-}
-
-/// What is stored of a root, as a hit with this score and these keys.
-fn root_hit<L: Ledger>(
-    alloc: Global,
-    segment: &Segment,
-    root: u32,
-    score: u64,
-    keys: KeyList,
-    source: bool,
-    steps: &mut Steps<L>,
-) -> Result<Hit, NoMemory>
-    requires { root < length segment.now.roots }
-    ensures hit { IfOk result (λ hit. hit ≡ stored_hit source (flat_root (stored_root segment.now.roots root)) score keys) }
-    ensures reads { steps.new ≤ steps.old + 1 }
-    ensures unread { source ≡ false → steps.new ≡ steps.old }
-{
-    Ok(Hit {
+    Ok(Some(Hit {
         id: Bytes::of(Vec::from_slice(alloc, segment.root_id(root))?),
         number: segment.root_number(root),
-        score,
+        score: score_at(found.as_slice(), place, doc),
         keys,
-        source: source_of(alloc, segment, root, source, steps)?,
-        inner: InnerPageList::of(Vec::new(alloc)),
-    })
-}
-
-/// The source of a root, where it is asked for.
-fn source_of<L: Ledger>(
-    alloc: Global,
-    segment: &Segment,
-    root: u32,
-    asked: bool,
-    steps: &mut Steps<L>,
-) -> Result<Option<Bytes>, NoMemory>
-    requires { root < length segment.now.roots }
-    ensures source { IfOk result (λ source. source ≡ (if asked then Some (stored_root segment.now.roots root).source else None)) }
-    ensures reads { steps.new ≤ steps.old + 1 }
-    ensures unread { asked ≡ false → steps.new ≡ steps.old }
-{
-    if !asked {
-        return Ok(None);
-    }
-    let mut source = Vec::new(alloc);
-    segment.sources().fetch(root, &mut source, steps)?;
-    Ok(Some(Bytes::of(source)))
+        source: shown.source,
+        inner: shown.inner,
+    }))
 }
 
 /// The score that was found at a document of the entry at a place; 0 where there is none.

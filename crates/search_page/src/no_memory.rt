@@ -52,3 +52,9 @@ impl From<bucket_aggs::NoMemory> for NoMemory {
         NoMemory
     }
 }
+
+impl From<inner_hits::NoMemory> for NoMemory {
+    fn from(_: inner_hits::NoMemory) -> NoMemory {
+        NoMemory
+    }
+}

@@ -1,13 +1,16 @@
 //! What a search finds.
-ghost use Rattle.std.specs.Prelude.{◌≡◌, ◌≤◌, ◌+◌, List, [], length, false, true, IfOk, IfSome};
+ghost use Rattle.std.specs.Prelude.{◌≡◌, ◌≤◌, ◌+◌, List, [], false, true, IfOk, IfSome};
 ghost use Rattle.flattener.specs.Fits.{ViewFits};
-ghost use Rattle.flattener.specs.StandsFor.{Marked, ViewStandsFor};
+ghost use Rattle.flattener.specs.StandsFor.{Marked};
 ghost use Rattle.join_ordinals.specs.Ordinals.{AreOrdinals};
+ghost use Rattle.query_ast.specs.Clause.View.{clause_of};
 ghost use Rattle.query_ast.specs.Joins.{search_joins};
 ghost use Rattle.query_ast.specs.Resolved.{IsSearch};
 ghost use Rattle.query_ast.specs.Search.{found_buckets, hit_page};
-ghost use Rattle.query_eval.specs.Found.{IsFound, live_trees};
-ghost use Rattle.tree_objects.specs.Tree.{IsLiveList, Tree};
+ghost use Rattle.query_eval.specs.Found.{IsFound};
+ghost use Rattle.search_page.specs.Searched.{AreSearched, page_reads};
+ghost use Rattle.tree_objects.specs.Tree.{Tree};
+ghost use Rattle.view_objects.specs.Hits.{live_trees};
 
 use crate::NoMemory;
 use crate::filters::filters_found;
@@ -16,6 +19,7 @@ use crate::ordinals::make_ordinals;
 use block_join::Matches;
 use bucket_aggs::found_buckets;
 use hit_order::top;
+use inner_hits::prepare;
 use join_ordinals::JoinOrdinals;
 use mapping::Mapping;
 use nested_sort::keys;
@@ -36,9 +40,9 @@ pub struct SearchResult {
 
 /// What a search finds among the trees that a view stands for.
 ///
-/// The search was resolved under the mapping, and has no inner hits. `ordinals` is None, or holds those of the view: they are
-/// made for a search that joins, and serve the searches behind it as long as the view stands. Sources are read for the hits
-/// of the page alone, and only where they are asked for.
+/// The search was resolved under the mapping. `ordinals` is None, or holds those of the view: they are made for a search that
+/// joins, and serve the searches behind it as long as the view stands. Sources are read for the hits of the page and the joined
+/// trees among their inner hits alone, and only where they are shown or inner hits are taken from them.
 pub fn found<L: Ledger>(
     alloc: Global,
     view: &View,
@@ -49,12 +53,11 @@ pub fn found<L: Ledger>(
 ) -> Result<SearchResult, NoMemory>
     requires fits { ViewFits mapping.now view.now }
     requires resolved { IsSearch mapping.now search.now }
-    requires plain { search.now.inner ≡ [] }
     requires ordinals { IfSome ordinals.old (AreOrdinals view.now) }
-    ensures page { (trees : List (List (Marked Tree))) → ViewStandsFor mapping.now view.now trees → IfOk result (λ found. found.page ≡ hit_page mapping.now (live_trees trees) search.now) }
-    ensures answers { (trees : List (List (Marked Tree))) → ViewStandsFor mapping.now view.now trees → IsLiveList (live_trees trees) → IfOk result (λ found. found.answers ≡ found_buckets mapping.now (live_trees trees) search.now) }
-    ensures reads { (trees : List (List (Marked Tree))) → ViewStandsFor mapping.now view.now trees → steps.new ≤ steps.old + length (hit_page mapping.now (live_trees trees) search.now).hits }
-    ensures unread { search.now.source ≡ false → steps.new ≡ steps.old }
+    ensures page { IfOk result (λ found. (trees : List (List (Marked Tree))) → AreSearched mapping.now view.now trees → found.page ≡ hit_page mapping.now (live_trees trees) search.now) }
+    ensures answers { IfOk result (λ found. (trees : List (List (Marked Tree))) → AreSearched mapping.now view.now trees → found.answers ≡ found_buckets mapping.now (live_trees trees) search.now) }
+    ensures reads { (trees : List (List (Marked Tree))) → AreSearched mapping.now view.now trees → steps.new ≤ steps.old + page_reads (hit_page mapping.now (live_trees trees) search.now) }
+    ensures unread { search.now.source ≡ false → search.now.inner ≡ [] → steps.new ≡ steps.old }
     ensures ordinals { IfSome ordinals.new (AreOrdinals view.now) }
 {
     make_ordinals(alloc, view, search, ordinals)?;
@@ -82,12 +85,11 @@ fn found_by<L: Ledger>(
 ) -> Result<SearchResult, NoMemory>
     requires fits { ViewFits mapping.now view.now }
     requires resolved { IsSearch mapping.now search.now }
-    requires plain { search.now.inner ≡ [] }
     requires joined { search_joins search.now ≡ true → AreOrdinals view.now ordinals.now }
-    ensures page { (trees : List (List (Marked Tree))) → ViewStandsFor mapping.now view.now trees → IfOk result (λ found. found.page ≡ hit_page mapping.now (live_trees trees) search.now) }
-    ensures answers { (trees : List (List (Marked Tree))) → ViewStandsFor mapping.now view.now trees → IsLiveList (live_trees trees) → IfOk result (λ found. found.answers ≡ found_buckets mapping.now (live_trees trees) search.now) }
-    ensures reads { (trees : List (List (Marked Tree))) → ViewStandsFor mapping.now view.now trees → steps.new ≤ steps.old + length (hit_page mapping.now (live_trees trees) search.now).hits }
-    ensures unread { search.now.source ≡ false → steps.new ≡ steps.old }
+    ensures page { IfOk result (λ found. (trees : List (List (Marked Tree))) → AreSearched mapping.now view.now trees → found.page ≡ hit_page mapping.now (live_trees trees) search.now) }
+    ensures answers { IfOk result (λ found. (trees : List (List (Marked Tree))) → AreSearched mapping.now view.now trees → found.answers ≡ found_buckets mapping.now (live_trees trees) search.now) }
+    ensures reads { (trees : List (List (Marked Tree))) → AreSearched mapping.now view.now trees → steps.new ≤ steps.old + page_reads (hit_page mapping.now (live_trees trees) search.now) }
+    ensures unread { search.now.source ≡ false → search.now.inner ≡ [] → steps.new ≡ steps.old }
 {
     let query = search.query.get();
     let matched = matches(alloc, view, mapping, ordinals, query, 0, steps)?;
@@ -108,16 +110,16 @@ fn page<L: Ledger>(
 ) -> Result<HitPage, NoMemory>
     requires fits { ViewFits mapping.now view.now }
     requires resolved { IsSearch mapping.now search.now }
-    requires plain { search.now.inner ≡ [] }
     requires joined { search_joins search.now ≡ true → AreOrdinals view.now ordinals.now }
     requires matched { IsFound mapping.now view.now 0 search.now.query matched.now }
-    ensures page { (trees : List (List (Marked Tree))) → ViewStandsFor mapping.now view.now trees → IfOk result (λ page. page ≡ hit_page mapping.now (live_trees trees) search.now) }
-    ensures reads { (trees : List (List (Marked Tree))) → ViewStandsFor mapping.now view.now trees → steps.new ≤ steps.old + length (hit_page mapping.now (live_trees trees) search.now).hits }
-    ensures unread { search.now.source ≡ false → steps.new ≡ steps.old }
+    ensures page { IfOk result (λ page. (trees : List (List (Marked Tree))) → AreSearched mapping.now view.now trees → page ≡ hit_page mapping.now (live_trees trees) search.now) }
+    ensures reads { (trees : List (List (Marked Tree))) → AreSearched mapping.now view.now trees → steps.new ≤ steps.old + page_reads (hit_page mapping.now (live_trees trees) search.now) }
+    ensures unread { search.now.source ≡ false → search.now.inner ≡ [] → steps.new ≡ steps.old }
 {
     objects_nest();
     let sorts = search.sort.as_slice();
     let filters = filters_found(alloc, view, mapping, ordinals, sorts, steps)?;
+    let prepared = prepare(alloc, view, mapping, ordinals, &search.inner, 0, steps)?;
     let rows = keys(
         alloc,
         view,
@@ -130,7 +132,9 @@ fn page<L: Ledger>(
     )?;
     let total = rows.len() as u64;
     let shown = top(alloc, rows, search.after.as_ref(), search.from, search.size)?;
-    let hits = hits_of(alloc, view, matched, &shown, search.source, steps)?;
+    let hits = hits_of(
+        alloc, view, mapping, ordinals, search, &prepared, matched, &shown, steps,
+    )?;
     Ok(HitPage {
         hits: HitList::of(hits),
         total,

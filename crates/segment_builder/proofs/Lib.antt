@@ -33,3 +33,4 @@ pub mod Deaths
 pub mod Lengths
 pub mod Suited
 pub mod Stored
+pub mod Blocked

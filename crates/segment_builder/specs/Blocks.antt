@@ -1,9 +1,10 @@
 -- The blocks of an entry: the documents of its segment, cut behind each root, each with its root and whether it is live.
-use Rattle.std.specs.Prelude.{ℕ, ◌-◌, ◌==◌, Bool, false, List, [], ◌∷◌, ◌++◌, if◌then◌else◌, length, sum_by}
+use Rattle.std.specs.Prelude.{ℕ, ◌-◌, ◌==◌, Bool, false, List, [], ◌∷◌, ◌++◌, if◌then◌else◌, length, map, filter, sum_by}
 use Rattle.flattener.specs.Block.{BlockState, block_of}
 use Rattle.flattener.specs.StandsFor.{Marked}
 use Rattle.segment.specs.Flat.{FlatDocument, FlatRoot, flats_of, roots_of}
 use Rattle.segment.specs.Live.{EntryState}
+use Rattle.layout.specs.Layout.{is_live, item_in}
 use Rattle.mapping.specs.Mapping.{Mapping}
 use Rattle.segment_parts.specs.declared.columns.Columns.{Columns}
 use Rattle.tree_objects.specs.Tree.{Tree}
@@ -43,3 +44,7 @@ block_of_marked m tree = record { item = block_of m tree.item; live = tree.live 
 abbrev pub dead_at : ℕ → List (Marked BlockState) → List (Marked BlockState)
 dead_at place [] = []
 dead_at place (block ∷ blocks) = if place == 0 then record { item = block.item; live = false } ∷ blocks else block ∷ dead_at (place - 1) blocks
+
+-- the live blocks of an entry, in order
+abbrev pub live_blocks : EntryState → List BlockState
+live_blocks entry = map item_in (filter is_live (blocks_in entry))

@@ -1,4 +1,5 @@
--- To be believed: the blocks of an entry, and of how many objects a segment is built at most (`Entries`).
+-- To be believed: the blocks of an entry, of how many objects a segment is built at most (`Entries`), and of which blocks one
+-- can be made (`Given`, `Form`).
 pub mod Blocks
 -- These serve proofs alone: in which order documents carry what they carry, how blocks are taken apart and put together
 -- again by key, what makes columns that can be written, and what the columns that are made of that say.

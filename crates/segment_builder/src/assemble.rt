@@ -1,10 +1,10 @@
 //! The segment of blocks.
 
 ghost use Rattle.std.specs.Prelude.{◌≡◌, ◌<◌, ◌≤◌, ◌^◌, ◌++◌, ℕ, List, length, map, IfOk};
-ghost use Rattle.std.specs.List.{All, flat_map};
+ghost use Rattle.std.specs.List.{All, AllByRecursion, flat_map};
 ghost use Rattle.block_bits.specs.Blocks.{documents_of};
 ghost use Rattle.flattener.specs.Block.{BlockState};
-ghost use Rattle.flattener.specs.Fits.{BlockFits, SegmentFits, most_live};
+ghost use Rattle.flattener.specs.Fits.{BlockFits, IsRootOf, SegmentFits, most_live};
 ghost use Rattle.flattener.specs.Seen.{block_seen};
 ghost use Rattle.mapping.specs.Mapping.{Mapping};
 ghost use Rattle.segment.specs.Fields.{AreByField};
@@ -59,11 +59,16 @@ pub fn built(alloc: Global, mapping: &Mapping, blocks: &[Block]) -> Result<Segme
     Ok(segment)
 }
 
-/// The segment of blocks that it can be built of.
-fn made_of(alloc: Global, blocks: &[Block]) -> Result<Segment, NoMemory>
+/// The segment of blocks that it can be made of under some mapping, as the blocks that segments of one mapping have are,
+/// wherever they come from. The blocks are lent: they stay as they are.
+pub fn made_of(alloc: Global, blocks: &[Block]) -> Result<Segment, NoMemory>
     requires { (m : Mapping) × AreGiven m (map block_seen blocks.now) }
     ensures flats { IfOk result (λ segment. flats_of segment ≡ flats_in (map block_seen blocks.now)) }
     ensures roots { IfOk result (λ segment. roots_of segment ≡ map (λ block. block.root) (map block_seen blocks.now)) }
+    ensures blocks { IfOk result (λ segment. blocks_of segment ≡ map block_seen blocks.now) }
+
+    // under each mapping that each of the blocks is of
+    ensures fits { IfOk result (λ segment. (m : Mapping) → AllByRecursion (λ block. IsRootOf m block.root block.flats) (map block_seen blocks.now) → SegmentFits m segment) }
 {
     let entries = entries_of(alloc, blocks)?;
     let roots = roots_of(alloc, blocks)?;

@@ -1,15 +1,18 @@
 //! What the blocks of an entry say of trees, as laws for the crates above: call the function where you need its clauses.
 
 ghost use Rattle.std.specs.Prelude.{◌≡◌, ◌+◌, ℕ, List, count_by, filter, length, map, slice_get, Some};
+ghost use Rattle.std.specs.List.{AllByRecursion};
 ghost use Rattle.block_bits.specs.Flags.{is_marked};
 ghost use Rattle.flattener.specs.Block.{BlockState};
+ghost use Rattle.flattener.specs.Fits.{IsRootOf, SegmentFits};
 ghost use Rattle.flattener.specs.StandsFor.{Marked, EntryStandsFor};
 ghost use Rattle.mapping.specs.IsMapping.{IsMapping};
 ghost use Rattle.mapping.specs.Mapping.{Mapping};
-ghost use Rattle.segment.specs.Flat.{roots_of};
+ghost use Rattle.segment.specs.Flat.{flats_of, roots_of};
 ghost use Rattle.segment.specs.Live.{IsLiveOver, LiveState, block_end, block_start, killed};
 ghost use Rattle.segment_parts.specs.declared.columns.Columns.{Columns};
 ghost use Rattle.segment_builder.specs.Blocks.{blocks_of, marked_by, block_of_marked, dead_at, objects_of};
+ghost use Rattle.segment_builder.specs.Entries.{flats_in};
 ghost use Rattle.layout.specs.Layout.{is_live, item_in};
 ghost use Rattle.tree_objects.specs.Tree.{Tree};
 
@@ -41,3 +44,10 @@ pub fn blocks_are_whole(segment: &Segment)
     let _ = segment.docs();
     scopes_are_of_documents(segment);
 }
+
+/// The blocks of a segment that fits a mapping are roots with their documents, and all its documents are theirs. Does nothing.
+pub fn fitting_segments_are_blocks()
+    ensures roots { (m : Mapping) (columns : Columns) → SegmentFits m columns → AllByRecursion (λ block. IsRootOf m block.root block.flats) (blocks_of columns) }
+    ensures flats { (m : Mapping) (columns : Columns) → SegmentFits m columns → flats_in (blocks_of columns) ≡ flats_of columns }
+    ensures same { (m : Mapping) (columns : Columns) → SegmentFits m columns → map (λ (block : BlockState). block.root) (blocks_of columns) ≡ roots_of columns }
+{}

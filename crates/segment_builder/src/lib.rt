@@ -21,6 +21,8 @@ mod rows;
 mod scopes;
 mod terms;
 
-pub use assemble::built;
-pub use law::{blocks_are_whole, blocks_stand_for_trees, deaths_mark_blocks};
+pub use assemble::{built, made_of};
+pub use law::{
+    blocks_are_whole, blocks_stand_for_trees, deaths_mark_blocks, fitting_segments_are_blocks,
+};
 pub use refusal::NoMemory;

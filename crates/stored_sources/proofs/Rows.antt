@@ -1,16 +1,19 @@
 -- Roots in place, each between its place and the next.
-use Rattle.std.proofs.Common.{◌≡◌, ℕ, ◌+◌, ◌-◌, ◌<◌, List, [], ◌∷◌, ◌++◌, length, get_or, drop, map, take, Some, refl, sym, ap, ◌∙◌, arith}
+use Rattle.std.proofs.Common.{◌≡◌, ℕ, ◌+◌, ◌-◌, ◌<◌, List, [], ◌∷◌, ◌++◌, length, get_or, drop, map, take, Option, Some, None, refl, sym, ap, ◌∙◌, arith}
 use Rattle.std.specs.List.{All}
 use Rattle.std.proofs.lemmas.List.{append-nil, length-map, get_or-map, take_more}
 use Rattle.std.proofs.lemmas.List.Concat.{flat_map-append}
 use Rattle.std.proofs.lemmas.List.Elements.{All-head, All-tail}
 use Rattle.part_text.specs.Places.{row, rows_of}
+use Rattle.part_text.specs.Text.{u32_text, u64_text, string_text}
+use Rattle.part_text.specs.Reading.{u32_at, u64_at, string_at}
+use Rattle.part_text.specs.Reads.{u32_reads, u64_reads, string_reads}
 use Rattle.part_text.specs.Placed.{length-rows_of, get_or-rows_of, rows_of-places_from, places_are, length-places_from}
 use Rattle.stored_sources.specs.declared.root.Root.{Root}
 use Rattle.stored_sources.specs.Roots.{no_root, root_of}
-use Rattle.stored_sources.specs.Text.{root_text, roots_text}
+use Rattle.stored_sources.specs.Text.{root_text, roots_text, join_text}
 use Rattle.stored_sources.specs.Stands.{IsRoot, Belong}
-use Rattle.stored_sources.specs.Reading.{root_at, root_reads}
+use Rattle.stored_sources.specs.Reading.{front_at, root_at, root_reads}
 use Rattle.stored_sources.specs.Kept.{root_read, root_in, roots_in, IsRootText, AreKept}
 
 pub length-roots_in : (places bytes : List ℕ) → length (roots_in places bytes) ≡ length places - 1
@@ -32,6 +35,35 @@ text_read bytes text =
 pub text_in : (bytes : List ℕ) (text : IsRootText bytes) → root_in bytes ≡ text.root
 unfolding root_in
 text_in bytes text = ap root_read (text_read bytes text)
+
+-- the bytes behind each of the first things of a root
+abbrev behind_generation : Root → List ℕ
+behind_generation root = string_text root.source ++ join_text root.join
+
+abbrev behind_number : Root → List ℕ
+behind_number root = u32_text root.generation ++ behind_generation root
+
+abbrev behind_id : Root → List ℕ
+behind_id root = u64_text root.number ++ behind_number root
+
+-- what is read of its front, one thing after the other
+id_read : (bytes : List ℕ) (text : IsRootText bytes) → string_at bytes ≡ Some (text.root.id, behind_id text.root)
+id_read bytes text = ap string_at text.text ∙ (string_reads {B = Unit {0}}).again tt text.root.id (behind_id text.root) text.is.id
+
+number_read : (root : Root) → IsRoot root → u64_at (behind_id root) ≡ Some (root.number, behind_number root)
+number_read root is = (u64_reads {B = Unit {0}}).again tt root.number (behind_number root) is.number
+
+generation_read : (root : Root) → IsRoot root → u32_at (behind_number root) ≡ Some (root.generation, behind_generation root)
+generation_read root is = (u32_reads {B = Unit {0}}).again tt root.generation (behind_generation root) is.generation
+
+pub front_read : (bytes : List ℕ) (text : IsRootText bytes) → front_at bytes ≡ Some (text.root.id, (text.root.number, text.root.generation))
+unfolding front_at
+front_read bytes text = rw (id_read bytes text, number_read text.root text.is, generation_read text.root text.is) refl
+
+-- the front that was read, which is that of the root
+abbrev pub front_or : Option (List ℕ × (ℕ × ℕ)) → List ℕ × (ℕ × ℕ)
+front_or None = ([], (0, 0))
+front_or (Some front) = front
 
 pub root_back : (root : Root) → IsRoot root → root_in (root_text root) ≡ root
 root_back root is = text_in (root_text root) (record { root = root; is = is; text = refl })

@@ -47,6 +47,14 @@ parts_of root = (root.id, (root.number, (root.generation, (root.source, root.joi
 unfoldable pub root_at : Reader Root
 root_at = made_at root_from (both_at (λ (_ : Unit {0}). string_at) (both_at (λ (_ : Unit {0}). u64_at) (both_at (λ (_ : Unit {0}). u32_at) (both_at (λ (_ : Unit {0}). string_at) join_at tt) tt) tt)) tt
 
+-- the id, the number and the mapping generation of the root at the front of bytes
+unfoldable pub front_at : List ℕ → Option (List ℕ × (ℕ × ℕ))
+front_at bytes = do
+  id ← string_at bytes
+  number ← u64_at id.1
+  generation ← u32_at number.1
+  Some (id.0, (number.0, generation.0))
+
 -- so many roots, one behind the other
 unfoldable pub roots_at : ℕ → Reader (List Root)
 roots_at count = many_at (λ _. tt {0}) (λ _. root_at) None count

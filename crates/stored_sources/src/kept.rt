@@ -9,7 +9,7 @@ ghost use Rattle.stored_sources.specs.Lent.{lent_root};
 ghost use Rattle.stored_sources.specs.Roots.{root_of};
 ghost use Rattle.stored_sources.specs.Kept.{root_in, roots_in, AreKept, IsRootText};
 
-use crate::walk::{LentRoot, root_at};
+use crate::walk::{LentFront, LentRoot, front_at, root_at};
 use part_text::{NoMemory, row};
 
 /// The root at an index.
@@ -30,6 +30,30 @@ fn lent_from(bytes: &[u8]) -> LentRoot<'_>
 {
     match root_at(bytes) {
         Some((root, _)) => root,
+        None => unreachable!(),
+    }
+}
+
+/// What stands of the root at an index before its source.
+pub(crate) fn front_of<'a>(places: &[u64], bytes: &'a [u8], at: usize) -> LentFront<'a>
+    requires kept { AreKept places.now bytes.now }
+    requires below { at + 1 < length places.now }
+    ensures id { result.id.now ≡ (root_of (roots_in places.now bytes.now) at).id }
+    ensures number { result.number ≡ (root_of (roots_in places.now bytes.now) at).number }
+    ensures generation { result.generation ≡ (root_of (roots_in places.now bytes.now) at).generation }
+{
+    front_from(row(places, bytes, at))
+}
+
+/// What stands before the source of the root that bytes are the text of.
+fn front_from(bytes: &[u8]) -> LentFront<'_>
+    requires { IsRootText bytes.now }
+    ensures id { result.id.now ≡ (root_in bytes.now).id }
+    ensures number { result.number ≡ (root_in bytes.now).number }
+    ensures generation { result.generation ≡ (root_in bytes.now).generation }
+{
+    match front_at(bytes) {
+        Some(front) => front,
         None => unreachable!(),
     }
 }

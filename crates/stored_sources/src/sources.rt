@@ -8,9 +8,9 @@ ghost use Rattle.stored_sources.specs.Text.{roots_text};
 ghost use Rattle.stored_sources.specs.Stands.{AreRoots, Stands, Belong};
 ghost use Rattle.stored_sources.specs.Lent.{lent_root};
 
-use crate::kept::{lent_at, put_live};
+use crate::kept::{front_of, lent_at, put_live};
 use crate::placing::{from_place, placed_roots};
-use crate::walk::LentRoot;
+use crate::walk::{LentFront, LentRoot};
 use crate::written::put_roots;
 use crate::{JoinValue, RowList};
 use part_text::{NoMemory, PlaceList};
@@ -97,7 +97,7 @@ impl<'a> StoredSources<'a> {
         requires { root < length self.now }
         ensures { result.now ≡ (root_of self.now root).id }
     {
-        self.lent(root).id
+        self.front(root).id
     }
 
     /// A root's sequence number.
@@ -105,7 +105,7 @@ impl<'a> StoredSources<'a> {
         requires { root < length self.now }
         ensures { result ≡ (root_of self.now root).number }
     {
-        self.lent(root).number
+        self.front(root).number
     }
 
     /// The generation of the mapping that a root was indexed under.
@@ -113,7 +113,7 @@ impl<'a> StoredSources<'a> {
         requires { root < length self.now }
         ensures { result ≡ (root_of self.now root).generation }
     {
-        self.lent(root).generation
+        self.front(root).generation
     }
 
     /// A root's join value.
@@ -164,6 +164,16 @@ impl<'a> StoredSources<'a> {
             into.truncate(old);
         }
         done
+    }
+
+    /// What stands of a root before its source, read in place.
+    fn front(&self, root: u32) -> LentFront<'a>
+        requires { root < length self.now }
+        ensures id { result.id.now ≡ (root_of self.now root).id }
+        ensures number { result.number ≡ (root_of self.now root).number }
+        ensures generation { result.generation ≡ (root_of self.now root).generation }
+    {
+        front_of(self.places, self.bytes, root as usize)
     }
 
     /// A root, read in place.

@@ -1,7 +1,7 @@
 //! Walkers over roots: each reads one thing from the front of bytes, and gives the bytes behind it.
 
 ghost use Rattle.part_text.specs.Reading.{Gives};
-ghost use Rattle.stored_sources.specs.Reading.{join_at, join_of, named_at, child_at, root_at};
+ghost use Rattle.stored_sources.specs.Reading.{join_at, join_of, named_at, child_at, front_at, root_at};
 ghost use Rattle.stored_sources.specs.Roots.{lent_join};
 ghost use Rattle.stored_sources.specs.Lent.{lent_root};
 
@@ -21,6 +21,17 @@ pub(crate) struct LentRoot<'a> {
     pub(crate) source: &'a [u8],
     /// Its join value.
     pub(crate) join: JoinValue<'a>,
+}
+
+/// What stands of a root before its source, read in place.
+#[derive(Clone, Copy)]
+pub(crate) struct LentFront<'a> {
+    /// The bytes of its id.
+    pub(crate) id: &'a [u8],
+    /// Its sequence number.
+    pub(crate) number: u64,
+    /// The generation of the mapping it was indexed under.
+    pub(crate) generation: u32,
 }
 
 /// A join value.
@@ -61,6 +72,21 @@ fn child_at(bytes: &[u8]) -> Option<(JoinValue<'_>, &[u8])>
     let (relation, rest) = u32_at(bytes)?;
     let (parent, rest) = string_at(rest)?;
     Some((JoinValue::Child(relation, parent), rest))
+}
+
+/// What stands of a root before its source. The bytes behind that aren't looked at.
+#[tactic(auto, unfolding(crate::specs::Reading::front_at))]
+pub(crate) fn front_at(bytes: &[u8]) -> Option<LentFront<'_>>
+    ensures { Gives (λ x. (x.id.now, (x.number, x.generation))) result (front_at bytes.now) }
+{
+    let (id, rest) = string_at(bytes)?;
+    let (number, rest) = u64_at(rest)?;
+    let (generation, _) = u32_at(rest)?;
+    Some(LentFront {
+        id,
+        number,
+        generation,
+    })
 }
 
 /// A root.

@@ -1,20 +1,17 @@
-use Rattle.std.proofs.Common.{◌≡◌, ◌≤◌, ◌+◌, List, length, map, ap, subst, sym, ◌∙◌}
+use Rattle.std.proofs.Common.{◌≡◌, ◌≤◌, ◌+◌, List, map, ap, subst, sym, ◌∙◌}
 use Rattle.flattener.specs.Fits.{ViewFits}
 use Rattle.flattener.specs.StandsFor.{ViewStandsFor}
 use Rattle.index_core.specs.Kept.{layout_kept}
 use Rattle.query_ast.specs.Search.{hit_page}
-use Rattle.query_eval.specs.Found.{live_trees}
+use Rattle.search_page.specs.Searched.{AreSearched, page_reads}
 use Rattle.segment.specs.Live.{EntryState}
 use Rattle.segment_builder.specs.Blocks.{blocks_in}
-use Rattle.tree_objects.specs.Tree.{IsLiveList, Tree}
-use Rattle.engine.proofs.Finding.{blocks_same, built_parts, found_same, live_same, trees_of}
+use Rattle.tree_objects.specs.Tree.{Tree}
+use Rattle.engine.proofs.Finding.{are_searched, blocks_same, found_same, live_same, trees_of}
 use Rattle.engine.proofs.search.found_by.Goals as goal
 
 pub found-requires-clause-fits : goal.found-requires-clause-fits
 found-requires-clause-fits g c = subst (λ (entries : List EntryState). ViewFits c.args.mapping.now entries) (sym c.view-view.ensures.view) (c.view-view.ensures.fits c.args.mapping.now c.requires.fits)
-
-pub found-requires-clause-plain : goal.found-requires-clause-plain
-found-requires-clause-plain g c = built_parts c.args.search.now c.requires.built
 
 pub returns-clause-found : goal.returns-clause-found
 returns-clause-found g c = λ state f buffer.
@@ -24,9 +21,8 @@ returns-clause-found g c = λ state f buffer.
     let stands : ViewStandsFor m c.view-view.result.now trees =
     subst (λ (entries : List EntryState). ViewStandsFor m entries trees) c.entries.ensures.entries
     (c.entries_stand.ensures m trees c.scope_count-scopes.ensures.is_mapping (ap (map blocks_in) (c.entries.ensures.entries ∙ c.view-view.ensures.view) ∙ blocks_same m index state.layout f.stands)) in
-    let same = live_same m index state f buffer in
-    let apart : IsLiveList (live_trees trees) = subst IsLiveList (sym same) f.numbered.live in
-    found_same m state.content.live c.args.search.now c.in_ok-hits.hits.page c.in_ok-hits.hits.answers trees same (c.in_ok-hits.ensures.page trees stands) (c.in_ok-hits.ensures.answers trees stands apart)
+    let searched : AreSearched m c.view-view.result.now trees = are_searched m index state f c.view-view.result.now buffer stands in
+    found_same m state.content.live c.args.search.now c.in_ok-hits.hits.page c.in_ok-hits.hits.answers trees (live_same m index state f buffer) (c.in_ok-hits.ensures.page trees searched) (c.in_ok-hits.ensures.answers trees searched)
 
 pub returns-clause-reads : goal.returns-clause-reads
 returns-clause-reads g c = λ state f buffer.
@@ -36,7 +32,8 @@ returns-clause-reads g c = λ state f buffer.
     let stands : ViewStandsFor m c.view-view.result.now trees =
     subst (λ (entries : List EntryState). ViewStandsFor m entries trees) c.entries.ensures.entries
     (c.entries_stand.ensures m trees c.scope_count-scopes.ensures.is_mapping (ap (map blocks_in) (c.entries.ensures.entries ∙ c.view-view.ensures.view) ∙ blocks_same m index state.layout f.stands)) in
-    subst (λ (live : List Tree). c.found.new.steps ≤ c.args.steps.now + length (hit_page m live c.args.search.now).hits) (live_same m index state f buffer) (c.in_ok-hits.ensures.reads trees stands)
+    subst (λ (live : List Tree). c.found.new.steps ≤ c.args.steps.now + page_reads (hit_page m live c.args.search.now)) (live_same m index state f buffer)
+    (c.in_ok-hits.ensures.reads trees (are_searched m index state f c.view-view.result.now buffer stands))
 
 pub returns-in_err-hits-clause-reads : goal.returns-in_err-hits-clause-reads
 returns-in_err-hits-clause-reads g c = λ state f buffer.
@@ -46,4 +43,5 @@ returns-in_err-hits-clause-reads g c = λ state f buffer.
     let stands : ViewStandsFor m c.view-view.result.now trees =
     subst (λ (entries : List EntryState). ViewStandsFor m entries trees) c.entries.ensures.entries
     (c.entries_stand.ensures m trees c.scope_count-scopes.ensures.is_mapping (ap (map blocks_in) (c.entries.ensures.entries ∙ c.view-view.ensures.view) ∙ blocks_same m index state.layout f.stands)) in
-    subst (λ (live : List Tree). c.found.new.steps ≤ c.args.steps.now + length (hit_page m live c.args.search.now).hits) (live_same m index state f buffer) (c.in_err-hits.ensures.reads trees stands)
+    subst (λ (live : List Tree). c.found.new.steps ≤ c.args.steps.now + page_reads (hit_page m live c.args.search.now)) (live_same m index state f buffer)
+    (c.in_err-hits.ensures.reads trees (are_searched m index state f c.view-view.result.now buffer stands))

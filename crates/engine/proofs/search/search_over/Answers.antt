@@ -1,10 +1,10 @@
-use Rattle.std.proofs.Common.{◌≡◌, true, false, Some, is_some, inr, rules, arith}
-use Rattle.machine.specs.Searching.{is_built, search_by}
+use Rattle.std.proofs.Common.{◌≡◌, ◌≤◌, ◌+◌, ℕ, true, false, Some, is_some, inr, subst, sym, rules, arith}
+use Rattle.machine.specs.Searching.{search_by}
 use Rattle.machine.specs.State.{sealed_state}
-use Rattle.reply_text.specs.declared.refusal.Refusal.TheVariants.{BadRequest, UnknownPit}
+use Rattle.reply_text.specs.declared.refusal.Refusal.TheVariants.{UnknownPit}
 use Rattle.engine.specs.Parts.{answered_of}
 use Rattle.engine.proofs.Answering.{left_sealed, refusal_ends, sealed_faithful}
-use Rattle.engine.proofs.Finding.{buffer_sealed, found_ends, no_pit, not_built}
+use Rattle.engine.proofs.Finding.{buffer_sealed, found_ends, no_pit, reads_live}
 use Rattle.engine.proofs.Leaving.{leaves_sealed}
 use Rattle.engine.proofs.search.search_over.Goals as goal
 
@@ -13,13 +13,6 @@ returns-then-is_some-clause-answers g c = λ state f.
     let some : is_some c.args.search.now.pit ≡ true = first_of (cc, search rules, grind arith) in
     refusal_ends (Some c.args.mapping.now) c.args.index.now state (search_by c.args.limits.now c.args.mapping.now c.args.search.now (sealed_state state)) UnknownPit c.refuse.result c.refuse.new.out.bytes f
     (no_pit c.args.limits.now c.args.mapping.now c.args.search.now c.args.index.now state f some) c.refuse.ensures.refused
-
-pub returns-then-not-is_built-clause-answers : goal.returns-then-not-is_built-clause-answers
-returns-then-not-is_built-clause-answers g c = λ state f.
-    let none : is_some c.args.search.now.pit ≡ false = first_of (cc, search rules, grind arith) in
-    let other : is_built c.args.search.now ≡ false = first_of (cc, search rules, grind arith) in
-    refusal_ends (Some c.args.mapping.now) c.args.index.now state (search_by c.args.limits.now c.args.mapping.now c.args.search.now (sealed_state state)) BadRequest c.refuse-then-not-is_built.result
-    c.refuse-then-not-is_built.new.out.bytes f (not_built c.args.limits.now c.args.mapping.now c.args.search.now state none other) c.refuse-then-not-is_built.ensures.refused
 
 pub returns-in_err-found-clause-answers : goal.returns-in_err-found-clause-answers
 returns-in_err-found-clause-answers g c = λ state f.
@@ -32,15 +25,16 @@ returns-in_err-found-clause-leaves g c =
 
 pub returns-in_err-found-clause-reads : goal.returns-in_err-found-clause-reads
 returns-in_err-found-clause-reads g c = λ state f.
-    c.in_err-found.ensures.reads (sealed_state state) (sealed_faithful c.args.mapping.now c.args.index.now c.seal.new.self state f c.in_ok-seal.ensures.next c.in_ok-seal.ensures.sealed)
-    (buffer_sealed c.args.index.now c.seal.new.self c.in_ok-seal.ensures.sealed)
+    let none : is_some c.args.search.now.pit ≡ false = first_of (cc, search rules, grind arith) in
+    subst (λ (n : ℕ). c.found_by.new.steps ≤ c.args.steps.now + n) (sym (reads_live c.args.mapping.now c.args.search.now state none))
+    (c.in_err-found.ensures.reads (sealed_state state) (sealed_faithful c.args.mapping.now c.args.index.now c.seal.new.self state f c.in_ok-seal.ensures.next c.in_ok-seal.ensures.sealed)
+    (buffer_sealed c.args.index.now c.seal.new.self c.in_ok-seal.ensures.sealed))
 
 pub returns-clause-answers : goal.returns-clause-answers
 returns-clause-answers g c = λ state f.
     let none : is_some c.args.search.now.pit ≡ false = first_of (cc, search rules, grind arith) in
-    let built : is_built c.args.search.now ≡ true = first_of (cc, search rules, grind arith) in
     found_ends c.args.limits.now c.args.mapping.now c.args.search.now c.args.index.now c.seal.new.self state c.in_ok-found.found c.write_within.result c.write_within.new.out.bytes f c.in_ok-seal.ensures.next
-    c.in_ok-seal.ensures.sealed none built
+    c.in_ok-seal.ensures.sealed none
     (c.in_ok-found.ensures.found (sealed_state state) (sealed_faithful c.args.mapping.now c.args.index.now c.seal.new.self state f c.in_ok-seal.ensures.next c.in_ok-seal.ensures.sealed)
     (buffer_sealed c.args.index.now c.seal.new.self c.in_ok-seal.ensures.sealed)) c.write_within.ensures.told c.write_within.ensures.text
 
@@ -51,5 +45,7 @@ returns-clause-leaves g c =
 
 pub returns-clause-reads : goal.returns-clause-reads
 returns-clause-reads g c = λ state f.
-    c.in_ok-found.ensures.reads (sealed_state state) (sealed_faithful c.args.mapping.now c.args.index.now c.seal.new.self state f c.in_ok-seal.ensures.next c.in_ok-seal.ensures.sealed)
-    (buffer_sealed c.args.index.now c.seal.new.self c.in_ok-seal.ensures.sealed)
+    let none : is_some c.args.search.now.pit ≡ false = first_of (cc, search rules, grind arith) in
+    subst (λ (n : ℕ). c.found_by.new.steps ≤ c.args.steps.now + n) (sym (reads_live c.args.mapping.now c.args.search.now state none))
+    (c.in_ok-found.ensures.reads (sealed_state state) (sealed_faithful c.args.mapping.now c.args.index.now c.seal.new.self state f c.in_ok-seal.ensures.next c.in_ok-seal.ensures.sealed)
+    (buffer_sealed c.args.index.now c.seal.new.self c.in_ok-seal.ensures.sealed))

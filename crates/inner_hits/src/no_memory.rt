@@ -1,0 +1,48 @@
+//! The one error of this crate.
+use std::alloc::{AllocError, AllocFailed};
+
+/// There was too little memory.
+#[derive(Clone, Copy, Debug, PartialEq, Eq)]
+pub struct NoMemory;
+
+impl From<AllocError> for NoMemory {
+    fn from(_: AllocError) -> NoMemory {
+        NoMemory
+    }
+}
+
+impl<T: Drop> From<AllocFailed<T>> for NoMemory {
+    fn from(_: AllocFailed<T>) -> NoMemory {
+        NoMemory
+    }
+}
+
+impl From<query_eval::NoMemory> for NoMemory {
+    fn from(_: query_eval::NoMemory) -> NoMemory {
+        NoMemory
+    }
+}
+
+impl From<hit_order::NoMemory> for NoMemory {
+    fn from(_: hit_order::NoMemory) -> NoMemory {
+        NoMemory
+    }
+}
+
+impl From<nested_sort::NoMemory> for NoMemory {
+    fn from(_: nested_sort::NoMemory) -> NoMemory {
+        NoMemory
+    }
+}
+
+impl From<tree_json::NoMemory> for NoMemory {
+    fn from(_: tree_json::NoMemory) -> NoMemory {
+        NoMemory
+    }
+}
+
+impl From<stored_sources::NoMemory> for NoMemory {
+    fn from(_: stored_sources::NoMemory) -> NoMemory {
+        NoMemory
+    }
+}

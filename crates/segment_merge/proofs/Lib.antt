@@ -1,0 +1,9 @@
+pub mod Spreading
+pub mod Back
+pub mod Carried
+pub mod Kept
+pub mod Cutting
+pub mod Rooted
+pub mod Changed
+pub mod Steps
+pub mod Listed
