@@ -7,7 +7,7 @@ use Rattle.serde_json.specs.Read.{read}
 use Rattle.tree_json.specs.Levels.{levels, most_levels}
 use Rattle.tree_json.specs.Reading.{Reading, bad_json, fraction, value, whole_value, reading_of_whole, reading_of_data, reading}
 use Rattle.tree_json.specs.Value.{JsonValue}
-use Rattle.tree_json.proofs.Said.{levels_read}
+use Rattle.tree_json.proofs.AsData.{levels_read}
 
 abbrev HasFewLevels : Reading → Type 0
 HasFewLevels bad_json = ⊤

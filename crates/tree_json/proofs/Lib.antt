@@ -7,10 +7,7 @@ pub mod Readings
 pub mod Insertion
 pub mod SoFar
 pub mod Tokens
-pub mod Said
+pub mod AsData
 pub mod RoundTrip
 mod FewLevels
-mod FirstBytes
-mod Compacted
-mod Kept
 mod OneTexts

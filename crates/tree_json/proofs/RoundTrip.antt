@@ -28,7 +28,7 @@ use Rattle.tree_json.specs.Reading.{whole_value, whole_elements, whole_members, 
 use Rattle.tree_json.specs.Sound.{IsOf64, names_in, IsSound, AreSound, MembersAreSound}
 use Rattle.tree_json.specs.Text.{quoted, comma_if, bool_text, compact, compact_elements, compact_members}
 use Rattle.tree_json.specs.Value.{JsonValue, null, bool, whole, text, list, object, Elements, no_elements, element, Members, no_members, member, members_of}
-use Rattle.tree_json.proofs.Said.{number_data, data_of, items_of, pairs_of, AreOf64, ElementsAreOf64, MembersAreOf64, same_text, same_depth, has_numbers}
+use Rattle.tree_json.proofs.AsData.{number_data, data_of, items_of, pairs_of, AreOf64, ElementsAreOf64, MembersAreOf64, same_text, same_depth, has_numbers}
 
 -- ---- the text is UTF-8
 

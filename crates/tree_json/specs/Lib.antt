@@ -10,5 +10,3 @@ pub mod Text
 pub mod Output
 pub mod Quick
 pub mod OneText
-pub mod Said
-pub mod Compacted

@@ -5,8 +5,6 @@
 //! others use: `read` answers as the one function `reading` of the bytes says, and `print` appends `compact`.
 #![tactic(auto)]
 
-mod compact_text;
-mod compactor;
 mod law;
 mod one_text;
 mod out_text;
@@ -14,12 +12,9 @@ mod printer;
 mod quick;
 mod quote;
 mod reader;
-#[cfg(test)]
-mod tests;
 mod value;
 mod whole;
 
-pub use compact_text::CompactText;
 pub use law::what_is_read_has_few_levels;
 pub use one_text::OneText;
 pub use out_text::{NoMemory, OutText};

@@ -8,11 +8,8 @@ ghost use Rattle.tree_json.specs.Reading.{bad_json, fraction, reading, value, wh
 ghost use Rattle.tree_json.specs.Value.{elements_of, members_of};
 ghost use Rattle.tree_json.specs.View.{view};
 
-use crate::compact_text::CompactText;
-use crate::compactor::write_text;
 use crate::one_text::{OneText, one_text_of};
-use crate::out_text::{NoMemory, OutText};
-use crate::printer::print;
+use crate::out_text::NoMemory;
 use crate::quick::{Stop, read_text};
 use crate::value::{Json, JsonList, JsonObject, JsonText};
 use json::Scratch;
@@ -68,7 +65,6 @@ impl<T: Drop> From<AllocFailed<T>> for JsonRefusal {
 #[derive(Drop)]
 pub struct JsonReader {
     scratch: Scratch,
-    text: OutText,
 }
 
 impl JsonReader {
@@ -76,7 +72,6 @@ impl JsonReader {
     pub fn new(alloc: Global) -> JsonReader {
         JsonReader {
             scratch: Scratch::new(alloc),
-            text: OutText::empty(alloc),
         }
     }
 
@@ -92,21 +87,6 @@ impl JsonReader {
             return Err(JsonRefusal::BadJson);
         };
         value_of(alloc, text, &mut self.scratch)
-    }
-
-    /// The value that the bytes say (RFC 8259), as its compact text. A repeated name keeps its last value. Where the
-    /// names of each object ascend, the text is written as the bytes are read.
-    #[tactic(auto, using(crate::proofs::Readings::readings))]
-    pub fn read_compact(&mut self, alloc: Global, bytes: &[u8]) -> Result<CompactText, JsonRefusal>
-        ensures ok { IfOk result (λ text. reading bytes.now ≡ value text) }
-        ensures bad { IsErrOf result JsonRefusal.BadJson → reading bytes.now ≡ bad_json }
-        ensures fraction { IsErrOf result JsonRefusal.FractionNumber
-            → reading bytes.now ≡ fraction }
-    {
-        let Ok(text) = simdutf8::compat::from_utf8(bytes) else {
-            return Err(JsonRefusal::BadJson);
-        };
-        compact_of(alloc, text, &mut self.scratch, &mut self.text)
     }
 
     /// The text that the bytes hold in an object of one member in an object of one member, lent: no memory is taken for
@@ -134,45 +114,6 @@ fn value_of(alloc: Global, text: &str, scratch: &mut Scratch) -> Result<Json, Js
         Err(Stop::Undecided) => read_slowly(alloc, text),
         Err(Stop::NoMemory) => Err(JsonRefusal::NoMemory),
     }
-}
-
-// The compact text of the value that the text says, written into a buffer first.
-#[tactic(auto, using(crate::proofs::Kept::kept))]
-fn compact_of(
-    alloc: Global,
-    text: &str,
-    scratch: &mut Scratch,
-    into: &mut OutText,
-) -> Result<CompactText, JsonRefusal>
-    ensures ok { IfOk result (λ compact. SaysText (read_data text.now) compact) }
-    ensures bad { IsErrOf result JsonRefusal.BadJson → read_data text.now ≡ None }
-    ensures fraction { IsErrOf result JsonRefusal.FractionNumber → IsFraction (read_data text.now) }
-{
-    into.clear();
-    match write_text(text, scratch, into) {
-        Ok(()) => Ok(CompactText::of(alloc, into.as_slice())?),
-        Err(Stop::BadJson) => Err(JsonRefusal::BadJson),
-        Err(Stop::Undecided) => compact_of_value(alloc, text, scratch, into),
-        Err(Stop::NoMemory) => Err(JsonRefusal::NoMemory),
-    }
-}
-
-// The same, by way of the value.
-#[tactic(auto, using(crate::proofs::Kept::kept))]
-fn compact_of_value(
-    alloc: Global,
-    text: &str,
-    scratch: &mut Scratch,
-    into: &mut OutText,
-) -> Result<CompactText, JsonRefusal>
-    ensures ok { IfOk result (λ compact. SaysText (read_data text.now) compact) }
-    ensures bad { IsErrOf result JsonRefusal.BadJson → read_data text.now ≡ None }
-    ensures fraction { IsErrOf result JsonRefusal.FractionNumber → IsFraction (read_data text.now) }
-{
-    let value = value_of(alloc, text, scratch)?;
-    into.clear();
-    print(&value, into)?;
-    Ok(CompactText::of(alloc, into.as_slice())?)
 }
 
 /// The value that the bytes say, over a buffer of its own: `JsonReader` reads many lines over one.

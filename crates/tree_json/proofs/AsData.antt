@@ -1,4 +1,4 @@
--- The compact text of a value that was read says that value.
+-- A value as `serde_json`'s data with the same text, and what was read: whole numbers of 64 bits, few levels.
 use Rattle.std.proofs.Common.{◌≡◌, ℕ, zero, suc, ◌^◌, ◌<◌, ◌≤◌, max, ℤ, pos, negsuc, Bool, true, false, ◌&&◌, List as Seq, ◌∷◌, ◌++◌, codes, Option, Some, None, Ordering, Less, Equal, Greater, option_map, option_and_then, refl, sym, ap, ap₂, subst, ◌∙◌, append_assoc, arith}
 use Rattle.std.proofs.lemmas.Bool.{ltb-true, leb-true, and_parts}
 use Rattle.std.specs.Float.{binary64, float_is_finite}
@@ -7,25 +7,21 @@ use Rattle.std.specs.Ordering.{match_ordering}
 use Rattle.std.specs.Prelude.{⊤, nat_lt, nat_le, if◌then◌else◌, slice_index, ◌==◌, drop}
 use Rattle.fast_float.specs.Text.{Parts, minus, scan, digits_of, nearest, with_sign}
 use Rattle.json.specs.Json as json
-use Rattle.json.specs.Json.{document, max_depth, if_last}
+use Rattle.json.specs.Json.{document, if_last}
 use Rattle.json.specs.Print.{IsNumber}
 use Rattle.json.specs.Lex.{tokens}
 use Rattle.json.specs.Tree as tree
 use Rattle.json.specs.Tree.{HasNumbers, ItemsHaveNumbers, MembersHaveNumbers, json_tokens}
 use Rattle.json.proofs.Printed.Decimals.{IsNumber-decimal, IsNumber-signed_decimal}
-use Rattle.json.proofs.Printed.Trees.{document-print}
 use Rattle.serde_json.specs.Data as source
 use Rattle.serde_json.specs.Data.{Num, unsigned, negative, float}
 use Rattle.serde_json.specs.Find.{as_i64}
 use Rattle.serde_json.specs.Read.{is_integer, float_of, number_from, number_of, of_json, of_items, of_members, read}
 use Rattle.serde_json.specs.Written.{number_text, outline, items_outline, members_outline, compact_text, items_text, members_text}
 use Rattle.serde_json.proofs.Nesting.{depth-read}
-use Rattle.serde_json.proofs.Numbers.{number_of-decimal, number_of-negative}
-use Rattle.serde_json.proofs.Texts.{print-outline}
 use Rattle.tree_json.specs.Quick.{SaysText}
 use Rattle.tree_json.specs.Reading.{whole_value, whole_elements, whole_members}
 use Rattle.tree_json.specs.Levels.{levels, elements_levels, members_levels, most_levels}
-use Rattle.tree_json.specs.Said.{whole_of, said, said_items, said_members, said_if, said_by}
 use Rattle.tree_json.specs.Sound.{IsOf64}
 use Rattle.tree_json.specs.Text.{quoted, comma_if, compact, compact_elements, compact_members, compact_member}
 use Rattle.tree_json.specs.Value.{JsonValue, null, bool, whole, text, list, object, Elements, no_elements, element, Members, no_members, member}
@@ -96,7 +92,7 @@ mutual
       ∙ ap (λ s. comma_if later ++ s) (append_assoc (compact_member k d) rest (codes "}")
       ∙ append_assoc (quoted k) (58 ∷ compact d) (rest ++ codes "}")))
 
--- ---- whole numbers of 64 bits are read back
+-- ---- whole numbers of 64 bits
 
 abbrev mutual
   pub AreOf64 : JsonValue → Type 0
@@ -114,27 +110,6 @@ abbrev mutual
   pub MembersAreOf64 : Members → Type 0
   MembersAreOf64 no_members = ⊤
   MembersAreOf64 (member k d ms) = AreOf64 d × MembersAreOf64 ms
-
-pub number_back : (z : ℤ) → IsOf64 z → whole_of (number_of (number_text (number_data z))) ≡ z
-number_back (pos n) h = ap whole_of (number_of-decimal n (omega arith))
-number_back (negsuc n) h = ap whole_of (number_of-negative n h)
-
-mutual
-  said_back : (v : JsonValue) → AreOf64 v → said (outline (data_of v)) ≡ v
-  said_back null h = refl
-  said_back (bool b) h = refl
-  said_back (whole z) h = ap whole (number_back z h)
-  said_back (text s) h = refl
-  said_back (list ds) h = ap list (items_back ds h)
-  said_back (object ms) h = ap object (pairs_back ms h)
-
-  items_back : (ds : Elements) → ElementsAreOf64 ds → said_items (items_outline (items_of ds)) ≡ ds
-  items_back no_elements h = refl
-  items_back (element d ds) h = ap₂ element (said_back d h.0) (items_back ds h.1)
-
-  pairs_back : (ms : Members) → MembersAreOf64 ms → said_members (members_outline (pairs_of ms)) ≡ ms
-  pairs_back no_members h = refl
-  pairs_back (member k d ms) h = ap₂ (member k) (said_back d h.0) (pairs_back ms h.1)
 
 -- ---- they are numbers of JSON, and nothing nests deeper
 
@@ -175,14 +150,6 @@ mutual
   same_pairs_depth : (ms : Members) → tree.members_depth (members_outline (pairs_of ms)) ≡ members_levels ms
   same_pairs_depth no_members = refl
   same_pairs_depth (member k d ms) = ap₂ max (same_depth d) (same_pairs_depth ms)
-
-said_by_compact : (v : JsonValue) → AreOf64 v → levels v ≤ max_depth → said_by (compact v) ≡ v
-unfolding said_by
-said_by_compact v h shallow =
-    let j = outline (data_of v) in
-    ap (λ s. said_if (document s)) (sym (print-outline (data_of v) ∙ same_text v))
-    ∙ ap said_if (document-print j (has_numbers v h) (omega (arith, same_depth v, shallow)))
-    ∙ said_back v h
 
 -- ---- what was read has whole numbers of 64 bits
 
@@ -335,12 +302,6 @@ read_fits : (bytes : Seq ℕ) (v : JsonValue) → SaysText (read bytes) v → Fi
 read_fits bytes v found =
     let numbers : AreRead found.says = subst (Where AreRead) found.parses (text_read bytes) in
     subst (Where (Fits most_levels)) found.whole (value_fits found.says most_levels numbers (depth-read bytes found.says found.parses))
-
--- the text of a value that was read says it
-pub said_by-compact : (bytes : Seq ℕ) (v : JsonValue) → SaysText (read bytes) v → said_by (compact v) ≡ v
-said_by-compact bytes v found =
-    let fits = read_fits bytes v found in
-    said_by_compact v fits.0 (omega (arith, fits.1))
 
 -- a value that was read has few levels
 pub levels_read : (bytes : Seq ℕ) (v : JsonValue) → SaysText (read bytes) v → levels v ≤ most_levels
