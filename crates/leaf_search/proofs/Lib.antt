@@ -2,6 +2,7 @@ pub mod Tests
 pub mod Listing
 pub mod Gaining
 pub mod Termed
+pub mod Alone
 pub mod Cutting
 pub mod Unions
 pub mod Shown
