@@ -1,4 +1,5 @@
 pub mod Tests
+pub mod Listed
 pub mod Listing
 pub mod Gaining
 pub mod Termed
