@@ -48,8 +48,7 @@ stands_alone terms field bytes ordinal ascend there k term is = (
       let own : (field, bytes) ≡ term = same_Some (field, bytes) term (sym there ∙ ap (slice_get terms) same ∙ is) in
       subst (λ (t : ℕ × List ℕ). is_term field bytes t ≡ true) own (own_passes field bytes),
   λ says.
-      let here : slice_get terms k ≡ Some (field, bytes) = is ∙ ap Some (is_own field bytes term says) in
-      (
+      let here : slice_get terms k ≡ Some (field, bytes) = is ∙ ap Some (is_own field bytes term says) in (
         elim (cases_lt k ordinal) [ inl earlier ↦ absurd (not_twice terms k ordinal (field, bytes) ascend here there earlier) | inr from ↦ omega arith ],
         elim (cases_lt ordinal k) [ inl later ↦ absurd (not_twice terms ordinal k (field, bytes) ascend there here later) | inr upto ↦ omega arith ],
       ),
