@@ -10,6 +10,7 @@ pub mod Sets
 pub mod Counting
 pub mod Walking
 pub mod Telling
+pub mod Hits
 pub mod Relations
 pub mod Meeting
 pub mod Related

@@ -221,15 +221,6 @@ module _ (m : Mapping) (ordinals : Ordinals) (side : Side) (c : Columns) (place 
   pub key_here : root < length c.roots → get_or (keys_at m ordinals side c place) root None ≡ key_at m ordinals side c place root
   key_here below = get_or-map-range_with_len (key_at m ordinals side c place) 0 (length c.roots) root root None below (omega arith)
 
-  pub key_past : length c.roots ≤ root → get_or (keys_at m ordinals side c place) root None ≡ None
-  key_past past = or_past (keys_at m ordinals side c place) root None (omega (arith, past, length-map-range_with_len (key_at m ordinals side c place) 0 (length c.roots)))
-
-  pub pair_here : (score : Option ℕ) → root < length c.roots → pair_if (key_at m ordinals side c place root) score ≡ pair_if (get_or (keys_at m ordinals side c place) root None) score
-  pair_here score below = ap (λ (key : Option ℕ). pair_if key score) (sym (key_here below))
-
-  pub pair_past : (score : Option ℕ) → length c.roots ≤ root → pair_if None score ≡ pair_if (get_or (keys_at m ordinals side c place) root None) score
-  pair_past score past = ap (λ (key : Option ℕ). pair_if key score) (sym (key_past past))
-
   pub key_within : (count : ℕ) → HaveTallies ordinals side place count → IfSome (key_at m ordinals side c place root) (λ key. key < count)
   key_within count have = by does
     where

@@ -16,12 +16,7 @@ pub record NextRoot (start : ℕ) (flags : List Bool) (doc : ℕ) : Type 0 where
   pub ahead : ℕ
   pub place : doc ≡ start + ahead
   pub below : ahead < length flags
-  pub scores : (hits : Scores) → length flags ≡ length hits → of_roots flags hits ≡ get_or hits ahead None ∷ of_roots (drop (suc ahead) flags) (drop (suc ahead) hits)
   pub given : (scores : Scores) → at_roots flags scores ≡ replicate ahead None ++ (get_or scores 0 None ∷ at_roots (drop (suc ahead) flags) (drop 1 scores))
-
-root_here : (flags : List Bool) (hits : Scores) → length (true ∷ flags) ≡ length hits → of_roots (true ∷ flags) hits ≡ get_or hits 0 None ∷ of_roots flags (drop 1 hits)
-root_here flags [] long = absurd (omega (arith, long))
-root_here flags (h ∷ hits) long = refl
 
 given_here : (flags : List Bool) (scores : Scores) → at_roots (true ∷ flags) scores ≡ get_or scores 0 None ∷ at_roots flags (drop 1 scores)
 given_here flags [] = refl
@@ -31,33 +26,21 @@ pub next_root : (start : ℕ) (flags : List Bool) (doc : ℕ) → position_from 
 next_root start [] doc is = absurd (let no : ⊥ = cc in no)
 next_root start (true ∷ flags) doc is =
     let same : start ≡ doc = same_Some start doc is in
-    record { ahead = 0; place = omega (arith, same); below = omega arith; scores = root_here flags; given = given_here flags }
+    record { ahead = 0; place = omega (arith, same); below = omega arith; given = given_here flags }
 next_root start (false ∷ flags) doc is =
     let rest = next_root (start + 1) flags doc is in
     record {
       ahead = suc rest.ahead;
       place = omega (arith, rest.place);
       below = omega (arith, rest.below);
-      scores = past flags rest;
       given = λ scores. ap (λ (l : Scores). None ∷ l) (rest.given scores);
     }
-  where
-    past : (flags : List Bool) (rest : NextRoot (start + 1) flags doc) (hits : Scores) → length (false ∷ flags) ≡ length hits → of_roots (false ∷ flags) hits ≡ get_or hits (suc rest.ahead) None ∷ of_roots (drop (suc rest.ahead) flags) (drop (suc (suc rest.ahead)) hits)
-    past flags rest [] long = absurd (omega (arith, long))
-    past flags rest (h ∷ hits) long = rest.scores hits (omega (arith, long))
-
-none_left : (start : ℕ) (flags : List Bool) (hits : Scores) → position_from is_marked start flags ≡ None → of_roots flags hits ≡ []
-none_left start [] hits is = refl
-none_left start (true ∷ flags) hits is = absurd (let no : ⊥ = cc in no)
-none_left start (false ∷ flags) [] is = refl
-none_left start (false ∷ flags) (h ∷ hits) is = none_left (start + 1) flags hits is
-
 none_given : (start : ℕ) (flags : List Bool) (scores : Scores) → position_from is_marked start flags ≡ None → at_roots flags scores ≡ replicate (length flags) None
 none_given start [] scores is = refl
 none_given start (true ∷ flags) scores is = absurd (let no : ⊥ = cc in no)
 none_given start (false ∷ flags) scores is = ap (λ (l : Scores). None ∷ l) (none_given (start + 1) flags scores is)
 
-get_drop : (xs : Scores) (from k : ℕ) → get_or (drop from xs) k None ≡ get_or xs (from + k) None
+pub get_drop : (xs : Scores) (from k : ℕ) → get_or (drop from xs) k None ≡ get_or xs (from + k) None
 get_drop xs zero k = let same : 0 + k ≡ k = omega arith in ap (λ n. get_or xs n None) (sym same)
 get_drop [] (suc from) k = refl
 get_drop (x ∷ xs) (suc from) k = let same : suc from + k ≡ suc (from + k) = omega arith in get_drop xs from k ∙ ap (λ n. get_or (x ∷ xs) n None) (sym same)
@@ -93,65 +76,6 @@ took old scores doc None new is below some none =
 took old scores doc (Some s) new is below some none =
     let same : between old.scores old.from (doc + 1) ≡ between scores doc (doc + 1) = ap (λ (x : Standing). between x.scores x.from (doc + 1)) is in
     one_told (get_or scores doc None) s (between new.scores new.from (doc + 1)) (sym (own_between scores doc below) ∙ sym same ∙ some)
-
--- ---- scores of roots
-
--- the roots from a document on, of which so many were read
-pub record Reading (flags : List Bool) (hits scores : Scores) (from root : ℕ) : Type 0 where
-  pub goes : of_roots (drop from flags) (drop from hits) ≡ drop root scores
-
-pub record Read (flags : List Bool) (hits scores : Scores) (doc root : ℕ) (score : Option ℕ) : Type 0 where
-  pub below : root < length scores
-  pub own : score ≡ get_or scores root None
-  pub next : Reading flags hits scores (doc + 1) (root + 1)
-
-record Headed (xs : Scores) (k : ℕ) (s : Option ℕ) (rest : Scores) : Type 0 where
-  below : k < length xs
-  own : s ≡ get_or xs k None
-  next : rest ≡ drop (k + 1) xs
-
-headed : (xs : Scores) (k : ℕ) (s : Option ℕ) (rest : Scores) → s ∷ rest ≡ drop k xs → Headed xs k s rest
-headed [] zero s rest is = absurd (let none : ⊥ = cc in none)
-headed [] (suc k) s rest is = absurd (let none : ⊥ = cc in none)
-headed (x ∷ xs) zero s rest is =
-    let first : s ≡ x = cc in
-    let more : rest ≡ xs = cc in
-    record { below = omega arith; own = first; next = more }
-headed (x ∷ xs) (suc k) s rest is =
-    let inner = headed xs k s rest is in
-    let same : suc k + 1 ≡ suc (k + 1) = omega arith in
-    record { below = omega (arith, inner.below); own = inner.own; next = inner.next ∙ ap (λ n. drop n (x ∷ xs)) (sym same) }
-
-past_all : (xs : Scores) (k : ℕ) → [] ≡ drop k xs → length xs ≤ k
-past_all [] k is = omega arith
-past_all (x ∷ xs) zero is = absurd (let none : ⊥ = cc in none)
-past_all (x ∷ xs) (suc k) is = omega (arith, past_all xs k is)
-
-pub reading_start : (flags : List Bool) (hits : Scores) → Reading flags hits (of_roots flags hits) 0 0
-reading_start flags hits = record { goes = refl }
-
-pub reading_more : (flags : List Bool) (hits scores : Scores) (from root doc : ℕ) (score : Option ℕ) → Reading flags hits scores from root → length flags ≡ length hits → next_place is_marked from flags ≡ Some doc → score ≡ get_or hits doc None
-    → Read flags hits scores doc root score
-reading_more flags hits scores from root doc score it long next is =
-    let at = next_root from (drop from flags) doc next in
-    let k : ℕ = at.ahead in
-    let same : length (drop from flags) ≡ length (drop from hits) = omega (arith, long, length-drop from flags, length-drop from hits) in
-    let behind : from + suc k ≡ doc + 1 = omega (arith, at.place) in
-    let own : score ≡ get_or (drop from hits) k None = is ∙ ap (λ n. get_or hits n None) at.place ∙ sym (get_drop hits from k) in
-    let rest : of_roots (drop (suc k) (drop from flags)) (drop (suc k) (drop from hits)) ≡ of_roots (drop (doc + 1) flags) (drop (doc + 1) hits) =
-    ap (λ (l : List Bool). of_roots l (drop (suc k) (drop from hits))) (drop-drop (suc k) from flags)
-    ∙ ap (of_roots (drop (from + suc k) flags)) (drop-drop (suc k) from hits)
-    ∙ ap (λ n. of_roots (drop n flags) (drop n hits)) behind in
-    let all : score ∷ of_roots (drop (doc + 1) flags) (drop (doc + 1) hits) ≡ drop root scores =
-    ap (λ (x : Option ℕ). x ∷ of_roots (drop (doc + 1) flags) (drop (doc + 1) hits)) own
-    ∙ ap (λ (l : Scores). get_or (drop from hits) k None ∷ l) (sym rest)
-    ∙ sym (at.scores (drop from hits) same)
-    ∙ it.goes in
-    let split = headed scores root score (of_roots (drop (doc + 1) flags) (drop (doc + 1) hits)) all in
-    record { below = split.below; own = split.own; next = record { goes = split.next } }
-
-pub reading_end : (flags : List Bool) (hits scores : Scores) (from root : ℕ) → Reading flags hits scores from root → next_place is_marked from flags ≡ None → length scores ≤ root
-reading_end flags hits scores from root it next = past_all scores root (sym (none_left from (drop from flags) (drop from hits) next) ∙ it.goes)
 
 -- ---- scores given to roots
 

@@ -1,8 +1,10 @@
 //! Joins of trees: scores of roots go to the roots of their parents, or of their children.
 
 ghost use Rattle.std.specs.Prelude.{◌≡◌, ◌<◌, ◌≤◌, ◌+◌, ◌^◌, ℕ, List, [], ◌++◌, get_or, length, map, Option, None, IfOk, IfSome, OnOk};
+ghost use Rattle.block_bits.specs.Blocks.{documents_of};
 ghost use Rattle.join_ordinals.specs.Ordinals.{AreOrdinals};
 ghost use Rattle.query_ast.specs.Resolved.{IsChildRelation, IsParentRelation};
+ghost use Rattle.query_eval.specs.Folds.{scopes_in};
 ghost use Rattle.query_eval.specs.Found.{AreLong, IsSeen};
 ghost use Rattle.query_eval.specs.Sides.{AreTallies, HaveTallies, answer_for, at_roots, by_relation, children_by, given_by, keys_at, of_roots, pair_if, parent_by, told, told_by};
 ghost use Rattle.score_math.specs.declared.score.TheConstants.{SCORE_CAP};
@@ -14,12 +16,12 @@ use crate::answer::{Answer, answer_of};
 use crate::nests::scope_set;
 use crate::side::{Side, key_of, ordinal_by, takes_part};
 use crate::tally::Tally;
-use block_bits::BitSet;
+use block_bits::{BitSet, places_are_nearest};
 use block_join::{Builder, Cursor, Matches, Scored};
 use join_ordinals::JoinOrdinals;
 use mapping::Mapping;
 use score_math::ScoreMode;
-use segment::Segment;
+use segment::{Segment, scopes_are_of_documents};
 use segment_view::Entry;
 use std::alloc::Global;
 use tree_objects::objects_nest;
@@ -209,7 +211,7 @@ fn no_tallies(alloc: Global, count: usize) -> Result<Vec<Tally>, NoMemory>
     Ok(tallies)
 }
 
-/// Adds the scores of an entry's roots to the tallies of their keys. Only of a root with a score the key is looked for.
+/// Adds the scores of an entry's roots to the tallies of their keys. It goes from hit to hit, and reads of no other root.
 fn tell(
     tallies: &mut Vec<Tally>,
     mapping: &Mapping,
@@ -221,18 +223,19 @@ fn tell(
     hits: &Scored,
 ) -> Result<(), NoMemory>
     requires documents { length hits.now ≡ length roots.now }
+    requires roots { roots.now ≡ documents_of (scopes_in segment.now) 0 }
     requires keys { HaveTallies joins.now side place (length tallies.old.items) }
     ensures long { length tallies.new.items ≡ length tallies.old.items }
     ensures tallies { (pairs : List (ℕ × ℕ)) → AreTallies pairs tallies.old.items
         → OnOk result (AreTallies (pairs ++ told (keys_at mapping.now joins.now side segment.now place) (of_roots roots.now hits.now)) tallies.new.items) }
 {
+    places_are_nearest::<Option<u64>>();
+    let _documents = hits.len();
     let mut left = hits.cursor();
-    let mut root = 0;
-    'documents: while let Some(doc) = roots.next_set(left.from()) {
+    'documents: while let Some(doc) = left.peek() {
         let score = take_at(&mut left, doc);
-        let key = key_if(mapping, joins, segment, place, root, side, score);
+        let key = key_if(mapping, joins, segment, place, roots, doc, side);
         tell_one(tallies, key, score)?;
-        root += 1;
     }
     Ok(())
 }
@@ -251,27 +254,34 @@ fn take_at(left: &mut Cursor, doc: u32) -> Option<u64>
     left.next_before(doc + 1)
 }
 
-/// The key of a root with a score, if it takes part.
-#[tactic(auto, using(crate::proofs::Telling::pair_nothing, crate::proofs::Telling::pair_here, crate::proofs::Telling::pair_past, crate::proofs::Telling::key_within))]
+/// The key of the root at a document, if it takes part; none where the document is no root's.
 fn key_if(
     mapping: &Mapping,
     joins: &JoinOrdinals,
     segment: &Segment,
     place: usize,
-    root: u32,
+    roots: &BitSet,
+    doc: u32,
     side: Side,
-    score: Option<u64>,
 ) -> Option<u32>
-    ensures pair { pair_if result score ≡ pair_if (get_or (keys_at mapping.now joins.now side segment.now place) root None) score }
+    requires document { doc < length roots.now }
+    requires roots { roots.now ≡ documents_of (scopes_in segment.now) 0 }
+    ensures key { result ≡ get_or (at_roots roots.now (keys_at mapping.now joins.now side segment.now place)) doc None }
     ensures within { (count : ℕ) → HaveTallies joins.now side place count → IfSome result (λ key. key < count) }
 {
-    if score.is_none() {
+    if !roots.has(doc) {
         return None;
     }
-    if root >= segment.roots() {
-        return None;
-    }
-    key_of(mapping, joins, segment, place, root, side)
+    scopes_are_of_documents(segment);
+    let _documents = segment.docs();
+    key_of(
+        mapping,
+        joins,
+        segment,
+        place,
+        segment.root_of_doc(doc),
+        side,
+    )
 }
 
 /// Adds a score to the tally of its key, where there are both.

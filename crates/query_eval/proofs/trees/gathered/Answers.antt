@@ -20,6 +20,7 @@ tell-requires c =
           (c.index-hits-place.is ∙ ap (λ (l : List Scores). get_or l c.entries.place c.index-hits-place.result) c.as_slice-hits.ensures)
           ∙ ap (λ (x : Columns). x.documents) (sym c.segment-segment.ensures)
           ∙ sym c.in_ok-roots.ensures.long;
+      roots = c.in_ok-roots.ensures.set;
       keys =
           tell_keys c.args.mapping.now c.args.joins.now c.args.side c.args.entries.now c.entries.place c.index-entries-place.result c.segment-segment.result.now below c.index-entries-place.is c.segment-segment.ensures
           c.requires.ordinals (length c.entries.tallies.items) c.entries.invariant.0;

@@ -1,94 +1,88 @@
-use Rattle.std.proofs.Common.{◌≡◌, ◌<◌, ◌≤◌, ◌+◌, ◌++◌, List, [], ◌∷◌, ℕ, Option, Some, None, length, take, get_or, min, refl, sym, ap, subst, ◌∙◌, arith, append_assoc}
-use Rattle.block_bits.specs.Flags.{is_marked}
-use Rattle.block_bits.specs.Places.{next_place}
+use Rattle.std.proofs.Common.{◌≡◌, ◌<◌, ◌≤◌, ◌+◌, ◌++◌, List, [], ℕ, Option, Some, None, length, take, drop, get_or, refl, sym, ap, subst, ◌∙◌, arith, append_assoc}
+use Rattle.std.specs.Option.{is_some}
+use Rattle.block_bits.specs.Places.{AllFail, IsFirst, next_place}
 use Rattle.block_join.specs.Scores.{Standing}
-use Rattle.query_eval.specs.Sides.{AreTallies, HaveTallies, keys_at, of_roots, pair_if, told}
+use Rattle.query_eval.specs.Sides.{AreTallies, HaveTallies, at_roots, keys_at, pair_if, told}
 use Rattle.query_eval.proofs.Entries.{Scores, nil_append}
-use Rattle.query_eval.proofs.Telling.{told_cut, told_next}
-use Rattle.query_eval.proofs.Walking.{Reading, reading_end, reading_more, reading_start}
+use Rattle.query_eval.proofs.Hits.{told_all, told_hit, told_roots, told_start}
 use Rattle.query_eval.proofs.trees.tell.Goals as goal
 
 pub documents-init : goal.documents-init
 documents-init c =
-    let roots = c.args.roots.now in
+    let keys = at_roots c.args.roots.now (keys_at c.args.mapping.now c.args.joins.now c.args.side c.args.segment.now c.args.place) in
     let hits = c.args.hits.now in
     let from : c.cursor-left.result.from ≡ 0 = ap (λ (x : Standing). x.from) c.cursor-left.ensures in (
       ap (λ (x : Standing). x.scores) c.cursor-left.ensures,
       omega (arith, from),
-      omega (arith, from),
-      subst (λ n. Reading roots hits (of_roots roots hits) n 0) (sym from) (reading_start roots hits),
       refl,
       λ pairs was.
-          subst (λ (l : List (ℕ × ℕ)). AreTallies l c.args.tallies.now.items)
-          (sym (nil_append pairs) ∙ ap (λ (l : List (ℕ × ℕ)). pairs ++ l) (sym (nothing (keys_at c.args.mapping.now c.args.joins.now c.args.side c.args.segment.now c.args.place) (of_roots roots hits)))) was,
+          let none : told (take c.cursor-left.result.from keys) (take c.cursor-left.result.from hits) ≡ [] = ap (λ n. told (take n keys) (take n hits)) from ∙ told_start keys hits in
+          subst (λ (l : List (ℕ × ℕ)). AreTallies l c.args.tallies.now.items) (sym (nil_append pairs) ∙ ap (λ (l : List (ℕ × ℕ)). pairs ++ l) (sym none)) was,
     )
-  where
-    nothing : (keys scores : List (Option ℕ)) → told (take 0 keys) (take 0 scores) ≡ []
-    nothing [] scores = refl
-    nothing (x ∷ keys) scores = refl
 
 pub take_at-score-requires : goal.take_at-score-requires
 take_at-score-requires c =
     let long : length c.documents.left.scores ≡ length c.args.hits.now = ap length c.documents.invariant.0 in
     record {
-      ordered = omega (arith, c.in-Some.ensures.within.0, c.from.ensures.from);
-      within = omega (arith, long, c.requires.documents, c.in-Some.ensures.within.1);
-      numbered = omega (arith, long, c.requires.documents, c.next_set.ensures.numbered);
+      ordered = c.in-Some.ensures.within.0;
+      within = c.in-Some.ensures.within.1;
+      numbered = omega (arith, long, c.len-documents.ensures, c.len-documents.type_inv);
     }
+
+pub key_if-key-requires : goal.key_if-key-requires
+key_if-key-requires c = record {
+  document = omega (arith, c.in-Some.ensures.within.1, ap length c.documents.invariant.0, c.requires.documents);
+  roots = c.requires.roots;
+}
 
 pub tell_one-requires : goal.tell_one-requires
 tell_one-requires c = record {
-  key = c.key_if-key.ensures.within (length c.documents.tallies.items) (subst (HaveTallies c.args.joins.now c.args.side c.args.place) (sym c.documents.invariant.4) c.requires.keys);
+  key = c.key_if-key.ensures.within (length c.documents.tallies.items) (subst (HaveTallies c.args.joins.now c.args.side c.args.place) (sym c.documents.invariant.2) c.requires.keys);
   capped = c.take_at-score.ensures.capped;
 }
 
-pub overflow_add-root : goal.overflow_add-root
-overflow_add-root c = omega (arith, c.documents.invariant.2, c.in-Some.ensures.within.0, c.in-Some.ensures.within.1, c.from.ensures.from, c.next_set.ensures.numbered)
-
 pub documents-preserved : goal.documents-preserved
 documents-preserved c =
-    let roots = c.args.roots.now in
+    let keys = at_roots c.args.roots.now (keys_at c.args.mapping.now c.args.joins.now c.args.side c.args.segment.now c.args.place) in
     let hits = c.args.hits.now in
-    let scores = of_roots roots hits in
-    let keys = keys_at c.args.mapping.now c.args.joins.now c.args.side c.args.segment.now c.args.place in
     let from = c.documents.left.from in
     let doc = c.in-Some.doc in
-    let root = c.documents.root in
     let score = c.take_at-score.result in
+    let key = c.key_if-key.result in
     let tallies = c.tell_one.new.tallies.items in
-    let at : c.take_at-score.new.left.from ≡ doc + 1 = ap (λ (x : Standing). x.from) c.take_at-score.ensures.place in
-    let next : next_place is_marked from roots ≡ Some doc = ap (λ n. next_place is_marked n roots) (sym c.from.ensures.from) ∙ sym c.next_set.ensures.value ∙ c.in-Some.is in
+    let new = c.take_at-score.new.left.from in
+    let at : new ≡ doc + 1 = ap (λ (x : Standing). x.from) c.take_at-score.ensures.place in
+    let long : length c.documents.left.scores ≡ length hits = ap length c.documents.invariant.0 in
+    let next : next_place is_some from hits ≡ Some doc = ap (next_place is_some from) (sym c.documents.invariant.0) ∙ sym c.peek.ensures.value ∙ c.in-Some.is in
+    let first : IsFirst is_some from (drop from hits) doc = (c.places_are_nearest.ensures.next is_some from doc hits).0 next in
+    let below : doc < length hits = omega (arith, long, c.in-Some.ensures.within.1) in
     let own : score ≡ get_or hits doc None = c.take_at-score.ensures.value ∙ ap (λ (l : Scores). get_or l doc None) c.documents.invariant.0 in
-    let read = reading_more roots hits scores from root doc score c.documents.invariant.3 (sym c.requires.documents) next own in
-    let pair : pair_if c.key_if-key.result score ≡ pair_if (get_or keys root None) (get_or scores root None) = c.key_if-key.ensures.pair ∙ ap (pair_if (get_or keys root None)) read.own in (
+    let more : told (take new keys) (take new hits) ≡ told (take from keys) (take from hits) ++ pair_if key score =
+    ap (λ n. told (take n keys) (take n hits)) at ∙ told_hit keys hits from doc key score first below c.key_if-key.ensures.key own in (
       ap (λ (x : Standing). x.scores) c.take_at-score.ensures.place ∙ c.documents.invariant.0,
-      omega (arith, at, c.in-Some.ensures.within.1),
-      omega (arith, at, c.documents.invariant.2, c.in-Some.ensures.within.0, c.from.ensures.from),
-      subst (λ n. Reading roots hits scores n (root + 1)) (sym at) read.next,
-      c.in_ok-tell_one.ensures.long ∙ c.documents.invariant.4,
+      omega (arith, at, below),
+      c.in_ok-tell_one.ensures.long ∙ c.documents.invariant.2,
       λ pairs was.
           subst (λ (l : List (ℕ × ℕ)). AreTallies l tallies)
-          (append_assoc pairs (told (take root keys) (take root scores)) (pair_if c.key_if-key.result score)
-          ∙ ap (λ (l : List (ℕ × ℕ)). pairs ++ (told (take root keys) (take root scores) ++ l)) pair
-          ∙ ap (λ (l : List (ℕ × ℕ)). pairs ++ l) (sym (told_next keys scores root None read.below)))
-          (c.in_ok-tell_one.ensures.tallies (pairs ++ told (take root keys) (take root scores)) (c.documents.invariant.5 pairs was)),
+          (append_assoc pairs (told (take from keys) (take from hits)) (pair_if key score)
+          ∙ ap (λ (l : List (ℕ × ℕ)). pairs ++ l) (sym more))
+          (c.in_ok-tell_one.ensures.tallies (pairs ++ told (take from keys) (take from hits)) (c.documents.invariant.3 pairs was)),
     )
 
 pub documents-smaller : goal.documents-smaller
 documents-smaller c =
     let at : c.take_at-score.new.left.from ≡ c.in-Some.doc + 1 = ap (λ (x : Standing). x.from) c.take_at-score.ensures.place in
-    omega (arith, at, c.in-Some.ensures.within.0, c.in-Some.ensures.within.1, c.from.ensures.from)
+    omega (arith, at, ap length c.documents.invariant.0, c.in-Some.ensures.within.0, c.in-Some.ensures.within.1)
 
 pub returns-clause-long : goal.returns-clause-long
-returns-clause-long c = c.documents.invariant.4
+returns-clause-long c = c.documents.invariant.2
 
 pub returns-clause-tallies : goal.returns-clause-tallies
 returns-clause-tallies c = λ pairs was.
     let roots = c.args.roots.now in
-    let hits = c.args.hits.now in
-    let scores = of_roots roots hits in
     let keys = keys_at c.args.mapping.now c.args.joins.now c.args.side c.args.segment.now c.args.place in
+    let hits = c.args.hits.now in
     let from = c.documents.left.from in
-    let next : next_place is_marked from roots ≡ None = ap (λ n. next_place is_marked n roots) (sym c.from.ensures.from) ∙ sym c.next_set.ensures.value ∙ c.in_default.is in
-    let past : length scores ≤ c.documents.root = reading_end roots hits scores from c.documents.root c.documents.invariant.3 next in
-    subst (λ (l : List (ℕ × ℕ)). AreTallies (pairs ++ l) c.documents.tallies.items) (told_cut keys scores c.documents.root (omega (arith, past))) (c.documents.invariant.5 pairs was)
+    let next : next_place is_some from hits ≡ None = ap (next_place is_some from) (sym c.documents.invariant.0) ∙ sym c.peek.ensures.value ∙ c.in_default.is in
+    let fail : AllFail is_some (drop from hits) = (c.places_are_nearest.ensures.no_next is_some from hits).0 next in
+    subst (λ (l : List (ℕ × ℕ)). AreTallies (pairs ++ l) c.documents.tallies.items) (told_all (at_roots roots keys) hits from c.documents.invariant.1 fail ∙ sym (told_roots roots keys hits)) (c.documents.invariant.3 pairs was)
