@@ -15,7 +15,7 @@ use Rattle.mapping.specs.Mapping.{Mapping, IsAbove, kind_at}
 use Rattle.mapping_body.specs.declared.kind.Kind.{Kind}
 use Rattle.mapping_body.specs.declared.kind.Kind.TheVariants.{Text, Keyword, Long, Boolean, Date, Object as Plain, Nested as NestedKind, Join}
 use Rattle.query_ast.specs.Agg.{Agg}
-use Rattle.query_ast.specs.Buckets.{all_shown, bucket_of, bucket_replies, group_of, groups_of, has_value, number_if, ordered, several_of, single_of}
+use Rattle.query_ast.specs.Buckets.{all_shown, below_at, bucket_of, bucket_replies, group_of, groups_of, has_value, number_if, ordered, several_of, single_of}
 use Rattle.query_ast.specs.Clause.{Clause, is_among, leaf, match_all, on_field}
 use Rattle.query_ast.specs.Compare.{each_once, in_order, is_less, is_same_value, value_cmp}
 use Rattle.query_ast.specs.Agg.View.{agg_of}
@@ -43,7 +43,7 @@ use Rattle.tree_objects.specs.declared.field_value.FieldValue.{FieldValue}
 use Rattle.view_objects.specs.Hits.{live_objects}
 use Rattle.view_objects.specs.Values.{values_shown}
 use Rattle.bucket_aggs.specs.Counts.{AreCounts, AreKeys, count_in, flats_of_view, marked_count, rows_ordered}
-use Rattle.bucket_aggs.specs.Given.{AreReplies, HaveOwnNumbers, IsAnswer, as_ones, bucket_by, buckets_by, count_by_field, greatest_by, is_given, least_by, more_replies, objects_given, replies_by, reply_by, single_by, sum_by_field, value_by}
+use Rattle.bucket_aggs.specs.Given.{AreAll, AreInside, AreReplies, HaveOwnNumbers, IsAnswer, as_ones, bucket_by, buckets_by, count_by_field, greatest_by, is_given, least_by, more_replies, objects_given, replies_by, reply_by, single_by, sum_by_field, value_by}
 use Rattle.bucket_aggs.specs.Sums.{IsSummary, numbers_in, values_in}
 use Rattle.bucket_aggs.specs.declared.metrics.Summary.{Summary}
 use Rattle.bucket_aggs.specs.declared.rows.CountRow.{CountRow}
@@ -52,9 +52,9 @@ use Rattle.bucket_aggs.proofs.Groups.{first_buckets, other_counts}
 use Rattle.bucket_aggs.proofs.Joined.{children_are, parents_are}
 use Rattle.bucket_aggs.proofs.Keys.{same_back}
 use Rattle.bucket_aggs.proofs.Least.{greatest_is, least_is}
-use Rattle.bucket_aggs.proofs.Lists.{filter_same}
+use Rattle.bucket_aggs.proofs.Lists.{filter_all, filter_counted, filter_same}
 use Rattle.bucket_aggs.proofs.Sums.{all_told, sum_told}
-use Rattle.bucket_aggs.proofs.Handed.{Laws, down_are, filtered_are, up_are}
+use Rattle.bucket_aggs.proofs.Handed.{Laws, all_inside, down_are, filtered_are, up_are}
 use Rattle.bucket_aggs.proofs.Values.{value_exact, value_total}
 
 abbrev Given : Type 0
@@ -83,6 +83,41 @@ answer_of_ones m view n answer given value =
     (λ trees stand own. let live : List Tree = live_trees trees in
     ap (answer live) (filter_same (is_given (as_ones m given live)) (is_given (given live)) (λ o. ones_given m live (given live) o) (live_objects m n live)))
 
+-- ---- all objects of a scope
+
+abbrev pub one_each : Mapping → Given
+one_each m live o = score_by m (leaf match_all 1) live o
+
+pub ones_all : (m : Mapping) (live : List Tree) (o : Object) → is_given (one_each m live) o ≡ true
+unfolding leaf_holds
+ones_all m live o = refl
+
+-- as many are given something as there are
+pub all_counted : (m : Mapping) (view : List EntryState) (n : ℕ) (given : Given) (objects all : List Scores) → IsSeen m view n given objects → IsSeen m view n (one_each m) all → sum_by marked_count objects ≡ sum_by marked_count all → AreAll m view n given
+all_counted m view n given objects all seen ones same = record {
+  are = λ trees stand.
+      let live : List Tree = live_trees trees in
+      filter_counted (is_given (given live)) (live_objects m n live)
+      (sym (objects_count m view n given objects seen trees stand)
+      ∙ same
+      ∙ objects_count m view n (one_each m) all ones trees stand
+      ∙ ap length (filter_all (is_given (one_each m live)) (ones_all m live) (live_objects m n live)));
+}
+
+pub inside_all : (m : Mapping) (view : List EntryState) (n p : ℕ) (given : Given) (those : List Scores) → Laws m → IsAbove m n p → AreAll m view n given → IsSeen m view p (one_each m) those → AreInside m view n p given those
+inside_all m view n p given those laws above all seen = record {
+  inner = one_each m;
+  seen = seen;
+  are = λ trees stand. let live : List Tree = live_trees trees in all_inside m laws n p above (given live) live (one_each m live) (all.are trees stand) (ones_all m live);
+}
+
+pub inside_some : (m : Mapping) (view : List EntryState) (n p : ℕ) (given : Given) (those : List Scores) → Laws m → IsAbove m n p → IsSeen m view p (around_by n given) those → AreInside m view n p given those
+inside_some m view n p given those laws above seen = record {
+  inner = around_by n given;
+  seen = seen;
+  are = λ trees stand. let live : List Tree = live_trees trees in down_are m laws n p above (given live) live;
+}
+
 -- ---- one bucket
 
 pub single_is : (m : Mapping) (view : List EntryState) (n : ℕ) (ds : Definitions Agg) (given : Given) (objects : List Scores) (count : ℕ) (parts : List ReplyPart) → IsSeen m view n given objects → count ≡ sum_by marked_count objects → AreReplies m view n ds given parts
@@ -100,10 +135,11 @@ module _ (m : Mapping) (view : List EntryState) (ds : Definitions Agg) (given : 
       answer_same m view n n (single_by m ds) (value_by m (Filter c) ds) (paired_by KeptRule given (score_by m c)) given value
       (λ trees stand own. let live : List Tree = live_trees trees in ap (single_of (bucket_replies m live ds)) (filtered_are m n live c (given live)))
 
-  pub nested_is : (n p : ℕ) → Laws m → IsAbove m n p → IsAnswer m view p (single_by m ds) (around_by n given) value → IsAnswer m view n (value_by m (Nested p) ds) given value
-  nested_is n p laws above =
-      answer_same m view p n (single_by m ds) (value_by m (Nested p) ds) (around_by n given) given value
-      (λ trees stand own. let live : List Tree = live_trees trees in ap (single_of (bucket_replies m live ds)) (down_are m laws n p above (given live) live))
+  pub nested_is : (n p : ℕ) (inner : Given) → ((trees : List Trees) → ViewStandsFor m view trees → objects_given m p (live_trees trees) (inner (live_trees trees)) ≡ flat_map (below_at m p) (objects_given m n (live_trees trees) (given (live_trees trees))))
+      → IsAnswer m view p (single_by m ds) inner value → IsAnswer m view n (value_by m (Nested p) ds) given value
+  nested_is n p inner inside =
+      answer_same m view p n (single_by m ds) (value_by m (Nested p) ds) inner given value
+      (λ trees stand own. ap (single_of (bucket_replies m (live_trees trees) ds)) (inside trees stand))
 
   pub reverse_is : (n p : ℕ) → Laws m → IsAbove m p n → IsAnswer m view p (single_by m ds) (below_by m (mode_of Max) n given) value → IsAnswer m view n (value_by m (ReverseNested p) ds) given value
   reverse_is n p laws above =

@@ -17,7 +17,7 @@ use Rattle.tree_objects.specs.Object.{Object, around, below, block_objects, plac
 use Rattle.tree_objects.specs.Tree.{Tree}
 use Rattle.view_objects.specs.Hits.{live_objects}
 use Rattle.bucket_aggs.specs.Given.{HaveOwnNumbers, is_given, objects_given}
-use Rattle.bucket_aggs.proofs.Lists.{Each, by_test, each_as, each_kept, each_passes, filter_flat, filter_same, filter_twice, filter_whole, flat_flat, map_flat}
+use Rattle.bucket_aggs.proofs.Lists.{Each, by_test, each_as, each_kept, each_passes, filter_all, filter_flat, filter_same, filter_twice, filter_whole, flat_flat, map_flat}
 use Rattle.bucket_aggs.proofs.Apart.{Apart, apart_append, apart_by, apart_kept, other_number, other_place, runs_once, same_itself, some_in}
 
 -- ---- filters
@@ -88,6 +88,10 @@ module _ (m : Mapping) (laws : Laws m) where
 
     pub down_are : (live : List Tree) → objects_given m p live (handed n given) ≡ flat_map (below_at m p) (objects_given m n live given)
     down_are live = ap (filter (is_given (handed n given))) (live_parted n p live above) ∙ inside_all (live_objects m n live) (live_stand n live)
+
+    -- inside all of them are all of the path
+    pub all_inside : (live : List Tree) (inner : Object → Option ℕ) → objects_given m n live given ≡ live_objects m n live → ((o : Object) → is_given inner o ≡ true) → objects_given m p live inner ≡ flat_map (below_at m p) (objects_given m n live given)
+    all_inside live inner all every = filter_all (is_given inner) every (live_objects m p live) ∙ live_parted n p live above ∙ ap (flat_map (below_at m p)) (sym all)
 
   -- ---- up
 

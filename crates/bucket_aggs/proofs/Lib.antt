@@ -14,6 +14,7 @@ pub mod Termed
 pub mod Placed
 pub mod Viewed
 pub mod Groups
+pub mod Told
 pub mod Sums
 pub mod Least
 pub mod Formed

@@ -1,5 +1,5 @@
 -- Lists that are filtered and put together.
-use Rattle.std.proofs.Common.{◌≡◌, ℕ, zero, suc, ◌+◌, ◌<◌, Bool, true, false, ◌&&◌, ◌||◌, cond, List, [], ◌∷◌, ◌++◌, length, map, filter, get_or, refl, sym, ap, ◌∙◌, arith}
+use Rattle.std.proofs.Common.{◌≡◌, ℕ, zero, suc, ◌+◌, ◌<◌, ◌≤◌, Bool, true, false, ◌&&◌, ◌||◌, cond, List, [], ◌∷◌, ◌++◌, length, map, filter, get_or, refl, sym, ap, ◌∙◌, arith}
 use Rattle.std.specs.List.{AllByRecursion, flat_map, list_any}
 use Rattle.std.proofs.lemmas.List.Elements.{filter-append}
 
@@ -71,6 +71,24 @@ module _ {A : Type 0} where
   filter_whole p false [] h = refl
   filter_whole p true (x ∷ xs) h = rw h.0 (ap (λ zs. x ∷ zs) (filter_whole p true xs h.1))
   filter_whole p false (x ∷ xs) h = rw h.0 (filter_whole p false xs h.1)
+
+  pub filter_all : (p : A → Bool) → ((x : A) → p x ≡ true) → (xs : List A) → filter p xs ≡ xs
+  filter_all p all xs = filter_whole p true xs (each_of_all (λ (x : A). p x ≡ true) all xs)
+
+  filter_fewer : (p : A → Bool) (xs : List A) → length (filter p xs) ≤ length xs
+  filter_fewer p [] = omega arith
+  filter_fewer p (x ∷ xs) =
+      by_test (p x) (λ held. rw held (omega (arith, filter_fewer p xs))) (λ failed. rw failed (omega (arith, filter_fewer p xs)))
+
+  -- where as many pass as there are, all do
+  pub filter_counted : (p : A → Bool) (xs : List A) → length (filter p xs) ≡ length xs → filter p xs ≡ xs
+  filter_counted p [] same = refl
+  filter_counted p (x ∷ xs) same =
+      by_test (p x)
+      (λ held.
+      let own : suc (length (filter p xs)) ≡ suc (length xs) = rw held at same in
+      rw held (ap (λ (l : List A). x ∷ l) (filter_counted p xs (omega (arith, own)))))
+      (λ failed. absurd (let own : length (filter p xs) ≡ suc (length xs) = rw failed at same in omega (arith, own, filter_fewer p xs)))
 
   pub any_same : (p q : A → Bool) → ((x : A) → p x ≡ q x) → (xs : List A) → list_any p xs ≡ list_any q xs
   any_same p q same [] = refl

@@ -1,21 +1,25 @@
 -- The buckets of a search, over the roots of live trees.
-use Rattle.std.proofs.Common.{◌≡◌, ◌≢◌, ℕ, zero, suc, ◌<◌, Bool, true, false, ◌||◌, List, [], ◌∷◌, filter, length, get_or, refl, ap, ◌∙◌, arith}
+use Rattle.std.proofs.Common.{◌≡◌, ◌≢◌, ℕ, zero, suc, ◌<◌, Bool, true, false, ◌||◌, List, [], ◌∷◌, filter, length, get_or, sum_by, Option, refl, ap, ◌∙◌, arith}
 use Rattle.std.specs.List.{list_any}
 use Rattle.flattener.specs.StandsFor.{Marked, ViewStandsFor}
 use Rattle.mapping.specs.Mapping.{Mapping}
 use Rattle.query_ast.specs.Buckets.{bucket_replies}
+use Rattle.query_ast.specs.Clause.{Clause}
 use Rattle.query_ast.specs.Definition.{definitions_of}
+use Rattle.query_ast.specs.Hit.{those_hit}
 use Rattle.query_ast.specs.Joined.{roots}
 use Rattle.query_ast.specs.Joins.{joins, search_joins, some_agg_joins, some_inner_joins, sort_joins}
 use Rattle.query_ast.specs.Replies.{ReplyPart}
 use Rattle.query_ast.specs.Search.{found_buckets}
 use Rattle.query_ast.specs.declared.search.SearchBody.{SearchBody}
-use Rattle.query_eval.specs.Found.{live_trees, score_by}
+use Rattle.query_eval.specs.Found.{IsFound, live_trees, score_by}
 use Rattle.segment.specs.Live.{EntryState}
 use Rattle.tree_objects.specs.Object.{Object}
 use Rattle.tree_objects.specs.Tree.{ComesFirst, IsLiveList, Tree}
 use Rattle.view_objects.specs.Hits.{live_objects}
+use Rattle.bucket_aggs.specs.Counts.{marked_count}
 use Rattle.bucket_aggs.specs.Given.{AreReplies, HaveOwnNumbers, is_given}
+use Rattle.bucket_aggs.proofs.Documents.{objects_count}
 
 -- ---- live trees have numbers of their own
 
@@ -53,3 +57,12 @@ unfolding found_buckets
 found_are m view search parts at_roots answered trees stand live =
     answered.is trees stand (own_numbers (live_trees trees) live)
     ∙ ap (λ (os : List Object). bucket_replies m (live_trees trees) (definitions_of search.aggs) (filter (is_given (score_by m search.query (live_trees trees))) os)) (at_roots (live_trees trees))
+
+-- ---- how many roots the query hits
+
+pub hits_counted : (m : Mapping) (view : List EntryState) (query : Clause) (hits : List (List (Option ℕ))) (count : ℕ) → ((trees : List Tree) → live_objects m 0 trees ≡ roots trees) → IsFound m view 0 query hits
+    → (trees : List (List (Marked Tree))) → ViewStandsFor m view trees → count ≡ sum_by marked_count hits → count ≡ length (those_hit m (live_trees trees) query (roots (live_trees trees)))
+hits_counted m view query hits count at_roots found trees stand counted =
+    counted
+    ∙ objects_count m view 0 (score_by m query) hits found trees stand
+    ∙ ap (λ (os : List Object). length (filter (is_given (score_by m query (live_trees trees))) os)) (at_roots (live_trees trees))

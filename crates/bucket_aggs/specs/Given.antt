@@ -1,18 +1,18 @@
 -- Buckets over the objects of one scope that the documents of a view stand for: those at which a document has a score.
 use Rattle.std.specs.Prelude.{◌≡◌, ◌≢◌, ℕ, ℤ, pos, Bool, List, ◌++◌, filter, length, map, Option, Some, is_some}
 use Rattle.std.specs.Int.{saturate_signed, w64}
-use Rattle.std.specs.List.{AllPairs}
+use Rattle.std.specs.List.{AllPairs, flat_map}
 use Rattle.flattener.specs.StandsFor.{Marked, ViewStandsFor}
 use Rattle.mapping.specs.Mapping.{Mapping}
 use Rattle.query_ast.specs.Agg.{Agg}
-use Rattle.query_ast.specs.Buckets.{all_shown, bucket_replies, bucket_reply, has_value, number_if, single_of, value_over}
+use Rattle.query_ast.specs.Buckets.{all_shown, below_at, bucket_replies, bucket_reply, has_value, number_if, single_of, value_over}
 use Rattle.query_ast.specs.Definition.{Definition, Definitions}
 use Rattle.query_ast.specs.Replies.{BucketPart, ReplyPart, ReplyValue, replies_of}
 use Rattle.query_ast.specs.SortKey.{greatest_value, least_value, total}
 use Rattle.query_ast.specs.declared.agg.AggForm.{AggForm}
 use Rattle.query_ast.specs.Clause.{leaf, match_all}
 use Rattle.query_eval.specs.Folds.{paired_by}
-use Rattle.query_eval.specs.Found.{live_trees, score_by}
+use Rattle.query_eval.specs.Found.{IsSeen, live_trees, score_by}
 use Rattle.block_join.specs.declared.rule.Rule.TheVariants.{Kept}
 use Rattle.segment.specs.Live.{EntryState}
 use Rattle.tree_objects.specs.Object.{Object}
@@ -82,3 +82,13 @@ count_by_field m field live objects = pos (length (all_shown m field objects))
 -- the same objects, all with one score
 abbrev pub as_ones : Mapping → (List Tree → Object → Option ℕ) → List Tree → Object → Option ℕ
 as_ones m given = paired_by Kept (score_by m (leaf match_all 1)) given
+
+-- they are given to all live objects of the scope
+pub record AreAll (m : Mapping) (view : List EntryState) (n : ℕ) (given : List Tree → Object → Option ℕ) : Type 0 where
+  pub are : (trees : List (List (Marked Tree))) → ViewStandsFor m view trees → objects_given m n (live_trees trees) (given (live_trees trees)) ≡ live_objects m n (live_trees trees)
+
+-- these are the objects of a path inside those of a scope that are given something
+pub record AreInside (m : Mapping) (view : List EntryState) (n p : ℕ) (given : List Tree → Object → Option ℕ) (those : List (List (Option ℕ))) : Type 0 where
+  pub inner : List Tree → Object → Option ℕ
+  pub seen : IsSeen m view p inner those
+  pub are : (trees : List (List (Marked Tree))) → ViewStandsFor m view trees → objects_given m p (live_trees trees) (inner (live_trees trees)) ≡ flat_map (below_at m p) (objects_given m n (live_trees trees) (given (live_trees trees)))

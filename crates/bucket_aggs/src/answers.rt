@@ -19,7 +19,7 @@ ghost use Rattle.bucket_aggs.specs.Given.{AreReplies, IsAnswer, bucket_by, bucke
 
 use crate::NoMemory;
 use crate::metrics::{summed, value_count};
-use crate::objects::{alike, count_of, filtered};
+use crate::objects::{alike, count_of, filtered, inside_of};
 use crate::rows::{CountRow, copied, ordered, sum_of_counts};
 use crate::terms::counted;
 use block_join::Matches;
@@ -28,7 +28,7 @@ use mapping::Mapping;
 use query_ast::{
     AggDef, AggForm, AggList, AggReplies, AggReply, AggValue, Bucket, BucketList, Query, QueryBox,
 };
-use query_eval::{downs, ups, with_children, with_parent_by};
+use query_eval::{ups, with_children, with_parent_by};
 use score_math::ScoreMode;
 use segment_view::{Entry, View};
 use source_steps::Steps;
@@ -262,10 +262,7 @@ fn inside(
     requires long { AreLong entries.now objects.now }
     ensures { (given : List Tree → Object → Option ℕ) → IsSeen mapping.now entries.now scope given objects.now → IfOk result (λ value. IsAnswer mapping.now entries.now scope (value_by mapping.now (AggForm.Nested path) (definitions_of inner.now)) given (value_of value)) }
 {
-    objects_nest();
-    objects_are_parted();
-    let _scopes = mapping.scope_count();
-    let those = downs(alloc, entries, objects, scope, path)?;
+    let those = inside_of(alloc, entries, mapping, ordinals, scope, path, objects)?;
     Ok(single(alloc, entries, mapping, ordinals, inner, path, &those)?)
 }
 

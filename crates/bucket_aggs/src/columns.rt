@@ -11,11 +11,16 @@ ghost use Rattle.bucket_aggs.specs.Counts.{Counted};
 use crate::NoMemory;
 use crate::distinct::is_again;
 use block_bits::BitSet;
-use doc_values::{OrdinalColumn, Values};
+use doc_values::{Column, ColumnValue, OrdinalColumn, Values};
 use mapping::Kind;
 
 /// How many rows of a column there may be for each document of a set where all rows are walked over.
 const ROWS_EACH: u32 = 8;
+
+/// Whether a set has so many of a column's documents that its rows are walked over.
+pub(crate) fn has_most<T: ColumnValue>(set: &BitSet, column: &Column<T>) -> bool {
+    column.rows() / ROWS_EACH < set.count()
+}
 
 /// Adds the documents of a set to the counts of the ordinals that they have; the first count is that of the ordinal `first`.
 ///
@@ -28,7 +33,7 @@ pub(crate) fn count_ordinals(
 ) -> Result<(), NoMemory>
     ensures { OnOk result (Counted first (map (λ doc. values_of doc column.now) (marked_places 0 set.now)) counts.old.items counts.new.items) }
 {
-    if column.rows() / ROWS_EACH < set.count() {
+    if has_most(set, column) {
         count_rows(set, column, first, counts)
     } else {
         count_documents(set, column, first, counts)
@@ -82,7 +87,7 @@ pub(crate) fn is_text(kind: Kind) -> bool
 }
 
 /// Whether a document is in a set; one that isn't there is in none.
-fn is_in(set: &BitSet, doc: u32) -> bool
+pub(crate) fn is_in(set: &BitSet, doc: u32) -> bool
     ensures { result ≡ slice_index_or set.now doc false }
 {
     doc < set.len() && set.has(doc)

@@ -1,8 +1,11 @@
 //! The buckets of a search.
 
-ghost use Rattle.std.specs.Prelude.{◌≡◌, List, true, IfOk};
+ghost use Rattle.std.specs.Prelude.{◌≡◌, List, length, true, IfOk};
 ghost use Rattle.flattener.specs.StandsFor.{Marked, ViewStandsFor};
 ghost use Rattle.join_ordinals.specs.Ordinals.{AreOrdinals};
+ghost use Rattle.query_ast.specs.Clause.{Clause};
+ghost use Rattle.query_ast.specs.Hit.{those_hit};
+ghost use Rattle.query_ast.specs.Joined.{roots};
 ghost use Rattle.query_ast.specs.Joins.{search_joins};
 ghost use Rattle.query_ast.specs.Resolved.{IsSearch};
 ghost use Rattle.query_ast.specs.Search.{found_buckets};
@@ -11,6 +14,7 @@ ghost use Rattle.tree_objects.specs.Tree.{IsLiveList, Tree};
 
 use crate::NoMemory;
 use crate::answers::buckets;
+use crate::objects::count_of;
 use block_join::Matches;
 use join_ordinals::JoinOrdinals;
 use mapping::Mapping;
@@ -43,4 +47,14 @@ pub fn found_buckets<L: Ledger>(
     hits_are_objects();
     let _scopes = mapping.scope_count();
     Ok(buckets(alloc, view, mapping, ordinals, hits, 0, &search.aggs, steps)?)
+}
+
+/// How many trees a query hits, whose hits at roots these are. It costs the bits of the hits, 64 documents at a time.
+pub fn found_count(_view: &View, mapping: &Mapping, hits: &Matches) -> Result<u64, NoMemory>
+    ensures { (query : Clause) (trees : List (List (Marked Tree))) → IsFound mapping.now _view.now 0 query hits.now → ViewStandsFor mapping.now _view.now trees
+        → IfOk result (λ count. count ≡ length (those_hit mapping.now (live_trees trees) query (roots (live_trees trees)))) }
+{
+    hits_are_objects();
+    let _scopes = mapping.scope_count();
+    Ok(count_of(hits)?)
 }

@@ -2,7 +2,7 @@
 //!
 //! Stands on `query_eval` for filters and for the ways up, down and across, and on `segment` for the values of documents. The
 //! objects are those of one scope that the documents of a view stand for, a set of bits for each entry. The contract that
-//! others use is that of `found_buckets`, the answers over all that a search found. Begin with `specs/Given`, then `answers`.
+//! others use is that of `found_buckets`, the answers over all that a search found; `found_count` says how many they are. Begin with `specs/Given`, then `answers`.
 #![tactic(auto)]
 
 mod answers;
@@ -16,5 +16,5 @@ mod rows;
 mod terms;
 
 pub use answers::buckets;
-pub use found::found_buckets;
+pub use found::{found_buckets, found_count};
 pub use no_memory::NoMemory;

@@ -11,7 +11,7 @@ ghost use Rattle.bucket_aggs.specs.Counts.{flats_of_view};
 ghost use Rattle.bucket_aggs.specs.Sums.{IsSummary, above, below, first_of, numbers_in, values_in};
 
 use crate::NoMemory;
-use crate::columns::is_text;
+use crate::columns::{has_most, is_in, is_text};
 use block_bits::BitSet;
 use block_join::Matches;
 use doc_values::{Column, ColumnValue, NumberColumn, Values};
@@ -119,7 +119,32 @@ fn add_numbers(
 }
 
 /// Adds the numbers that the documents of a set have in a column.
+///
+/// Where the set has most documents of the column its rows are walked over, else each document's row is looked for.
 fn add_documents(set: &BitSet, column: &NumberColumn, sums: &mut Summary) -> Result<(), NoMemory>
+    ensures { (zs : List ℤ) → IsSummary zs sums.old → OnOk result (IsSummary (zs ++ flat_map (λ doc. values_of doc column.now) (marked_places 0 set.now)) sums.new) }
+{
+    if has_most(set, column) {
+        add_rows(set, column, sums)
+    } else {
+        add_each(set, column, sums)
+    }
+}
+
+/// The same, row by row.
+fn add_rows(set: &BitSet, column: &NumberColumn, sums: &mut Summary) -> Result<(), NoMemory>
+    ensures { (zs : List ℤ) → IsSummary zs sums.old → OnOk result (IsSummary (zs ++ flat_map (λ doc. values_of doc column.now) (marked_places 0 set.now)) sums.new) }
+{
+    'rows: for row in 0..column.rows() {
+        if is_in(set, column.doc(row)) {
+            add_values(column.row_values(row), sums)?;
+        }
+    }
+    Ok(())
+}
+
+/// The same, document by document.
+fn add_each(set: &BitSet, column: &NumberColumn, sums: &mut Summary) -> Result<(), NoMemory>
     ensures { (zs : List ℤ) → IsSummary zs sums.old → OnOk result (IsSummary (zs ++ flat_map (λ doc. values_of doc column.now) (marked_places 0 set.now)) sums.new) }
 {
     let mut walk = set.walk();

@@ -3,13 +3,15 @@
 ghost use Rattle.std.specs.Prelude.{◌≡◌, ℕ, true, List, Option, sum_by, IfOk};
 ghost use Rattle.block_join.specs.declared.rule.Rule.{Rule};
 ghost use Rattle.bucket_aggs.specs.Counts.{marked_count};
-ghost use Rattle.bucket_aggs.specs.Given.{as_ones};
+ghost use Rattle.bucket_aggs.specs.Given.{AreAll, AreInside, as_ones};
 ghost use Rattle.join_ordinals.specs.Ordinals.{AreOrdinals};
+ghost use Rattle.mapping.specs.Mapping.{IsAbove};
+ghost use Rattle.query_ast.specs.Clause.{leaf, match_all};
 ghost use Rattle.query_ast.specs.Clause.View.{clause_of};
 ghost use Rattle.query_ast.specs.Joins.{joins};
 ghost use Rattle.query_ast.specs.Resolved.{IsResolved};
 ghost use Rattle.query_eval.specs.Folds.{paired_by};
-ghost use Rattle.query_eval.specs.Found.{AreLong, IsSeen, score_by};
+ghost use Rattle.query_eval.specs.Found.{AreLong, IsFound, IsSeen, score_by};
 ghost use Rattle.tree_objects.specs.Object.{Object};
 ghost use Rattle.tree_objects.specs.Tree.{Tree};
 
@@ -18,9 +20,11 @@ use block_join::{Matches, Rule};
 use join_ordinals::JoinOrdinals;
 use mapping::Mapping;
 use query_ast::Query;
-use query_eval::{found, merged_hits};
+use query_eval::{downs, found, merged_hits};
 use segment_view::Entry;
 use std::alloc::Global;
+use tree_joins::objects_are_parted;
+use tree_objects::objects_nest;
 
 /// The same documents, all with one score: a set of bits for each entry.
 pub(crate) fn alike(
@@ -35,15 +39,69 @@ pub(crate) fn alike(
     ensures long { IfOk result (AreLong entries.now) }
     ensures seen { (given : List Tree → Object → Option ℕ) → IsSeen mapping.now entries.now scope given hits.now → IfOk result (IsSeen mapping.now entries.now scope (as_ones mapping.now given)) }
 {
-    let all = found(
+    let all = every(alloc, entries, mapping, ordinals, scope)?;
+    Ok(merged_hits(alloc, entries, &all, hits, Rule::Kept)?)
+}
+
+/// All live objects of a scope, each with the score 1.
+fn every(
+    alloc: Global,
+    entries: &[Entry],
+    mapping: &Mapping,
+    ordinals: &JoinOrdinals,
+    scope: u32,
+) -> Result<Matches, NoMemory>
+    ensures { IfOk result (IsFound mapping.now entries.now scope (leaf match_all 1)) }
+{
+    Ok(found(
         alloc,
         entries,
         mapping,
         ordinals,
         &Query::MatchAll { boost: 1 },
         scope,
-    )?;
-    Ok(merged_hits(alloc, entries, &all, hits, Rule::Kept)?)
+    )?)
+}
+
+/// Whether these are all live objects of the scope: then there are as many.
+fn are_all(
+    alloc: Global,
+    entries: &[Entry],
+    mapping: &Mapping,
+    ordinals: &JoinOrdinals,
+    scope: u32,
+    objects: &Matches,
+) -> Result<bool, NoMemory>
+    ensures { (given : List Tree → Object → Option ℕ) → IsSeen mapping.now entries.now scope given objects.now → IfOk result (λ all. all ≡ true → AreAll mapping.now entries.now scope given) }
+{
+    let all = every(alloc, entries, mapping, ordinals, scope)?;
+    let count = count_of(objects)?;
+    Ok(count == count_of(&all)?)
+}
+
+/// The objects of a path inside these. Inside all live objects of a scope these are all of the path.
+pub(crate) fn inside_of(
+    alloc: Global,
+    entries: &[Entry],
+    mapping: &Mapping,
+    ordinals: &JoinOrdinals,
+    scope: u32,
+    path: u32,
+    objects: &Matches,
+) -> Result<Matches, NoMemory>
+    requires path { IsAbove mapping.now scope path }
+    requires long { AreLong entries.now objects.now }
+    ensures long { IfOk result (AreLong entries.now) }
+    ensures inside { (given : List Tree → Object → Option ℕ) → IsSeen mapping.now entries.now scope given objects.now → IfOk result (AreInside mapping.now entries.now scope path given) }
+{
+    objects_nest();
+    objects_are_parted();
+    let _scopes = mapping.scope_count();
+    if are_all(alloc, entries, mapping, ordinals, scope, objects)? {
+        Ok(every(alloc, entries, mapping, ordinals, path)?)
+    } else {
+        Ok(downs(alloc, entries, objects, scope, path)?)
+    }
 }
 
 /// Of the objects those that hit.

@@ -21,7 +21,7 @@ use Rattle.query_ast.specs.declared.agg.AggForm.TheVariants.{Children, Parent, T
 use Rattle.query_ast.specs.declared.bucket.Bucket.{Bucket}
 use Rattle.query_eval.specs.Folds.{paired_by}
 use Rattle.query_eval.specs.Found.{IsSeen, score_by}
-use Rattle.query_eval.specs.Nested.{around_by, below_by}
+use Rattle.query_eval.specs.Nested.{below_by}
 use Rattle.query_eval.specs.Sides.{by_relation, children_by}
 use Rattle.score_math.specs.Scores.{mode_of}
 use Rattle.score_math.specs.declared.score.ScoreMode.TheVariants.{Max}
@@ -45,16 +45,8 @@ hitting-returns t c = λ given is.
 
 pub inside-returns : goal.inside-returns
 inside-returns t c = λ given is.
-    let m = c.args.mapping.now in
-    let known = c.scope_count-scopes.ensures.is_mapping in
-    let laws : Laws m = record {
-      parted = λ n p tree above. c.objects_are_parted.ensures.parted m n p tree known above;
-      around = λ o p above. c.objects_are_parted.ensures.around m o p known above;
-      tree = λ tree. c.objects_are_parted.ensures.tree m tree known;
-      places = λ tree i j o less low. c.objects_nest.ensures.places m tree i j o known less low;
-    } in
-    nested_is m c.args.entries.now (definitions_of c.args.inner.now) given (value_of c.in_ok-single.field-0) c.args.scope c.args.path laws c.requires.path
-    (c.in_ok-single.ensures (around_by c.args.scope given) (c.in_ok-those.ensures.seen m given c.requires.path is))
+    let those = c.in_ok-those.ensures.inside given is in
+    nested_is c.args.mapping.now c.args.entries.now (definitions_of c.args.inner.now) given (value_of c.in_ok-single.field-0) c.args.scope c.args.path those.inner those.are (c.in_ok-single.ensures those.inner those.seen)
 
 pub around-returns : goal.around-returns
 around-returns t c = λ given is.

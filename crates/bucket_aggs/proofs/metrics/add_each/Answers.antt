@@ -6,7 +6,7 @@ use Rattle.block_bits.specs.Walks.{Walking}
 use Rattle.doc_values.specs.Values.{values_of}
 use Rattle.bucket_aggs.specs.Sums.{IsSummary}
 use Rattle.bucket_aggs.proofs.Documents.{gathered_end, gathered_on, left_of}
-use Rattle.bucket_aggs.proofs.metrics.add_documents.Goals as goal
+use Rattle.bucket_aggs.proofs.metrics.add_each.Goals as goal
 
 pub documents-preserved : goal.documents-preserved
 documents-preserved c =

@@ -3,7 +3,7 @@ use Rattle.std.specs.List.{flat_map}
 use Rattle.doc_values.specs.Values.{values_of}
 use Rattle.bucket_aggs.specs.Sums.{IsSummary}
 use Rattle.bucket_aggs.proofs.Documents.{left_of}
-use Rattle.bucket_aggs.proofs.metrics.add_documents.Given as goal
+use Rattle.bucket_aggs.proofs.metrics.add_each.Given as goal
 
 abbrev pub invariant-documents : goal.invariant-documents
 invariant-documents l =

@@ -1,0 +1,8 @@
+use Rattle.query_eval.specs.Found.{live_trees, score_by}
+use Rattle.bucket_aggs.proofs.Rooted.{hits_counted}
+use Rattle.bucket_aggs.proofs.found.found_count.Goals as goal
+
+pub returns : goal.returns
+returns c = λ query trees found stand.
+    let m = c.args.mapping.now in
+    hits_counted m c.args._view.now query c.args.hits.now c.in_ok-count_of.field-0 (λ all. c.hits_are_objects.ensures.roots m all c.scope_count-scopes.ensures.is_mapping) found trees stand c.in_ok-count_of.ensures

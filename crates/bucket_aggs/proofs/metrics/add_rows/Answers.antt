@@ -1,0 +1,47 @@
+use Rattle.std.proofs.Common.{◌≡◌, ◌<◌, ◌+◌, ◌++◌, ℤ, Bool, true, false, cond, List, [], length, get_or, drop, sym, ap, subst, ◌∙◌, arith, append_assoc}
+use Rattle.std.specs.List.{flat_map}
+use Rattle.doc_values.specs.Values.{values_of}
+use Rattle.segment_parts.specs.Text.{marked_places}
+use Rattle.bucket_aggs.specs.Sums.{IsSummary}
+use Rattle.bucket_aggs.specs.declared.metrics.Summary.{Summary}
+use Rattle.bucket_aggs.proofs.Documents.{nothing_behind}
+use Rattle.bucket_aggs.proofs.Told.{rows_told, told, told_end, told_next, told_skip}
+use Rattle.bucket_aggs.proofs.metrics.add_rows.Goals.{then-is_in+in_ok-add_values, else-is_in}
+use Rattle.bucket_aggs.proofs.metrics.add_rows.Goals as goal
+
+pub rows-preserved : goal.rows-preserved
+rows-preserved c =
+    let low : c.rows.row < length c.args.column.now = omega (arith, c.rows-test.true, c.rows-row-end.ensures.count) in
+    let rest : List ℤ = flat_map (told c.args.set.now 0) (drop (c.rows.row + 1) c.args.column.now) in
+    elim c.if-is_in.branch [
+      | then-is_in+in_ok-add_values w ↦
+          λ zs is.
+          let was = c.rows.invariant zs is in
+          let held : get_or c.args.set.now c.doc.result false ≡ true = sym c.is_in.ensures ∙ w.if-is_in.true in
+          let step : flat_map (told c.args.set.now 0) (drop c.rows.row c.args.column.now) ≡ w.row_values.result ++ rest =
+          told_next c.args.set.now c.args.column.now c.rows.row c.doc.result w.row_values.result low c.doc.ensures w.row_values.ensures
+          ∙ ap (λ (b : Bool). cond b w.row_values.result [] ++ rest) held in (
+            was.0 ++ w.row_values.result,
+            subst (λ (s : Summary). IsSummary (zs ++ (was.0 ++ w.row_values.result)) s) (sym w.sums-is)
+                (subst (λ (l : List ℤ). IsSummary l w.add_values.new.sums) (append_assoc zs was.0 w.row_values.result) (w.in_ok-add_values.ensures (zs ++ was.0) was.1)),
+            append_assoc was.0 w.row_values.result rest ∙ ap (λ (l : List ℤ). was.0 ++ l) (sym step) ∙ was.2,
+          )
+      | else-is_in w ↦
+          λ zs is.
+          let was = c.rows.invariant zs is in
+          let failed : get_or c.args.set.now c.doc.result false ≡ false = sym c.is_in.ensures ∙ w.if-is_in.false in (
+            was.0,
+            subst (λ (s : Summary). IsSummary (zs ++ was.0) s) (sym w.sums-is) was.1,
+            ap (λ (l : List ℤ). was.0 ++ l) (sym (told_skip c.args.set.now c.args.column.now c.rows.row c.doc.result low c.doc.ensures failed)) ∙ was.2,
+          )
+    ]
+
+pub returns : goal.returns
+returns c = λ zs is.
+    let was = c.rows.invariant zs is in
+    let all : List ℤ = flat_map (told c.args.set.now 0) c.args.column.now in
+    let done : was.0 ≡ all =
+    nothing_behind was.0
+    ∙ ap (λ (l : List ℤ). was.0 ++ l) (sym (told_end c.args.set.now c.args.column.now c.rows.row (omega (arith, c.rows-test.false, c.rows-row-end.ensures.count))))
+    ∙ was.2 in
+    subst (λ (l : List ℤ). IsSummary (zs ++ l) c.rows.sums) (done ∙ sym (rows_told c.args.set.now c.args.column.now c.rows-row-end.ensures.ascending)) was.1
