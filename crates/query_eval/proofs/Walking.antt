@@ -35,6 +35,7 @@ next_root start (false ∷ flags) doc is =
       below = omega (arith, rest.below);
       given = λ scores. ap (λ (l : Scores). None ∷ l) (rest.given scores);
     }
+
 none_given : (start : ℕ) (flags : List Bool) (scores : Scores) → position_from is_marked start flags ≡ None → at_roots flags scores ≡ replicate (length flags) None
 none_given start [] scores is = refl
 none_given start (true ∷ flags) scores is = absurd (let no : ⊥ = cc in no)
