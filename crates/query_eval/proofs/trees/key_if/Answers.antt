@@ -8,13 +8,13 @@ use Rattle.query_eval.proofs.trees.key_if.Goals as goal
 pub root_of_doc-requires : goal.root_of_doc-requires
 root_of_doc-requires c = omega (arith, c.requires.document, ap length c.requires.roots, documents_long c.args.segment.now 0)
 
-pub returns-then-clause-key : goal.returns-then-clause-key
-returns-then-clause-key c = sym (no_key c.args.roots.now (keys_at c.args.mapping.now c.args.joins.now c.args.side c.args.segment.now c.args.place) c.args.doc (sym c.has.ensures ∙ c.if-has.false))
+pub returns-then-not-has-clause-key : goal.returns-then-not-has-clause-key
+returns-then-not-has-clause-key c = sym (no_key c.args.roots.now (keys_at c.args.mapping.now c.args.joins.now c.args.side c.args.segment.now c.args.place) c.args.doc (sym c.has.ensures ∙ c.if-not-has.true))
 
 pub returns-clause-key : goal.returns-clause-key
 returns-clause-key c =
     key_found c.args.mapping.now c.args.joins.now c.args.side c.args.segment.now c.args.place c.args.roots.now c.args.doc c.root_of_doc.result c.key_of.result c.requires.roots
-    (root_set c.args.segment.now c.docs-documents.ensures.agree c.scopes_are_of_documents.ensures.sets) (sym c.has.ensures ∙ c.if-has.true) c.root_of_doc.ensures.root c.root_of_doc.ensures.within c.key_of.ensures
+    (root_set c.args.segment.now c.docs-documents.ensures.agree c.scopes_are_of_documents.ensures.sets) (sym c.has.ensures ∙ c.if-not-has.false) c.root_of_doc.ensures.root c.root_of_doc.ensures.within c.key_of.ensures
 
 pub returns-clause-within : goal.returns-clause-within
 returns-clause-within c = λ count have.
