@@ -17,7 +17,7 @@ use crate::filters::filters_found;
 use crate::hits::hits_of;
 use crate::ordinals::make_ordinals;
 use block_join::Matches;
-use bucket_aggs::found_buckets;
+use bucket_aggs::{found_buckets, found_count};
 use hit_order::top;
 use inner_hits::prepare;
 use join_ordinals::JoinOrdinals;
@@ -99,7 +99,53 @@ fn found_by<L: Ledger>(
 }
 
 /// The page of the hits of what the query matches, and the number of all of them.
+///
+/// Where no hit is asked for the hits are counted, and nothing is made for any of them.
 fn page<L: Ledger>(
+    alloc: Global,
+    view: &View,
+    mapping: &Mapping,
+    search: &SearchBody,
+    ordinals: &JoinOrdinals,
+    matched: &Matches,
+    steps: &mut Steps<L>,
+) -> Result<HitPage, NoMemory>
+    requires fits { ViewFits mapping.now view.now }
+    requires resolved { IsSearch mapping.now search.now }
+    requires joined { search_joins search.now ≡ true → AreOrdinals view.now ordinals.now }
+    requires matched { IsFound mapping.now view.now 0 search.now.query matched.now }
+    ensures page { IfOk result (λ page. (trees : List (List (Marked Tree))) → AreSearched mapping.now view.now trees → page ≡ hit_page mapping.now (live_trees trees) search.now) }
+    ensures reads { (trees : List (List (Marked Tree))) → AreSearched mapping.now view.now trees → steps.new ≤ steps.old + page_reads (hit_page mapping.now (live_trees trees) search.now) }
+    ensures unread { search.now.source ≡ false → search.now.inner ≡ [] → steps.new ≡ steps.old }
+{
+    if search.size == 0 {
+        empty_page(alloc, view, mapping, search, matched)
+    } else {
+        shown_page(
+            alloc, view, mapping, search, ordinals, matched, steps,
+        )
+    }
+}
+
+/// The page of no hits, with the number of all.
+fn empty_page(
+    alloc: Global,
+    view: &View,
+    mapping: &Mapping,
+    search: &SearchBody,
+    matched: &Matches,
+) -> Result<HitPage, NoMemory>
+    requires none { search.now.size ≡ 0 }
+    requires matched { IsFound mapping.now view.now 0 search.now.query matched.now }
+    ensures { IfOk result (λ page. (trees : List (List (Marked Tree))) → AreSearched mapping.now view.now trees → page ≡ hit_page mapping.now (live_trees trees) search.now) }
+{
+    let total = found_count(view, mapping, matched)?;
+    let hits = HitList::of(Vec::new(alloc));
+    Ok(HitPage { hits, total })
+}
+
+/// The page, by the rows of all hits.
+fn shown_page<L: Ledger>(
     alloc: Global,
     view: &View,
     mapping: &Mapping,

@@ -5,7 +5,7 @@ use Rattle.std.specs.List.{sum_by}
 use Rattle.search_page.specs.Hits.{row_reads}
 use Rattle.search_page.specs.Searched.{page_reads}
 use Rattle.search_page.proofs.Paged.{page_at_roots, page_found, page_reads_are}
-use Rattle.search_page.proofs.pages.page.Goals as goal
+use Rattle.search_page.proofs.pages.shown_page.Goals as goal
 
 pub returns-clause-page : goal.returns-clause-page
 returns-clause-page g c = λ trees searched.
