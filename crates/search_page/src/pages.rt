@@ -121,9 +121,7 @@ fn page<L: Ledger>(
     if search.size == 0 {
         empty_page(alloc, view, mapping, search, matched)
     } else {
-        shown_page(
-            alloc, view, mapping, search, ordinals, matched, steps,
-        )
+        shown_page(alloc, view, mapping, search, ordinals, matched, steps)
     }
 }
 
