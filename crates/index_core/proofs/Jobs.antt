@@ -110,13 +110,14 @@ over_moved made entries now [] (job ∷ moved) below kept parts ranges over = ab
 over_moved made entries now (job ∷ jobs) [] below kept parts ranges over = absurd (cc (parts))
 over_moved made entries now (job ∷ jobs) (next ∷ moved) below kept parts ranges over =
     let same : next.parts ≡ job.parts = heads next.parts job.parts (map parts_in moved) (map parts_in jobs) parts in
-    let range : range_of (segments_kept now) next.merge ≡ range_of (segments_kept entries) job.merge = heads (range_of (segments_kept now) next.merge) (range_of (segments_kept entries) job.merge) (ranges_of (segments_kept now) (merges_in moved)) (ranges_of (segments_kept entries) (merges_in jobs)) ranges in
-    (record {
-      ids = ap (map entry_id) same ∙ over.0.ids ∙ sym (range_kept entries job.merge) ∙ ap (map segment_id) (sym range) ∙ range_kept now next.merge;
-      later = subst (AllByRecursion (ComesLater now)) (sym same) (both_later made entries now job.parts kept (parts_under made entries job below over.0) over.0.later);
-    },
-    over_moved made entries now jobs moved below kept (tails next.parts job.parts (map parts_in moved) (map parts_in jobs) parts)
-    (tails (range_of (segments_kept now) next.merge) (range_of (segments_kept entries) job.merge) (ranges_of (segments_kept now) (merges_in moved)) (ranges_of (segments_kept entries) (merges_in jobs)) ranges) over.1)
+    let range : range_of (segments_kept now) next.merge ≡ range_of (segments_kept entries) job.merge = heads (range_of (segments_kept now) next.merge) (range_of (segments_kept entries) job.merge) (ranges_of (segments_kept now) (merges_in moved)) (ranges_of (segments_kept entries) (merges_in jobs)) ranges in (
+      record {
+        ids = ap (map entry_id) same ∙ over.0.ids ∙ sym (range_kept entries job.merge) ∙ ap (map segment_id) (sym range) ∙ range_kept now next.merge;
+        later = subst (AllByRecursion (ComesLater now)) (sym same) (both_later made entries now job.parts kept (parts_under made entries job below over.0) over.0.later);
+      },
+      over_moved made entries now jobs moved below kept (tails next.parts job.parts (map parts_in moved) (map parts_in jobs) parts)
+          (tails (range_of (segments_kept now) next.merge) (range_of (segments_kept entries) job.merge) (ranges_of (segments_kept now) (merges_in moved)) (ranges_of (segments_kept entries) (merges_in jobs)) ranges) over.1,
+    )
 
 -- merges are over entries in which roots died
 pub over_died : (entries now : List EntryState) (jobs : List OpenState) → AllZip IsLater entries now → AllByRecursion (IsJobOver entries) jobs → AllByRecursion (IsJobOver now) jobs
@@ -152,9 +153,10 @@ are_later entries parts same later = zipped parts entries same (all_weaker (Come
     zipped [] [] e all = tt
     zipped [] (x ∷ es) e all = absurd (cc (e))
     zipped (p ∷ ps) [] e all = absurd (cc (e))
-    zipped (p ∷ ps) (x ∷ es) e all =
-        (all.0.0 (sym (heads p.id x.id (map entry_id ps) (map entry_id es) e)),
-        zipped ps es (tails p.id x.id (map entry_id ps) (map entry_id es) e) (all_weaker (ComesLater (x ∷ es)) (ComesLater es) (λ part l. l.1) ps all.1))
+    zipped (p ∷ ps) (x ∷ es) e all = (
+      all.0.0 (sym (heads p.id x.id (map entry_id ps) (map entry_id es) e)),
+      zipped ps es (tails p.id x.id (map entry_id ps) (map entry_id es) e) (all_weaker (ComesLater (x ∷ es)) (ComesLater es) (λ part l. l.1) ps all.1),
+    )
 
 -- ---- a root dies
 

@@ -160,3 +160,16 @@ kept_relaid it blocks relaid is = kept_same it blocks relaid.live (relaid.blocks
 
 pub kept_in_room : (it : Inside) (blocks : BlocksState) → layout_of blocks ≡ with_room (layout_of it.blocks) → AreBlocks (layout_of blocks) it.next → IsKept it → IsKept (record it { blocks = blocks })
 kept_in_room it blocks room are is = kept_same it blocks (ap live_items room ∙ with_room_keeps (layout_of it.blocks)) are is
+
+-- neighbours are merged by another factor from now on
+pub factor_kept : (it : Inside) (blocks : BlocksState) (factor : ℕ) → blocks ≡ record it.blocks { factor = factor } → IsKept it → IsKept (record it { blocks = blocks })
+factor_kept it blocks factor set is =
+    subst (λ (b : BlocksState). IsKept (record it { blocks = b })) (sym set) (record {
+      index = record {
+        blocks = record { ascending = is.index.blocks.ascending; ids = is.index.blocks.ids; few = is.index.blocks.few; buffer = is.index.blocks.buffer; made = is.index.blocks.made };
+        next = is.index.next;
+        objects = is.index.objects;
+      };
+      numbers = is.numbers;
+      objects = is.objects;
+    })

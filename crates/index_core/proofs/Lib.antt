@@ -12,3 +12,4 @@ pub mod Jobs
 pub mod Opened
 pub mod Relaying
 pub mod Settled
+pub mod Refused

@@ -307,8 +307,16 @@ given_kept it from count by jobs below factor given =
 
     long_now : length (replaced from count by it.entries) ≡ length it.entries - count + length (segments_of by)
     long_now =
-        omega (arith, ap length (replaced_is from count by it.entries), length-append (take from it.entries) (entries_by by ++ drop (from + count) it.entries), length-append (entries_by by) (drop (from + count) it.entries),
-        length-take from it.entries, length-drop (from + count) it.entries, long_by by, given.within)
+        omega (
+          arith,
+          ap length (replaced_is from count by it.entries),
+          length-append (take from it.entries) (entries_by by ++ drop (from + count) it.entries),
+          length-append (entries_by by) (drop (from + count) it.entries),
+          length-take from it.entries,
+          length-drop (from + count) it.entries,
+          long_by by,
+          given.within,
+        )
 
 -- the layout afterwards
 pub given_layout : (it : BlocksState) (from count : ℕ) (by : Option EntryState) (jobs : List OpenState) → IsGiven it from count by jobs
@@ -416,6 +424,12 @@ finished_layout it id from count merge by given at long named =
     ∙ ap (λ (n : ℕ). remade merge.from n (closed id (layout_of it))) long
     ∙ ap (λ (n : ℕ). remade merge.from merge.count (closed n (layout_of it))) (sym (named_id id (merges_in it.jobs) merge named))
 
+pub same_end : (it : BlocksState) (id : ℕ) (merge other : OpenMerge) → IsFinished it id other → merge_named id (layout_of it) ≡ Some merge → IsFinished it id merge
+same_end it id merge other end named = subst (IsFinished it id) (same (sym end.named ∙ named)) end
+  where
+    same : Some other ≡ Some merge → other ≡ merge
+    same e = cc (e)
+
 pub force_given : (it : BlocksState) (from count : ℕ) (by : Option EntryState) → AreKept it.made it.started it.factor it.entries it.jobs → 0 < count → from + count ≤ length it.entries → find (shares from count) (merges_in it.jobs) ≡ None
     → IfSome by (λ entry. entry.id ≡ it.made) → IfSome by IsWhole → segments_of by ≡ segment_of it.made (live_in_all (take count (drop from it.entries))) → IsGiven it from count by it.jobs
 force_given it from count by kept some within none own whole segments = record {
@@ -434,3 +448,17 @@ remade_relaid it now from count merges made is = record {
       (remade_blocks from count (record (layout_of it) { merges = merges }) next (omega (arith, made, ap (λ (l : Layout BlockState). l.made) is)) (merges_blocks (layout_of it) merges it.started (factor_of it.factor) next are));
   live = ap live_items is ∙ remade_keeps from count (record (layout_of it) { merges = merges });
 }
+
+-- where the end of a merge leads to
+pub record IsEnded (it now : BlocksState) (merge : OpenMerge) : Type 0 where
+  pub layout : layout_of now ≡ finished merge (layout_of it)
+  pub relaid : IsRelaid it now
+
+pub finish_ended : (it now : BlocksState) (id from count : ℕ) (merge : OpenMerge) (by : Option EntryState) → IsGiven it from count by (filter (is_other_than id) it.jobs) → IsFinished it id merge → from ≡ merge.from → count ≡ merge.count → now.made < most_made
+    → now ≡ record it { entries = replaced from count by it.entries; made = it.made + length (segments_of by); jobs = map (with_merge (shifted from count (length (segments_of by)))) (filter (is_other_than id) it.jobs) } → IsEnded it now merge
+finish_ended it now id from count merge by given end at long made is =
+    let others = filter (is_other_than id) it.jobs in
+    record {
+      layout = ap layout_of is ∙ finished_layout it id from count merge by given at long end.named;
+      relaid = remade_relaid it now from count (merges_in others) made (ap layout_of is ∙ given_layout it from count by others given);
+    }

@@ -16,9 +16,9 @@ ghost use Rattle.index_core.specs.Write.{IsNext, done_of, id_of, is_refused, nex
 
 use crate::kept_blocks::KeptBlocks;
 use crate::live_numbers::LiveNumbers;
+use crate::merge::{finish_refusal, force_refusal, start_refusal, step_refusal};
 use crate::opening::{Opened, read_entries};
 use crate::write::{change, done, make_room, objects_after, takes_nothing, written_id};
-use crate::merge::{finish_refusal, force_refusal, start_refusal, step_refusal};
 use crate::{LayoutRows, MergeDone, MergeRefusal, NoMemory, WriteDone, WriteOp, WriteRefusal};
 use mapping::Mapping;
 use segment_view::View;
@@ -298,8 +298,7 @@ impl IndexCore {
         }
         self.blocks.take_sealed(ready);
         if segments >= most {
-            self.blocks
-                .force(mapping, most - 1, segments - (most - 1))?;
+            self.blocks.force(mapping, most - 1, segments - (most - 1))?;
         }
         Ok(MergeDone {
             id: 0,

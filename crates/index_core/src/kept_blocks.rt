@@ -21,14 +21,14 @@ use crate::ready::{Ready, made_after, mapping_is_numbered, next_merge, settled_r
 use crate::{MergeDone, NoMemory};
 use flattener::{Block, blocks_are_of_their_mapping};
 use mapping::Mapping;
-use segment_builder::{blocks_are_whole, built, deaths_mark_blocks};
 use merge_jobs::{MergeJob, MergeRow, OpenJobs};
+use segment_builder::{blocks_are_whole, built, deaths_mark_blocks};
 use segment_view::{Entry, View};
 use source_steps::Steps;
-use view_merge::{alive_entry, merged_entry, neighbours};
 use std::alloc::Global;
 use std::marker::Model;
 use std::sync::ledger::Ledger;
+use view_merge::{alive_entry, merged_entry, neighbours};
 
 /// The entries of a view and the blocks in a buffer behind them, whose numbers ascend, and how many segments were made.
 #[derive(Drop)]
@@ -192,11 +192,12 @@ impl KeptBlocks {
         ensures open { AreOpenOf (layout_of self.now) }
     {
         let _entries = self.view.entries();
+        let _scopes = mapping.scope_count();
         let last = self.with_last(mapping)?;
         if self.factor == 0 {
             return Ok(last);
         }
-        settled_ready(self.alloc, mapping, last, self.factor)
+        Ok(settled_ready(self.alloc, mapping, last, self.factor)?)
     }
 
     /// A view with the buffer as its last segment, if there is a block in it.

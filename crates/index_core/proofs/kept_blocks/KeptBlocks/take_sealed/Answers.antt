@@ -22,4 +22,7 @@ invariant_of-self c =
     taken_kept it c.args.ready c.place.new.self c.requires.blocks.0 open_is blocks c.self.invariant is c.requires.below entries (c.place.ensures.merges ∙ ap merges_shown (c.as_slice.ensures.value)) c.place.ensures.parts
 
 pub returns-clause-relaid : goal.returns-clause-relaid
-returns-clause-relaid c = ?
+returns-clause-relaid c =
+    let it : BlocksState = the_view c.self.inside in
+    let open_is = subst (λ (s : BlocksState). AreOpenOf (layout_of s)) (sym c.self.view_is) c.requires.open in
+    ?
