@@ -144,6 +144,10 @@ taken_kept it ready jobs next open_is blocks kept is below entries merges parts 
       factor_is = kept.factor_is;
     }
 
+pub taken_layout : (it now : BlocksState) (ready : Ready) → now.entries ≡ ready.view → now.buffer ≡ [] → now.made ≡ ready.made → merges_in now.jobs ≡ merges_shown ready.merges.items → now.started ≡ it.started → now.factor ≡ it.factor
+    → layout_of now ≡ layout_ready ready it.started it.factor
+taken_layout it now ready entries buffer made merges started factor = rw (entries, buffer, made, merges, started, factor) refl
+
 pub sealed_relaid : (it now : BlocksState) → AreOpenOf (layout_of it) → now.made < most_made → layout_of now ≡ sealed (layout_of it) → IsRelaid it now
 sealed_relaid it now open_is made is = record {
   blocks = λ next are. subst (λ (l : Layout BlockState). AreBlocks l next) (sym is) (sealed_blocks (layout_of it) next open_is (omega (arith, made, ap (λ (l : Layout BlockState). l.made) is)) are);

@@ -102,7 +102,7 @@ open_more few many started ms less is = record {
 
 pub last_is : (it : BlocksState) (last : Ready) → AreKept it.made it.started it.factor it.entries it.jobs → layout_ready last it.started it.factor ≡ with_buffer_last (layout_of it) → objects_of (all_live it.entries it.buffer) ≤ most_live → IsLast it last
 last_is it last kept is few =
-    let long = omega (arith, ap (λ (l : Layout BlockState). length l.segments) is, length-append (segments_kept it.entries) (segment_of it.made it.buffer), length-map last.view segment_kept, length-map it.entries segment_kept) in
+    let long : length it.entries ≤ length last.view = omega (arith, ap (λ (l : Layout BlockState). length l.segments) is, length-append (segments_kept it.entries) (segment_of it.made it.buffer), length-map last.view segment_kept, length-map it.entries segment_kept) in
     record {
       open_are = open_more (length it.entries) (length last.view) it.started (merges_shown last.merges.items) long (subst (AreOpen (length it.entries) it.started) (sym (ap (λ (l : Layout BlockState). l.merges) is)) kept.open_are);
       few = omega (arith, few, few_entries last.view [], ap objects_of (ap live_items is ∙ last_keeps (layout_of it)));

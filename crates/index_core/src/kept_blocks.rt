@@ -17,7 +17,9 @@ ghost use Rattle.index_core.specs.Kept.{AreBlocks, HaveOwnIds, has_block_id, mos
 
 use crate::finish::{Finished, finishing, give_way};
 use crate::place::{Place, entry_is_whole, place_of};
-use crate::ready::{Ready, made_after, mapping_is_numbered, next_merge, settled_ready};
+use crate::ready::{
+    Ready, made_after, made_is_below, mapping_is_numbered, next_merge, settled_ready,
+};
 use crate::{MergeDone, NoMemory};
 use flattener::{Block, blocks_are_of_their_mapping};
 use mapping::Mapping;
@@ -238,6 +240,7 @@ impl KeptBlocks {
         ensures relaid { IsRelaid self.old self.new }
     {
         let Ready { view, made, merges } = ready;
+        made_is_below(made);
         self.view = view;
         self.buffer.clear();
         self.made = made;

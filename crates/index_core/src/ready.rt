@@ -13,7 +13,7 @@ ghost use Rattle.segment_builder.specs.Given.{IsNumbered};
 ghost use Rattle.segment_view.specs.Views.{HaveOwnIds};
 ghost use Rattle.view_merge.specs.Given.{AreFitting, IsKeptOrMade};
 ghost use Rattle.index_core.specs.Found.{AreBelow, AreFit, AreWhole, layout_ready};
-ghost use Rattle.index_core.specs.Kept.{most_factor};
+ghost use Rattle.index_core.specs.Kept.{most_factor, most_made};
 
 use crate::NoMemory;
 use crate::place::entry_is_whole;
@@ -66,6 +66,13 @@ pub(crate) fn made_after(made: u128, more: u64) -> Result<u128, NoMemory>
     ensures { IfOk result (λ now. now ≡ made + more) }
 {
     made.checked_add(more as u128).ok_or(NoMemory)
+}
+
+/// Says that fewer segments were made than have an id. Does nothing.
+pub(crate) fn made_is_below(made: u128)
+    ensures { made < most_made }
+{
+    let _ = made;
 }
 
 /// The id of the merge that is started next.
