@@ -12,7 +12,7 @@ use Rattle.index_core.proofs.index_core.IndexCore.start_merge.Goals as goal
 
 pub start-requires-clause-fault : goal.start-requires-clause-fault
 start-requires-clause-fault c =
-    let found = c.start_refusal.ensures (layout_ready c.in_ok-ready.ready c.self.inside.blocks.started c.self.inside.blocks.factor) (ap merges_shown (sym c.as_slice.ensures.value)) (length-map c.in_ok-ready.ready.view segment_kept ∙ sym (c.len.ensures ∙ ap length c.entries.ensures.entries)) in
+    let found = c.start_refusal.ensures (layout_ready c.in_ok-ready.ready c.self.inside.blocks.started c.self.inside.blocks.factor) (ap merges_shown (sym c.as_slice.ensures.value)) (length-map c.in_ok-ready.ready.view segment_kept ∙ sym (ap length c.entries.ensures.entries)) in
     let clear = no_fault c.self.inside.blocks c.take_sealed.new.self c.in_ok-ready.ready (start_fault c.args.from c.args.count) c.start_refusal.result c.in_default.is found c.in_ok-ready.ensures.sealed c.take_sealed.ensures.sealed in
     clear
 
@@ -24,7 +24,7 @@ returns-in_err-start-clause-fits c =
 
 pub returns-clause-accepted : goal.returns-clause-accepted
 returns-clause-accepted c = λ ok.
-    let found = c.start_refusal.ensures (layout_ready c.in_ok-ready.ready c.self.inside.blocks.started c.self.inside.blocks.factor) (ap merges_shown (sym c.as_slice.ensures.value)) (length-map c.in_ok-ready.ready.view segment_kept ∙ sym (c.len.ensures ∙ ap length c.entries.ensures.entries)) in
+    let found = c.start_refusal.ensures (layout_ready c.in_ok-ready.ready c.self.inside.blocks.started c.self.inside.blocks.factor) (ap merges_shown (sym c.as_slice.ensures.value)) (length-map c.in_ok-ready.ready.view segment_kept ∙ sym (ap length c.entries.ensures.entries)) in
     let clear = no_fault c.self.inside.blocks c.take_sealed.new.self c.in_ok-ready.ready (start_fault c.args.from c.args.count) c.start_refusal.result c.in_default.is found c.in_ok-ready.ensures.sealed c.take_sealed.ensures.sealed in
     subst (λ (s : IndexState). start_fault c.args.from c.args.count (sealed (layout_kept s)) ≡ None) c.self.view_is
     (subst (λ (l : Layout BlockState). start_fault c.args.from c.args.count l ≡ None) c.take_sealed.ensures.sealed clear)
