@@ -2,10 +2,14 @@
 """Refuses each allocation of the built program in turn, and judges what it answers.
 
 A preloaded library counts the calls of malloc and realloc and refuses one of them. Then the program may end with status 9 and
-no output, or answer one request with out_of_memory and the others as if that request hadn't come; anything else is wrong.
-The replies that are expected come from the plain machine below, and not from the program. Wants gcc; run
-`./run --prove examples/shop.ndjson` once before: it builds the program.
+no output, or answer one request with out_of_memory and the others as if that request hadn't come; anything else is wrong. It is
+run over made lines, whose replies come from the plain machine below, and over the examples. Of these all replies together have to be
+the expected ones, and those around a request that hadn't come are what the program answers without it, where nothing is refused.
+Wants gcc; run `./run --prove examples/shop.ndjson` once before: it builds the program.
+
+    python3 bench/allocations.py [PROGRAM]
 """
+import concurrent.futures
 import json
 import os
 import random
@@ -13,7 +17,8 @@ import subprocess
 import sys
 import tempfile
 
-PROGRAM = os.path.join(os.path.dirname(os.path.abspath(__file__)), "..", "crates", "nestsearch", "out", "nestsearch")
+TOP = os.path.dirname(os.path.dirname(os.path.abspath(__file__)))
+EXAMPLES = ("shop", "tickets")
 OUT_OF_MEMORY = '{"error":{"reason":"out_of_memory"}}'
 LIBRARY = r"""
 #define _GNU_SOURCE
@@ -119,44 +124,98 @@ def replies_without(requests, left_out):
     return [OUT_OF_MEMORY if at == left_out else machine.answer(request) for at, request in enumerate(requests)]
 
 
-def run(library, text, folder, number=None):
-    """The program's status, its replies and how many allocations it asked for."""
-    seen = os.path.join(folder, "seen")
-    added = {"LD_PRELOAD": library, "SEEN": seen}
-    if number is not None:
-        added["REFUSED"] = str(number)
-    done = subprocess.run([PROGRAM, "serve", "t.nest"], input=text.encode(), stdout=subprocess.PIPE, env={**os.environ, **added})
-    with open(seen) as count:
-        return done.returncode, done.stdout.decode().splitlines(), int(count.read())
+class Refusing:
+    """The program, of whose allocations one can be refused."""
 
-
-def main():
-    requests = list(made_requests(60))
-    text = "".join(text_of(request) for request in requests)
-    whole = replies_without(requests, None)
-    allowed = {tuple(replies_without(requests, at)): at for at in range(len(requests))}
-    with tempfile.TemporaryDirectory() as folder:
-        library = os.path.join(folder, "refuse.so")
+    def __init__(self, program, folder):
+        self.program = program
+        self.folder = folder
+        self.library = os.path.join(folder, "refuse.so")
         source = os.path.join(folder, "refuse.c")
         with open(source, "w") as file:
             file.write(LIBRARY)
-        subprocess.run(["gcc", "-shared", "-fPIC", "-O1", "-o", library, source, "-ldl"], check=True)
-        status, replies, allocations = run(library, text, folder)
-        if status != 0 or replies != whole:
-            sys.exit("with ample memory: status %d, and not the machine's replies" % status)
-        ended = refused = unharmed = 0
-        for number in range(allocations):
-            status, replies, _ = run(library, text, folder, number)
+        subprocess.run(["gcc", "-shared", "-fPIC", "-O1", "-o", self.library, source, "-ldl"], check=True)
+
+    def run(self, text, **told):
+        """The program's status and its replies."""
+        words = [self.program, "serve", os.path.join(self.folder, "t.nest")]
+        done = subprocess.run(words, input=text.encode(), stdout=subprocess.PIPE, env={**os.environ, "LD_PRELOAD": self.library, **told})
+        return done.returncode, done.stdout.decode().splitlines()
+
+    def whole(self, text):
+        """The replies where nothing is refused, and how many allocations there are."""
+        seen = os.path.join(self.folder, "seen")
+        status, replies = self.run(text, SEEN=seen)
+        if status != 0:
+            sys.exit("with ample memory: status %d" % status)
+        with open(seen) as count:
+            return replies, int(count.read())
+
+    def without(self, text, number):
+        """The status and the replies where the allocation of this number is refused."""
+        return self.run(text, REFUSED=str(number))
+
+
+def judge(refusing, name, texts, whole, replies_without):
+    """Refuses each allocation over these requests; `replies_without` gives the replies where one of them hasn't come."""
+    text = "".join(texts)
+    replies, allocations = refusing.whole(text)
+    if replies != whole:
+        sys.exit("%s: with ample memory the replies aren't the expected ones" % name)
+    expected = {}
+    ended = refused = unharmed = 0
+    with concurrent.futures.ThreadPoolExecutor(os.cpu_count()) as pool:
+        for number, (status, replies) in enumerate(pool.map(lambda number: refusing.without(text, number), range(allocations))):
+            at = replies.index(OUT_OF_MEMORY) if OUT_OF_MEMORY in replies else None
+            if at is not None and at not in expected:
+                expected[at] = replies_without(at)
             if status == 9 and not replies:
                 ended += 1
-            elif status == 0 and tuple(replies) in allowed:
-                refused += 1
             elif status == 0 and replies == whole:
                 unharmed += 1
+            elif status == 0 and at is not None and replies == expected[at]:
+                refused += 1
             else:
-                sys.exit("allocation %d refused: status %d, and wrong replies" % (number, status))
-    print("%d requests, %d allocations, each refused once: %d ended with status 9 before the first request, %d with one "
-          "out_of_memory reply, %d without effect" % (len(requests), allocations, ended, refused, unharmed))
+                sys.exit("%s: allocation %d refused: status %d, and wrong replies" % (name, number, status))
+    print("%s: %d requests, %d allocations, each refused once: %d ended with status 9 before the first request, %d with one "
+          "out_of_memory reply, %d without effect" % (name, len(texts), allocations, ended, refused, unharmed), flush=True)
 
 
-main()
+def judge_made(refusing):
+    requests = list(made_requests(60))
+    texts = [text_of(request) for request in requests]
+    judge(refusing, "made lines", texts, replies_without(requests, None), lambda at: replies_without(requests, at))
+
+
+def example_requests(name):
+    """The requests of an example, each with its source line."""
+    with open(os.path.join(TOP, "examples", name + ".ndjson")) as lines:
+        for line in lines:
+            yield line + next(lines) if line.startswith(('{"index"', '{"create"', '{"update"')) else line
+
+
+def judge_example(refusing, name):
+    texts = list(example_requests(name))
+    with open(os.path.join(TOP, "examples", name + ".expected")) as replies:
+        whole = replies.read().splitlines()
+
+    def without(at):
+        replies, _ = refusing.whole("".join(texts[:at] + texts[at + 1:]))
+        return replies[:at] + [OUT_OF_MEMORY] + replies[at:]
+
+    judge(refusing, name, texts, whole, without)
+
+
+def main():
+    program = os.path.abspath(sys.argv[1]) if len(sys.argv) > 1 else os.path.join(TOP, "crates/nestsearch/out/nestsearch")
+    if not os.path.exists(program):
+        sys.exit("there is no program at %s" % program)
+    with tempfile.TemporaryDirectory() as folder:
+        refusing = Refusing(program, folder)
+        judge_made(refusing)
+        for name in EXAMPLES:
+            judge_example(refusing, name)
+
+
+if __name__ == "__main__":
+    main()

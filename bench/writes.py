@@ -17,43 +17,9 @@ import sys
 import tempfile
 import time
 
-from made import MAPPING, Draws, product
+from made import lines_of, replies_to, writes
 
 TOP = os.path.dirname(os.path.dirname(os.path.abspath(__file__)))
-
-
-
-def writes(count):
-    """The id of each write, with its source, or with None where the tree is deleted."""
-    draws = Draws(7)
-    for number in range(count):
-        if draws.draw(10) == 0 and number > 0:
-            yield str(draws.draw(number)), None
-        else:
-            yield str(number), product(number, draws)
-
-
-def lines_of(made):
-    yield MAPPING
-    for id, source in made:
-        if source is None:
-            yield '{"delete":{"_id":"%s"}}' % id
-        else:
-            yield '{"index":{"_id":"%s"}}' % id
-            yield source
-
-
-def replies_to(made):
-    yield '{"result":"mapped"}'
-    live, number = set(), 0
-    for id, source in made:
-        if source is None and id not in live:
-            yield '{"_id":"%s","result":"not_found"}' % id
-            continue
-        result = "deleted" if source is None else "updated" if id in live else "created"
-        yield '{"_id":"%s","_seq_no":%d,"result":"%s"}' % (id, number, result)
-        number += 1
-        live.discard(id) if source is None else live.add(id)
 
 
 # Runs the program from a process of its own, whose memory is small: the system counts a child's peak from the memory of the
