@@ -1,20 +1,19 @@
 -- What is so of the blocks of an index stays so when the buffer is sealed and when a block comes or goes.
-use Rattle.std.proofs.Common.{◌≡◌, ℕ, ◌+◌, ◌<◌, ◌≤◌, nat_le, List, [], ◌∷◌, ◌++◌, length, map, filter, Option, Some, None, refl, sym, ap, subst, arith}
+use Rattle.std.proofs.Common.{◌≡◌, ℕ, ◌+◌, ◌<◌, ◌≤◌, List, [], ◌∷◌, ◌++◌, length, map, filter, Option, Some, None, sym, ap, subst, arith}
 use Rattle.std.specs.List.{count_by, find, flat_map}
-use Rattle.std.proofs.lemmas.Bool.{leb-false}
 use Rattle.std.proofs.lemmas.List.{length-append}
 use Rattle.std.proofs.lemmas.List.Sums.{sum_by_push, count_by-le-length, length-filter}
 use Rattle.flattener.specs.Block.{BlockState}
 use Rattle.flattener.specs.Fits.{most_live}
 use Rattle.layout.proofs.Ascending.{ascend_both, ascend_first, ascend_second}
 use Rattle.layout.proofs.Changes.{change_ascends, own_ids_put, own_ids_taken}
-use Rattle.layout.proofs.Goes.{split, none_goes}
+use Rattle.layout.proofs.Goes.{none_goes}
 use Rattle.layout.proofs.Keeps.{sealed_keeps, remade_keeps, changed_keeps}
 use Rattle.layout.proofs.Looked.{find_none, sum_without}
 use Rattle.layout.proofs.Merging.{remade_ascends}
 use Rattle.layout.proofs.Settling.{IsSound, sealed_after, sealed_emptied}
 use Rattle.layout.specs.Ascending.{Ascend}
-use Rattle.layout.specs.Layout.{Layout, OpenMerge, live_items, remade, staying, killed, buffer_size, sealed, with_new}
+use Rattle.layout.specs.Layout.{Layout, OpenMerge, live_items, remade, staying, killed, sealed, with_new}
 use Rattle.segment_builder.specs.Blocks.{block_objects, objects_of}
 use Rattle.index_core.specs.Found.{AreOpenOf, HasRoom}
 use Rattle.index_core.specs.Kept.{AreBlocks, HaveOwnIds, block_number, has_block_id, most_made, numbers_in}

@@ -1,14 +1,11 @@
 -- Open merges beside entries: each keeps its neighbours while others give way and roots die.
-use Rattle.std.proofs.Common.{◌≡◌, ◌≢◌, ◌⊎◌, inl, inr, ℕ, zero, suc, ◌+◌, ◌-◌, ◌<◌, ◌≤◌, Bool, true, false, List, [], ◌∷◌, ◌++◌, length, map, filter, take, drop, set, slice_get, slice_index_or, Contains, Option, Some, None, refl, sym, ap, subst, ◌∙◌, arith}
-use Rattle.std.specs.List.{All, AllByRecursion, AllPairs, AllZip, take-map, drop-map}
-use Rattle.std.proofs.lemmas.List.{map-append}
+use Rattle.std.proofs.Common.{◌≡◌, ◌≢◌, inl, inr, ℕ, zero, suc, ◌<◌, Bool, true, false, List, [], ◌∷◌, length, map, take, drop, set, slice_get, slice_index_or, Contains, Some, refl, sym, ap, subst, ◌∙◌, arith}
+use Rattle.std.specs.List.{All, AllByRecursion, AllZip, take-map, drop-map}
 use Rattle.std.proofs.lemmas.List.Elements.{All-head, All-tail}
-use Rattle.layout.proofs.Goes.{split}
-use Rattle.layout.proofs.Merging.{AreDistinct, AreUnder, HaveIds, all_both, all_filter, all_first, all_second, all_weaker, range_of, ranges_of, segment_id}
-use Rattle.layout.specs.Layout.{OpenMerge, SegmentOf}
-use Rattle.flattener.specs.Block.{BlockState}
+use Rattle.layout.proofs.Merging.{AreDistinct, AreUnder, HaveIds, all_weaker, range_of, ranges_of, segment_id}
+use Rattle.layout.specs.Layout.{OpenMerge}
 use Rattle.merge_jobs.specs.Job.{AreLater, IsLater, segment_kept, segments_kept}
-use Rattle.merge_jobs.specs.Open.{OpenState, is_other_than, merge_in, merges_in, parts_in, with_merge}
+use Rattle.merge_jobs.specs.Open.{OpenState, merges_in, parts_in}
 use Rattle.segment.specs.Live.{EntryState}
 use Rattle.segment_view.specs.Views.{HaveOwnIds, is_live_root, with_dead}
 use Rattle.view_merge.specs.Given.{IsKeptOrMade}

@@ -10,7 +10,6 @@ use Rattle.flattener.specs.Seen.{block_seen}
 use Rattle.layout.proofs.Changes.{found_put, found_taken}
 use Rattle.layout.proofs.Goes.{split}
 use Rattle.layout.proofs.Keeps.{with_room_keeps, changed_keeps}
-use Rattle.layout.specs.Ascending.{Ascend}
 use Rattle.layout.specs.Layout.{Layout, live_items, staying, killed, with_room, with_new, with_change, buffer_size}
 use Rattle.mapping.specs.IsMapping.{IsMapping}
 use Rattle.mapping.specs.Mapping.{Mapping}
@@ -19,7 +18,7 @@ use Rattle.segment_builder.specs.Blocks.{objects_of}
 use Rattle.index_core.specs.Found.{BlocksState, HasOld, HasLive, HasRoom, AreFit, IsRelaid, columns_of, layout_of, live_blocks, number_under}
 use Rattle.index_core.specs.Inside.{IsKept, state_of}
 use Rattle.index_core.specs.declared.index_core.IndexCore.TheInside.{Inside}
-use Rattle.index_core.specs.Kept.{AreBlocks, HaveOwnIds, IndexFits, block_number, has_block_id}
+use Rattle.index_core.specs.Kept.{AreBlocks, IndexFits, block_number, has_block_id}
 use Rattle.index_core.specs.Write.{id_of, new_of, new_number, IsNext}
 use Rattle.index_core.specs.declared.live_numbers.LiveNumbers.{LiveNumbers}
 use Rattle.index_core.specs.declared.op.WriteOp.{WriteOp}

@@ -1,14 +1,14 @@
 -- Open merges when one is started, walked further or closed, and which stay clear of a range.
-use Rattle.std.proofs.Common.{◌≡◌, ◌⊎◌, inl, inr, ℕ, zero, suc, ◌+◌, ◌-◌, ◌==◌, ◌<◌, ◌≤◌, nat_le, nat_lt, Bool, true, false, not, ◌&&◌, ◌||◌, cond, List, [], ◌∷◌, ◌++◌, length, map, filter, Option, Some, None, refl, sym, ap, subst, ◌∙◌, arith, eqb-true}
+use Rattle.std.proofs.Common.{◌≡◌, inl, inr, ℕ, ◌+◌, ◌==◌, ◌<◌, ◌≤◌, nat_le, nat_lt, Bool, true, false, ◌||◌, List, [], ◌∷◌, ◌++◌, length, map, filter, Option, Some, None, refl, sym, subst, ◌∙◌, arith}
 use Rattle.std.specs.List.{AllByRecursion, find}
-use Rattle.std.proofs.lemmas.Bool.{eqb-false, leb-true, leb-false, ltb-true, ltb-false}
+use Rattle.std.proofs.lemmas.Bool.{eqb-false, leb-false, ltb-false}
 use Rattle.std.proofs.lemmas.List.{length-append, length-map, map-append}
-use Rattle.layout.proofs.Ascending.{ascend_both, ascend_end, ascend_filter, ascend_wider}
+use Rattle.layout.proofs.Ascending.{ascend_both, ascend_filter}
 use Rattle.layout.proofs.Goes.{split, true_false}
-use Rattle.layout.proofs.Merging.{IsClear, all_both, all_filter, all_weaker, settled_by, shifted_before}
+use Rattle.layout.proofs.Merging.{IsClear, all_both, all_filter, all_weaker}
 use Rattle.layout.specs.Ascending.{Ascend}
-use Rattle.layout.specs.Layout.{OpenMerge, Layout, merged_range, remade, settled, sealed, shifted, with_buffer_last}
-use Rattle.layout.specs.Merges.{AreAllApart, AreApart, AreOpen, IsWithin, MergeFault, advanced_if, bad_range, crowded_fault, fault_or, has_merge_id, is_bad_range, is_other, merge_id, merge_named, merge_of, most_merges, overlap_fault, overlapping, shares, start_fault, too_many}
+use Rattle.layout.specs.Layout.{OpenMerge, Layout}
+use Rattle.layout.specs.Merges.{AreAllApart, AreApart, AreOpen, IsWithin, MergeFault, advanced_if, bad_range, crowded_fault, fault_or, has_merge_id, is_bad_range, is_other, merge_id, most_merges, overlap_fault, overlapping, shares, start_fault, too_many}
 
 or_false_first : (b c : Bool) → (b || c) ≡ false → b ≡ false
 or_false_first true c e = e

@@ -1,17 +1,16 @@
 -- What merge calls leave of entries, open merges and their layout.
-use Rattle.std.proofs.Common.{◌≡◌, ◌≢◌, ◌⊎◌, inl, inr, ℕ, zero, suc, ◌+◌, ◌-◌, ◌==◌, ◌<◌, ◌≤◌, nat_le, Bool, true, false, cond, List, [], ◌∷◌, ◌++◌, length, map, filter, take, drop, Contains, Option, Some, None, IsSome, IfSome, refl, sym, ap, subst, ◌∙◌, append_assoc, take-append-drop, drop-drop, arith, eqb-true}
+use Rattle.std.proofs.Common.{◌≡◌, ◌≢◌, inl, inr, ℕ, zero, suc, ◌+◌, ◌-◌, ◌==◌, ◌<◌, ◌≤◌, nat_le, Bool, true, false, cond, List, [], ◌∷◌, ◌++◌, length, map, filter, take, drop, Contains, Option, Some, None, IsSome, IfSome, refl, sym, ap, subst, ◌∙◌, arith, eqb-true}
 use Rattle.std.specs.List.{All, AllByRecursion, find, flat_map, take-map, drop-map}
 use Rattle.std.specs.Option.{option_map}
 use Rattle.std.proofs.lemmas.List.{length-append, length-drop, length-map, length-take, map-append}
 use Rattle.std.proofs.lemmas.List.Elements.{All-contains_itself, All-cons, All-nil, All-weaker}
-use Rattle.std.proofs.lemmas.List.Concat.{flat_map-append}
 use Rattle.std.proofs.lemmas.List.Sums.{sum_by-append}
 use Rattle.flattener.specs.Block.{BlockState}
 use Rattle.layout.proofs.Goes.{split}
 use Rattle.layout.proofs.Keeps.{remade_keeps, sealed_keeps}
-use Rattle.layout.proofs.Merging.{AreDistinct, HaveIds, IsClear, all_both, all_filter, all_weaker, range_of, ranges_of, segment_id, settled_by, shifted_open, shifted_ranges}
+use Rattle.layout.proofs.Merging.{AreDistinct, IsClear, all_both, all_filter, all_weaker, ranges_of, settled_by, shifted_open, shifted_ranges}
 use Rattle.layout.proofs.Settling.{sealed_after}
-use Rattle.layout.specs.Layout.{Layout, OpenMerge, SegmentOf, live_in, live_items, live_of_range, remade, sealed, segment_of, settled, shifted, with_buffer_last}
+use Rattle.layout.specs.Layout.{Layout, OpenMerge, live_in, live_items, live_of_range, remade, sealed, segment_of, settled, shifted, with_buffer_last}
 use Rattle.layout.specs.Merges.{AreOpen, IsWithin, advanced_if, closed, factor_of, finish_fault, finished, has_merge_id, is_other, left_fault, merge_named, not_done, shares, start_fault, unknown, unknown_fault}
 use Rattle.merge_jobs.specs.Job.{IsLater, live_in_all, segment_kept, segments_kept}
 use Rattle.merge_jobs.specs.Open.{OpenState, is_named, is_other_than, merge_in, merges_in, merges_shown, parts_in, placeless, with_merge}
@@ -24,7 +23,7 @@ use Rattle.index_core.specs.Kept.{AreBlocks, block_number, most_factor, most_mad
 use Rattle.index_core.specs.declared.ready.Ready.{Ready}
 use Rattle.index_core.proofs.Changing.{merges_blocks, remade_blocks, sealed_blocks}
 use Rattle.index_core.proofs.Jobs.{all_drop, all_take, are_later, each, have_ids, over_moved, own_ids}
-use Rattle.index_core.proofs.Opened.{IsSamePlace, IsStart, advanced_place, closed_open, none_clear, others_clear, same_open, start_open, started_so}
+use Rattle.index_core.proofs.Opened.{advanced_place, closed_open, none_clear, others_clear, same_open, start_open, started_so}
 
 -- ---- lists of merges
 

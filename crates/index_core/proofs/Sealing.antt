@@ -1,5 +1,5 @@
 -- A segment that is made of the buffer has its blocks, all of them live.
-use Rattle.std.proofs.Common.{◌≡◌, ◌≢◌, ◌↔◌, ℕ, suc, ◌+◌, ◌<◌, Bool, true, false, List, [], ◌∷◌, ◌++◌, length, map, get_or, slice_index_or, Contains, refl, sym, ap, ◌∙◌, append-nil, arith}
+use Rattle.std.proofs.Common.{◌≡◌, ◌≢◌, ℕ, ◌+◌, ◌<◌, Bool, List, [], ◌∷◌, ◌++◌, length, map, refl, sym, ap, ◌∙◌, append-nil, arith}
 use Rattle.std.proofs.lemmas.List.{map-append, length-map}
 use Rattle.std.proofs.lemmas.List.Elements.{All-append, All-cons, All-nil, All-weaker}
 use Rattle.flattener.specs.Block.{BlockState}
@@ -10,7 +10,7 @@ use Rattle.layout.specs.Layout.{Marked, SegmentOf, alive, segment_of, with_buffe
 use Rattle.merge_jobs.specs.Open.{merges_in, merges_shown}
 use Rattle.mapping.specs.Mapping.{Mapping}
 use Rattle.segment.specs.Flat.{FlatRoot, flat_root, roots_of}
-use Rattle.segment.specs.Live.{EntryState, LiveState, IsLiveOver}
+use Rattle.segment.specs.Live.{EntryState, IsLiveOver}
 use Rattle.segment_parts.specs.declared.columns.Columns.{Columns}
 use Rattle.segment_builder.specs.Blocks.{blocks_of, blocks_in, marked_by}
 use Rattle.index_core.specs.Kept.{segment_kept, segments_kept}

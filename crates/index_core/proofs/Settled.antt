@@ -1,7 +1,6 @@
 -- What settling by a factor leaves of a sealed buffer: the view that the runs of its counts give.
-use Rattle.std.proofs.Common.{◌≡◌, ◌≢◌, ◌⊎◌, inl, inr, ℕ, zero, suc, ◌+◌, ◌-◌, ◌==◌, ◌<◌, ◌≤◌, ◌^◌, List, [], ◌∷◌, ◌++◌, length, map, Option, Some, None, IfOk, refl, sym, ap, subst, ◌∙◌, arith, eqb-true}
-use Rattle.std.specs.List.{All, AllByRecursion, flat_map, sum_by}
-use Rattle.std.proofs.lemmas.Bool.{eqb-false}
+use Rattle.std.proofs.Common.{◌≡◌, inl, inr, ℕ, ◌+◌, ◌==◌, ◌<◌, ◌≤◌, ◌^◌, List, [], ◌∷◌, length, map, Option, Some, None, refl, sym, ap, subst, ◌∙◌, arith, eqb-true}
+use Rattle.std.specs.List.{All, AllByRecursion, sum_by}
 use Rattle.std.proofs.lemmas.List.{length-append, length-map}
 use Rattle.std.proofs.lemmas.List.Elements.{All-nil, All-cons, All-weaker}
 use Rattle.std.proofs.lemmas.List.Sums.{sum_by-cons}
@@ -9,7 +8,7 @@ use Rattle.flattener.specs.Block.{BlockState}
 use Rattle.flattener.specs.Fits.{most_live}
 use Rattle.layout.proofs.Goes.{split}
 use Rattle.layout.proofs.Keeps.{sealed_keeps}
-use Rattle.layout.proofs.Merging.{AreDistinct, AreUnder, HaveIds, all_weaker, remade_ids, segment_id, settled_by}
+use Rattle.layout.proofs.Merging.{AreUnder, HaveIds, all_weaker, remade_ids, segment_id, settled_by}
 use Rattle.layout.specs.Layout.{Layout, OpenMerge, SegmentOf, live_items, sealed, segment_of, settled, with_buffer_last}
 use Rattle.layout.specs.Merges.{AreOpen, IsWithin, factor_of}
 use Rattle.merge_jobs.proofs.LiveRoots.{few_live}

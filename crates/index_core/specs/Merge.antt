@@ -1,5 +1,4 @@
 -- The merge calls: why one is refused, and the rows that show the layout.
-use Rattle.std.specs.Prelude.{ℕ, Option}
 use Rattle.layout.specs.Merges.{MergeFault, bad_range, overlaps, too_many, unknown, not_done}
 use Rattle.index_core.specs.declared.merge.MergeRefusal.{MergeRefusal}
 use Rattle.index_core.specs.declared.merge.MergeRefusal.TheVariants.{BadRange, Overlaps, TooMany, Unknown, NotDone}

@@ -1,4 +1,4 @@
-use Rattle.std.proofs.Common.{◌≡◌, ◌+◌, ◌<◌, ◌≤◌, ℕ, Some, List, length, map, sym, ap, subst, ◌∙◌, arith}
+use Rattle.std.proofs.Common.{◌≡◌, ◌≤◌, List, length, map, sym, ap, subst, ◌∙◌, arith}
 use Rattle.std.specs.List.{All, sum_by}
 use Rattle.std.proofs.lemmas.List.{length-map}
 use Rattle.flattener.specs.Fits.{most_live}
@@ -7,7 +7,6 @@ use Rattle.merge_jobs.specs.Job.{live_in_all, segment_kept, segments_kept}
 use Rattle.merge_jobs.specs.Open.{merges_shown}
 use Rattle.merge_policy.specs.Policy.{settled_made, settled_runs}
 use Rattle.merge_policy.specs.Runs.{AreRuns, counts_from, live_counted, moved}
-use Rattle.merge_policy.specs.declared.counts.SegmentCount.{SegmentCount}
 use Rattle.merge_policy.specs.declared.runs.Run.{Run}
 use Rattle.merge_jobs.specs.declared.rows.MergeRow.{MergeRow}
 use Rattle.segment.specs.Live.{EntryState}

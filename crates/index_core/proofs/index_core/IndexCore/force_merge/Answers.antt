@@ -1,6 +1,5 @@
 use Rattle.std.proofs.Common.{length, refl, sym, ap, subst, ◌∙◌}
 use Rattle.std.proofs.lemmas.List.{length-map}
-use Rattle.layout.specs.Layout.{Layout}
 use Rattle.layout.specs.Merges.{force_fault}
 use Rattle.merge_jobs.specs.Job.{segment_kept}
 use Rattle.merge_jobs.specs.Open.{merges_shown}

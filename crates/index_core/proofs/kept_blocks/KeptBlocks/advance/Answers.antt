@@ -1,7 +1,7 @@
-use Rattle.std.proofs.Common.{◌≡◌, ◌-◌, ℕ, List, map, None, Some, refl, sym, ap, subst, ◌∙◌}
+use Rattle.std.proofs.Common.{◌≡◌, ◌-◌, ℕ, List, None, Some, sym, ap, subst, ◌∙◌}
 use Rattle.layout.specs.Layout.{Layout, OpenMerge}
 use Rattle.layout.specs.Merges.{advanced, advanced_if, merge_named, step_fault}
-use Rattle.merge_jobs.specs.Open.{OpenState, merges_in}
+use Rattle.merge_jobs.specs.Open.{OpenState}
 use Rattle.flattener.specs.Block.{BlockState}
 use Rattle.index_core.specs.Found.{AreKept, BlocksState, layout_of}
 use Rattle.index_core.specs.contracts.kept_blocks.KeptBlocks.{the_view}

@@ -1,4 +1,4 @@
-use Rattle.std.proofs.Common.{◌≡◌, ◌+◌, ◌≤◌, ℕ, List, length, map, filter, is_some, Some, None, sym, ap, subst, ◌∙◌, arith}
+use Rattle.std.proofs.Common.{◌≡◌, ◌+◌, ℕ, List, length, map, filter, is_some, Some, None, sym, ap, subst, ◌∙◌, arith}
 use Rattle.flattener.specs.Fits.{SegmentFits}
 use Rattle.layout.specs.Layout.{OpenMerge, live_of_range, shifted}
 use Rattle.layout.specs.Merges.{finish_fault, finished, merge_named}

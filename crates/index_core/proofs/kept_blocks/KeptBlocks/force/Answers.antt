@@ -1,6 +1,4 @@
-use Rattle.std.proofs.Common.{◌≡◌, ◌+◌, ◌<◌, ◌≤◌, ℕ, List, length, map, take, drop, Option, None, IfSome, sym, ap, subst, ◌∙◌, arith}
-use Rattle.std.specs.List.{AllByRecursion}
-use Rattle.flattener.specs.Block.{BlockState}
+use Rattle.std.proofs.Common.{◌≡◌, ◌+◌, ◌≤◌, ℕ, List, length, map, take, drop, None, sym, ap, subst, ◌∙◌, arith}
 use Rattle.flattener.specs.Fits.{SegmentFits}
 use Rattle.layout.specs.Layout.{remade, segment_of, shifted}
 use Rattle.layout.specs.Merges.{overlapping}

@@ -1,4 +1,3 @@
-use Rattle.index_core.specs.Found.{AreKept}
 use Rattle.index_core.proofs.kept_blocks.KeptBlocks.set_factor.Goals as goal
 
 pub invariant_of-self : goal.invariant_of-self

@@ -7,7 +7,6 @@ use Rattle.merge_jobs.specs.Open.{OpenState, merge_in, merges_in}
 use Rattle.segment.specs.Live.{EntryState}
 use Rattle.segment_builder.specs.Blocks.{objects_of}
 use Rattle.segment_view.specs.Views.{HaveOwnIds}
-use Rattle.flattener.specs.Fits.{most_live}
 use Rattle.flattener.specs.Block.{BlockState}
 use Rattle.index_core.specs.Found.{AreKept, BlocksState, layout_of}
 use Rattle.index_core.specs.contracts.kept_blocks.KeptBlocks.{the_view}

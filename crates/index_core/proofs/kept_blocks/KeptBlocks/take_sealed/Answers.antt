@@ -1,16 +1,14 @@
-use Rattle.std.proofs.Common.{◌≡◌, ◌-◌, List, map, refl, sym, ap, subst, ◌∙◌}
+use Rattle.std.proofs.Common.{◌≡◌, ◌-◌, map, refl, sym, ap, subst, ◌∙◌}
 use Rattle.std.specs.Prelude.{vec_capacity, vec_len}
 use Rattle.std.specs.List.{All}
 use Rattle.flattener.specs.Seen.{block_seen}
 use Rattle.layout.specs.Layout.{sealed}
 use Rattle.merge_jobs.specs.Open.{merges_shown}
 use Rattle.view_merge.specs.Given.{IsKeptOrMade}
-use Rattle.flattener.specs.Block.{BlockState}
-use Rattle.index_core.specs.Found.{AreKept, BlocksState, IsRelaid, layout_of}
+use Rattle.index_core.specs.Found.{BlocksState, IsRelaid, layout_of}
 use Rattle.index_core.specs.contracts.kept_blocks.KeptBlocks.{the_view}
 use Rattle.index_core.specs.Found.{AreOpenOf, layout_ready}
 use Rattle.index_core.specs.Kept.{AreBlocks}
-use Rattle.index_core.specs.declared.ready.Ready.{Ready}
 use Rattle.index_core.proofs.Relaying.{sealed_relaid, taken_kept, taken_layout}
 use Rattle.index_core.proofs.kept_blocks.KeptBlocks.take_sealed.Goals as goal
 

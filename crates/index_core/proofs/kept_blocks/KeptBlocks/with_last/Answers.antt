@@ -1,9 +1,8 @@
-use Rattle.std.proofs.Common.{◌≡◌, ◌≤◌, inr, List, map, sym, subst, arith}
+use Rattle.std.proofs.Common.{◌≤◌, inr, List, map, sym, subst, arith}
 use Rattle.std.specs.List.{All}
 use Rattle.flattener.specs.Fits.{BlockFits}
 use Rattle.flattener.specs.Seen.{block_seen}
 use Rattle.flattener.specs.declared.document.Block.{Block}
-use Rattle.segment.specs.Live.{EntryState}
 use Rattle.view_merge.specs.Given.{IsKeptOrMade}
 use Rattle.view_merge.proofs.Ways.{kept_more}
 use Rattle.index_core.specs.Found.{AreBelow, AreFit, BlocksState}
