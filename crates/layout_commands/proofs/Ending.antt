@@ -106,8 +106,8 @@ module _ (id : ℕ) (index index' : IndexState) where
       let L = sealed (layout_kept index) in
       with_named (with_open (merge_named id L) (advance_done id roots L) ≡ relaid (reply.MergeAdvanced done.count id) (layout_kept index')) (merge_named id L) refl none
       (λ merge e.
-          let left : merge.left - roots ≡ done.count = sym (ap (λ (d : MergeDone). d.count) (is merge e)) in
-          ap (λ named. with_open named (advance_done id roots L)) e ∙ (λ i. relaid (reply.MergeAdvanced (left i) id) (sym layout i)))
+      let left : merge.left - roots ≡ done.count = sym (ap (λ (d : MergeDone). d.count) (is merge e)) in
+      ap (λ named. with_open named (advance_done id roots L)) e ∙ (λ i. relaid (reply.MergeAdvanced (left i) id) (sym layout i)))
 
   pub aborts : step_fault id (sealed (layout_kept index)) ≡ None → layout_kept index' ≡ aborted id (sealed (layout_kept index)) → IsMerged (Abort id) (Ok (reply.MergeAborted id)) index index'
   unfolding merged_by
@@ -130,8 +130,8 @@ module _ (id : ℕ) (index index' : IndexState) where
       ap (λ fault. unless_faulty id fault (with_open (merge_named id L) (finish_done id L))) none
       ∙ with_named (with_open (merge_named id L) (finish_done id L) ≡ relaid (reply.MergeFinished done.count id) (layout_kept index')) (merge_named id L) refl (not_left (merge_named id L) none)
       (λ merge e.
-          let live : length (live_of_range merge.from merge.count L) ≡ done.count = sym (ap (λ (d : MergeDone). d.count) (is merge e)) in
-          ap (λ named. with_open named (finish_done id L)) e ∙ (λ i. relaid (reply.MergeFinished (live i) id) (sym (layout merge e) i)))
+      let live : length (live_of_range merge.from merge.count L) ≡ done.count = sym (ap (λ (d : MergeDone). d.count) (is merge e)) in
+      ap (λ named. with_open named (finish_done id L)) e ∙ (λ i. relaid (reply.MergeFinished (live i) id) (sym (layout merge e) i)))
 
 pub forces : (most : ℕ) (index index' : IndexState) (done : MergeDone) → force_fault most (sealed (layout_kept index)) ≡ None
     → done ≡ record { id = 0; count = length (forced most (sealed (layout_kept index))).segments }

@@ -1,10 +1,10 @@
 -- How commands on the layout and on points in time end: with a reply where they were done, refused with nothing changed, or for
 -- want of memory, which may leave the buffer sealed.
-use Rattle.std.specs.Prelude.{◌≡◌, ◌⊎◌, ℕ, ◌+◌, ◌<◌, nat_le, Bool, true, false, length, Result, Ok, Err}
+use Rattle.std.specs.Prelude.{◌≡◌, ◌⊎◌, ℕ, ◌+◌, ◌<◌, true, false, Result, Ok, Err}
 use Rattle.index_core.specs.Kept.{IndexState, layout_kept}
 use Rattle.index_core.specs.declared.merge.MergeRefusal.{MergeRefusal}
 use Rattle.index_core.specs.declared.merge.MergeRefusal.TheVariants as merge
-use Rattle.layout.specs.Layout.{OpenMerge, sealed}
+use Rattle.layout.specs.Layout.{sealed}
 use Rattle.machine.specs.Merging.{declined, merged_by, relaid}
 use Rattle.machine.specs.declared.merge_command.MergeCommand.{MergeCommand}
 use Rattle.machine.specs.declared.merge_command.MergeCommand.TheVariants.{Start, Advance, Finish, Abort, Force}

@@ -38,12 +38,7 @@ pub fn merge(
 
 /// Opens a merge.
 #[tactic(auto, using(crate::proofs::Short::short))]
-fn start(
-    mapping: &Mapping,
-    index: &mut IndexCore,
-    from: u64,
-    count: u64,
-) -> Result<Reply, NotDone>
+fn start(mapping: &Mapping, index: &mut IndexCore, from: u64, count: u64) -> Result<Reply, NotDone>
     requires { IndexFits mapping.now index.old }
     ensures merged { IsMerged (Start from count) result index.old index.new }
     ensures short { IfOk result (λ reply. length (line_of reply) ≤ LONGEST_LINE) }
@@ -62,12 +57,7 @@ fn start(
 
 /// Walks roots of an open merge.
 #[tactic(auto, using(crate::proofs::Short::short))]
-fn advance(
-    mapping: &Mapping,
-    index: &mut IndexCore,
-    id: u64,
-    roots: u64,
-) -> Result<Reply, NotDone>
+fn advance(mapping: &Mapping, index: &mut IndexCore, id: u64, roots: u64) -> Result<Reply, NotDone>
     requires { IndexFits mapping.now index.old }
     ensures merged { IsMerged (Advance id roots) result index.old index.new }
     ensures short { IfOk result (λ reply. length (line_of reply) ≤ LONGEST_LINE) }

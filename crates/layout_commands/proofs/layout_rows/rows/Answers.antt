@@ -14,7 +14,7 @@ returns c =
     let kept = layout_kept c.args.index.now in
     let own = c.in_ok-segments.field-0 in
     let merges : map merge_row_of own.merges.items ≡ map merge_row kept.merges =
-        sym (map-map merge_row merge_shown own.merges.items) ∙ ap (map merge_row) c.in_ok-segments.ensures.merges in
+    sym (map-map merge_row merge_shown own.merges.items) ∙ ap (map merge_row) c.in_ok-segments.ensures.merges in
     let segments : map segment_row_of own.segments.items ≡ map segment_row (summaries_of block_objects block_number kept) =
-        sym (map-map segment_row summary_shown own.segments.items) ∙ ap (map segment_row) c.in_ok-segments.ensures.segments in
+    sym (map-map segment_row summary_shown own.segments.items) ∙ ap (map segment_row) c.in_ok-segments.ensures.segments in
     cc (c.of.ensures, c.of-2.ensures, c.in_ok-merge_rows.ensures, c.in_ok-segment_rows.ensures, c.as_slice.ensures.value, c.as_slice-2.ensures.value, c.in_ok-segments.merges-is, c.in_ok-segments.segments-is)
