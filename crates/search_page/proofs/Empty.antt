@@ -16,7 +16,7 @@ use Rattle.tree_objects.specs.Object.{Object}
 use Rattle.tree_objects.specs.Tree.{Tree}
 
 -- a row for each object that is hit
-rows_long : (m : Mapping) (live : Seq Tree) (query : Clause) (sorts : Seq Sort) (os : Seq Object) → length (filter_map (row_if m live query sorts) os) ≡ length (those_hit m live query os)
+pub rows_long : (m : Mapping) (live : Seq Tree) (query : Clause) (sorts : Seq Sort) (os : Seq Object) → length (filter_map (row_if m live query sorts) os) ≡ length (those_hit m live query os)
 rows_long m live query sorts [] = refl
 rows_long m live query sorts (o ∷ os) = by (hit m live query o) refl (rows_long m live query sorts os)
   where

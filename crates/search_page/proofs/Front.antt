@@ -1,6 +1,14 @@
 -- The first of some elements, taken part by part.
-use Rattle.std.proofs.Common.{◌≡◌, ℕ, zero, suc, ◌+◌, ◌<◌, ◌≤◌, Bool, List, [], ◌∷◌, ◌++◌, length, map, min, take, drop, get_or, Option, is_some, refl, sym, ap, ◌∙◌, append_assoc, arith}
-use Rattle.search_page.specs.Hits.{place_of, places_of}
+use Rattle.std.proofs.Common.{◌≡◌, ℕ, zero, suc, ◌+◌, ◌<◌, ◌≤◌, ℤ, pos, replicate, Bool, List, [], ◌∷◌, ◌++◌, length, map, min, take, drop, get_or, Option, Some, is_some, refl, sym, subst, ap, ◌∙◌, append_assoc, arith}
+use Rattle.std.specs.List.{range_with_len}
+use Rattle.block_join.specs.Scores.{filled}
+use Rattle.hit_order.specs.Table.{key_at, keys_of, number_or_null, row_at, table_of}
+use Rattle.hit_order.specs.declared.column.Column.{Column}
+use Rattle.hit_order.specs.declared.column.ColumnKeys.{ColumnKeys}
+use Rattle.hit_order.specs.declared.column.ColumnKeys.TheVariants.{Numbers}
+use Rattle.query_ast.specs.declared.sort.Key.{Key}
+use Rattle.query_ast.specs.declared.sort.Key.TheVariants.{Null, Number}
+use Rattle.search_page.specs.Hits.{AreShared, place_of, places_of, plain_row}
 use Rattle.segment_parts.specs.Text.{marked_places}
 use Rattle.hit_order.specs.declared.column.RowPlace.{RowPlace}
 
@@ -28,6 +36,12 @@ module _ {A : Type 0} where
   taken_on (suc n) [] more = refl
   taken_on (suc n) (x ∷ xs) more = ap (λ (l : List A). x ∷ l) (taken_on n xs more)
 
+pub dropped_all : {A : Type 0} (at : ℕ) (xs : List A) → length xs ≤ at → drop at xs ≡ []
+dropped_all zero [] past = refl
+dropped_all (suc at) [] past = refl
+dropped_all zero (x ∷ xs) past = absurd (omega (arith, past))
+dropped_all (suc at) (x ∷ xs) past = dropped_all at xs (omega (arith, past))
+
 -- the places of the sets from one on, the first of them apart
 pub places_step : (at : ℕ) (found : List (List (Option ℕ))) (scores : List (Option ℕ)) (flags : List Bool) → at < length found → scores ≡ get_or found at scores → flags ≡ map is_some scores → places_of at (drop at found) ≡ map (place_of at) (marked_places 0 flags) ++ places_of (at + 1) (drop (at + 1) found)
 places_step at found scores flags low is set = by at at found low is
@@ -42,13 +56,7 @@ places_step at found scores flags low is set = by at at found low is
     by place (suc at) (x ∷ found) low is = let next : suc at + 1 ≡ suc (at + 1) = omega arith in rw next (by place at found (omega (arith, low)) is)
 
 pub places_end : (at : ℕ) (found : List (List (Option ℕ))) → length found ≤ at → places_of at (drop at found) ≡ []
-places_end at found past = ap (places_of at) (none at found past)
-  where
-    none : (at : ℕ) (found : List (List (Option ℕ))) → length found ≤ at → drop at found ≡ []
-    none zero [] past = refl
-    none (suc at) [] past = refl
-    none zero (x ∷ found) past = absurd (omega (arith, past))
-    none (suc at) (x ∷ found) past = none at found (omega (arith, past))
+places_end at found past = ap (places_of at) (dropped_all at found past)
 
 -- ---- a list cut at both ends
 
@@ -64,3 +72,37 @@ pub cut_far : {A : Type 0} (from : ℕ) (xs : List A) → drop (min from (length
 cut_far zero xs = refl
 cut_far (suc from) [] = refl
 cut_far (suc from) (x ∷ xs) = cut_far from xs
+
+-- ---- what all entries share
+
+pub shared_step : (score at : ℕ) (found : List (List (Option ℕ))) (scores : List (Option ℕ)) → at < length found → scores ≡ get_or found at scores → scores ≡ filled (Some score) (map is_some scores) → AreShared score (drop (at + 1) found) → AreShared score (drop at found)
+shared_step score at [] scores low is own rest = absurd (omega (arith, low))
+shared_step score zero (x ∷ found) scores low is own rest = (subst (λ (s : List (Option ℕ)). s ≡ filled (Some score) (map is_some s)) is own, rest)
+shared_step score (suc at) (x ∷ found) scores low is own rest =
+    let next : suc at + 1 ≡ suc (at + 1) = omega arith in
+    shared_step score at found scores (omega (arith, low)) is own (rw next at rest)
+
+-- ---- the rows of places
+
+keys_same : (count at : ℕ) (z : ℤ) → at < count → get_or (map number_or_null (replicate count (Some z))) at Null ≡ Number z
+keys_same zero at z low = absurd (omega (arith, low))
+keys_same (suc count) zero z low = refl
+keys_same (suc count) (suc at) z low = keys_same count at z (omega (arith, low))
+
+range_mapped : {A B : Type 0} (f : ℕ → A) (g : B → A) (d : B) (start : ℕ) (xs : List B) → ((k : ℕ) → k < length xs → f (start + k) ≡ g (get_or xs k d)) → map f (range_with_len start (length xs)) ≡ map g xs
+range_mapped f g d start [] same = refl
+range_mapped {A} {B} f g d start (x ∷ xs) same =
+    ap (λ (y : A). y ∷ map f (range_with_len (start + 1) (length xs))) (let here : start + 0 ≡ start = omega arith in sym (ap f here) ∙ same 0 (omega arith))
+    ∙ ap (λ (l : List A). g x ∷ l) (range_mapped f g d (start + 1) xs (λ k low. (let on : (start + 1) + k ≡ start + suc k = omega arith in ap f on) ∙ same (suc k) (omega (arith, low))))
+
+pub table_plain : (score : ℕ) (column : Column) (keys : List (Option ℤ)) (page : List RowPlace) → column.keys ≡ Numbers keys → keys ≡ replicate (length page) (Some (pos score)) → (table_of (column ∷ []) page).rows ≡ map (plain_row score) page
+unfolding table_of
+table_plain score column keys page numbers same =
+    range_mapped (row_at (column ∷ []) page) (plain_row score) (record { place = 0; doc = 0; number = pos 0 }) 0 page
+    (λ k low.
+    let own : key_at column k ≡ Number (pos score) =
+    ap (λ (c : ColumnKeys). get_or (keys_of c) k Null) numbers
+    ∙ ap (λ (l : List (Option ℤ)). get_or (map number_or_null l) k Null) same
+    ∙ keys_same (length page) k (pos score) low in
+    let at : RowPlace = get_or page k (record { place = 0; doc = 0; number = pos 0 }) in
+    ap (λ (key : Key). record { keys = key ∷ []; place = at.place; doc = at.doc; number = at.number }) own)

@@ -1,5 +1,5 @@
 -- A page of hits that have one score, by which alone they are ordered: they stand in order as they are found.
-use Rattle.std.proofs.Common.{◌≡◌, ℕ, zero, suc, ◌+◌, ◌<◌, ℤ, pos, Bool, true, false, cond, List as Seq, [], ◌∷◌, ◌++◌, length, map, filter, take, drop, Option, Some, None, is_some, refl, sym, ap, subst, ◌∙◌, arith}
+use Rattle.std.proofs.Common.{◌≡◌, ℕ, zero, suc, ◌+◌, ◌<◌, ℤ, pos, Bool, true, false, cond, List as Seq, [], ◌∷◌, ◌++◌, length, map, filter, take, drop, get_or, slice_get, Option, Some, None, is_some, refl, sym, ap, subst, ◌∙◌, arith}
 use Rattle.std.specs.List.{AllByRecursion, cons_option, filter_map, flat_map, sum_by}
 use Rattle.std.specs.Option.{option_map}
 use Rattle.std.specs.Ordering.{int_cmp, is_lt}
@@ -24,6 +24,7 @@ use Rattle.query_ast.specs.declared.sort.Key.{Key}
 use Rattle.query_ast.specs.declared.sort.Key.TheVariants.{Number}
 use Rattle.query_ast.specs.declared.sort.KeyRow.{KeyRow}
 use Rattle.query_ast.specs.declared.sort.Sort.{Sort}
+use Rattle.query_ast.specs.declared.sort.SortKey.{SortKey}
 use Rattle.query_ast.specs.declared.sort.SortKey.TheVariants.{Score}
 use Rattle.query_eval.specs.Found.{IsFound, live_trees, score_by}
 use Rattle.segment.specs.Live.{EntryState}
@@ -31,13 +32,14 @@ use Rattle.segment_parts.specs.Text.{marked_places}
 use Rattle.tree_joins.specs.Seen.{at_scope, if_live, seen}
 use Rattle.tree_objects.specs.Object.{Object, block_objects, root, scope}
 use Rattle.tree_objects.specs.Tree.{ComesFirst, IsLiveList, Tree}
-use Rattle.search_page.specs.Hits.{AreRootRows, AreShared, IsByScore, place_of, places_of, plain_row, row_reads, shown_at}
+use Rattle.search_page.specs.Hits.{AreRootRows, AreShared, IsByScore, hit_at, hit_in, place_of, places_of, plain_row, row_reads, shown_at, shown_of}
 use Rattle.search_page.specs.Searched.{hit_reads, page_reads}
 use Rattle.search_page.proofs.Agreeing.{Agree, agree_length, agree_shown}
 use Rattle.search_page.proofs.Empty.{rows_long}
 use Rattle.search_page.proofs.Paged.{Pair, at_roots, own_shown, reads_are, rows_are, shown, shown_are}
 use Rattle.search_page.proofs.Rising.{AreAlike, Rise, lower, page_alike}
-use Rattle.search_page.proofs.Rows.{OneRoot, Same, Scores}
+use Rattle.search_page.proofs.Rows.{OneRoot, Scores}
+use Rattle.search_page.proofs.Shown.{sum_first}
 
 -- ---- lists
 
@@ -65,7 +67,7 @@ second hit = option_map (λ (h : Object × ℕ). h.1) hit
 module _ (m : Mapping) (live : Seq Tree) (score : ℕ) (sort : Sort) (key : sort.key ≡ Score) where
   plain_key : (o : Object) → map (sort_key m live score o) (sort ∷ []) ≡ Number (pos score) ∷ []
   unfolding sort_key
-  plain_key o = ap (λ k. key_by m live sort.missing score o k ∷ []) key
+  plain_key o = ap (λ (k : SortKey). key_by m live sort.missing score o k ∷ []) key
 
   -- those of one entry
   entry_plain : (place doc : ℕ) (hits : Seq (Option (Object × ℕ))) → map second hits ≡ filled (Some score) (map is_some (map second hits))
@@ -111,7 +113,7 @@ module _ (m : Mapping) (live : Seq Tree) (score : ℕ) (sort : Sort) (key : sort
     view_plain place [] same = refl
     view_plain place (ts ∷ more) same =
         let hits = seen m (at_scope 0 (scored given)) ts in
-        let own : map second hits ≡ filled (Some score) (map is_some (map second hits)) = rw seen_second ts same.0 in
+        let own : map second hits ≡ filled (Some score) (map is_some (map second hits)) = rw (seen_second ts) same.0 in
         map-append unnumbered (rows_from m live (sort ∷ []) place 0 hits) (rows_in m 0 live (sort ∷ []) given (suc place) more)
         ∙ ap (λ (l : Seq KeyRow). l ++ map unnumbered (rows_in m 0 live (sort ∷ []) given (suc place) more))
         (entry_plain place 0 hits own ∙ ap (λ (s : Scores). map (plain_row score) (map (place_of place) (marked_places 0 (map is_some s)))) (seen_second ts))
@@ -122,9 +124,9 @@ alike_from : (score : ℕ) (rows : Seq KeyRow) (places : Seq RowPlace) → map u
 alike_from score [] places same = tt
 alike_from score (row ∷ rows) [] same = absurd (let no : ⊥ = cc in no)
 alike_from score (row ∷ rows) (at ∷ places) same =
-    let keys : row.keys ≡ Number (pos score) ∷ [] = cc in
+    let first : unnumbered row ≡ plain_row score at = cc in
     let rest : map unnumbered rows ≡ map (plain_row score) places = cc in
-    (keys, alike_from score rows places rest)
+    (ap (λ (r : KeyRow). r.keys) first, alike_from score rows places rest)
 
 -- ---- the rows of live trees rise
 
@@ -206,14 +208,32 @@ module _ (m : Mapping) (one_root : OneRoot m) (view : Seq EntryState) (found : S
     roots_plain [] are = tt
     roots_plain (row ∷ some) are = (are.0, roots_plain some are.1)
 
+    same_hit : (entry : Option EntryState) (scores : Scores) (row : KeyRow) → hit_in entry scores (unnumbered row) ≡ hit_in entry scores row
+    same_hit None scores row = refl
+    same_hit (Some entry) scores row = refl
+
+    same_shown : (row : KeyRow) (hit : Option Hit) → option_map (shown_of m trees body (unnumbered row)) hit ≡ option_map (shown_of m trees body row) hit
+    same_shown row None = refl
+    same_shown row (Some hit) = refl
+
+    row_plain : (row : KeyRow) → shown_at m view found trees body (unnumbered row) ≡ shown_at m view found trees body row
+    unfolding shown_at hit_at
+    row_plain row =
+        ap (option_map (shown_of m trees body (unnumbered row))) (same_hit (slice_get view row.place) (get_or found row.place []) row)
+        ∙ same_shown row (hit_in (slice_get view row.place) (get_or found row.place []) row)
+
     shown_plain : (some : Seq KeyRow) → filter_map (shown_at m view found trees body) (map unnumbered some) ≡ filter_map (shown_at m view found trees body) some
-    unfolding shown_at
     shown_plain [] = refl
-    shown_plain (row ∷ some) = ap (cons_option (shown_at m view found trees body row)) (shown_plain some)
+    shown_plain (row ∷ some) =
+        ap (λ (o : Option Hit). cons_option o (filter_map (shown_at m view found trees body) (map unnumbered some))) (row_plain row)
+        ∙ ap (cons_option (shown_at m view found trees body row)) (shown_plain some)
 
     reads_plain : (some : Seq KeyRow) → sum_by (row_reads m trees body) (map unnumbered some) ≡ sum_by (row_reads m trees body) some
     reads_plain [] = refl
-    reads_plain (row ∷ some) = omega (arith, reads_plain some, sum_first (row_reads m trees body) (unnumbered row) (map unnumbered some), sum_first (row_reads m trees body) row some)
+    reads_plain (row ∷ some) =
+        sum_first (row_reads m trees body) (unnumbered row) (map unnumbered some)
+        ∙ ap (λ (n : ℕ). row_reads m trees body row + n) (reads_plain some)
+        ∙ sym (sum_first (row_reads m trees body) row some)
 
     abbrev own_page : Seq Row
     own_page = own_shown m one_root view found body is_found trees stands

@@ -23,15 +23,15 @@ level false z = tied_itself int_cmp_total z
 same_number : (d : Direction) (z : ℤ) → keys_cmp (d ∷ []) (Number z ∷ []) (Number z ∷ []) ≡ Equal
 same_number d z = ap (λ (o : Ordering). ordering_then o Equal) (level d.descending z)
 
+abbrev pub AreAlike : {A : Type 0} → (A → Seq Key) → ℤ → Seq A → Type 0
+AreAlike {A} keys z rows = AllByRecursion (λ (x : A). keys x ≡ Number z ∷ []) rows
+
+-- no row has a lesser number than one before it
+abbrev pub Rise : {A : Type 0} → (A → ℤ) → Seq A → Type 0
+Rise number [] = Unit {0}
+Rise {A} number (x ∷ xs) = AllByRecursion (λ (y : A). is_lt (int_cmp (number y) (number x)) ≡ false) xs × Rise number xs
+
 module _ {A : Type 0} (keys : A → Seq Key) (number : A → ℤ) (d : Direction) (z : ℤ) where
-  abbrev pub AreAlike : Seq A → Type 0
-  AreAlike rows = AllByRecursion (λ (x : A). keys x ≡ Number z ∷ []) rows
-
-  -- no row has a lesser number than one before it
-  abbrev pub Rise : Seq A → Type 0
-  Rise [] = Unit {0}
-  Rise (x ∷ xs) = AllByRecursion (λ (y : A). is_lt (int_cmp (number y) (number x)) ≡ false) xs × Rise xs
-
   not_before : (x y : A) → keys x ≡ Number z ∷ [] → keys y ≡ Number z ∷ [] → is_lt (int_cmp (number y) (number x)) ≡ false → comes_before keys number (d ∷ []) y x ≡ false
   not_before x y one other up =
       ap (λ (ks : Seq Key). is_lt (place_cmp (d ∷ []) (ks, number y) (keys x, number x))) other
@@ -39,7 +39,7 @@ module _ {A : Type 0} (keys : A → Seq Key) (number : A → ℤ) (d : Direction
       ∙ ap (λ (o : Ordering). is_lt (ordering_then o (int_cmp (number y) (number x)))) (same_number d z)
       ∙ up
 
-  in_order_kept : (rows : Seq A) → AreAlike rows → Rise rows → in_order (comes_before keys number (d ∷ [])) rows ≡ rows
+  in_order_kept : (rows : Seq A) → AreAlike keys z rows → Rise number rows → in_order (comes_before keys number (d ∷ [])) rows ≡ rows
   in_order_kept [] same up = refl
   in_order_kept (x ∷ []) same up = refl
   in_order_kept (x ∷ y ∷ rows) same up =
@@ -48,7 +48,7 @@ module _ {A : Type 0} (keys : A → Seq Key) (number : A → ℤ) (d : Direction
       ∙ rw later refl
 
   -- rows with one key stand in order by their numbers
-  pub page_alike : (from size : ℕ) (rows : Seq A) → AreAlike rows → Rise rows → page_of keys number (d ∷ []) None from size rows ≡ take size (drop from rows)
+  pub page_alike : (from size : ℕ) (rows : Seq A) → AreAlike keys z rows → Rise number rows → page_of keys number (d ∷ []) None from size rows ≡ take size (drop from rows)
   unfolding page_of
   page_alike from size rows same up =
       ap (λ (l : Seq A). take size (drop from l))

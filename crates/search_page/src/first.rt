@@ -17,15 +17,28 @@ pub(crate) fn only_score(search: &SearchBody, matched: &Matches) -> Option<u64>
     ensures only { IfSome result (λ score. (search.now.after ≡ None) × IsByScore search.now.sort × AreShared score matched.now) }
     ensures capped { IfSome result (λ score. score ≤ SCORE_CAP) }
 {
-    if search.after.is_some() || !is_by_score(search.sort.as_slice()) {
+    if let Some(_) = &search.after {
         return None;
     }
-    match matched.as_slice() {
+    if !is_by_score(search.sort.as_slice()) {
+        return None;
+    }
+    let found = matched.as_slice();
+    let score = first_score(found)?;
+    if have_score(found, score) {
+        Some(score)
+    } else {
+        None
+    }
+}
+
+/// The one score of the hits of the first entry.
+fn first_score(found: &[Scored]) -> Option<u64>
+    ensures { IfSome result (λ score. score ≤ SCORE_CAP) }
+{
+    match found {
         [] => None,
-        [first, others @ ..] => {
-            let score = first.shared()?;
-            if have_score(others, score) { Some(score) } else { None }
-        }
+        [first, ..] => first.shared(),
     }
 }
 
@@ -47,7 +60,10 @@ fn have_score(found: &[Scored], score: u64) -> bool
     ensures { IsTrue result → AreShared score found.now }
 {
     'entries: for at in 0..found.len() {
-        if found[at].shared() != Some(score) {
+        let Some(own) = found[at].shared() else {
+            return false;
+        };
+        if own != score {
             return false;
         }
     }
@@ -69,7 +85,7 @@ pub(crate) fn first_rows(
     let from = from as usize;
     let places = first_places(alloc, matched.as_slice(), from + size as usize)?;
     let page = places.as_slice().split_at(from.min(places.len())).1;
-    let keys = score_keys(alloc, score as i64, page.len())?;
+    let keys = score_keys(alloc, score, page.len())?;
     let direction = Direction {
         descending: true,
         null_first: false,
@@ -82,13 +98,14 @@ pub(crate) fn first_rows(
     Ok(KeyRows::of(columns, Vec::from_slice(alloc, page)?))
 }
 
-/// So many keys that are this number.
-fn score_keys(alloc: Global, score: i64, count: usize) -> Result<NumberKeys, NoMemory>
-    ensures { IfOk result (λ keys. keys ≡ replicate count (Some score)) }
+/// So many keys that are this score.
+fn score_keys(alloc: Global, score: u64, count: usize) -> Result<NumberKeys, NoMemory>
+    requires { score ≤ SCORE_CAP }
+    ensures { IfOk result (λ keys. keys ≡ replicate count (Some (pos score))) }
 {
     let mut keys = NumberKeys::empty(alloc);
     'rows: for _ in 0..count {
-        keys.push(Some(score))?;
+        keys.push(Some(score as i64))?;
     }
     Ok(keys)
 }
