@@ -129,9 +129,7 @@ fn page<L: Ledger>(
             Some(score) => first_page(
                 alloc, view, mapping, search, ordinals, matched, score, steps,
             ),
-            None => shown_page(
-                alloc, view, mapping, search, ordinals, matched, steps,
-            ),
+            None => shown_page(alloc, view, mapping, search, ordinals, matched, steps),
         }
     }
 }
