@@ -1,5 +1,5 @@
 -- The first of some elements, taken part by part.
-use Rattle.std.proofs.Common.{◌≡◌, ℕ, zero, suc, ◌+◌, ◌<◌, ◌≤◌, ℤ, pos, replicate, Bool, List, [], ◌∷◌, ◌++◌, length, map, min, take, drop, get_or, Option, Some, is_some, refl, sym, subst, ap, ◌∙◌, append_assoc, arith}
+use Rattle.std.proofs.Common.{◌≡◌, ℕ, zero, suc, ◌+◌, ◌<◌, ◌≤◌, ℤ, pos, replicate, Bool, List, [], ◌∷◌, ◌++◌, length, map, take, drop, get_or, Option, Some, is_some, refl, sym, subst, ap, ◌∙◌, arith}
 use Rattle.std.specs.List.{range_with_len}
 use Rattle.block_join.specs.Scores.{filled}
 use Rattle.hit_order.specs.Table.{key_at, keys_of, number_or_null, row_at, table_of}
@@ -60,18 +60,14 @@ places_end at found past = ap (places_of at) (dropped_all at found past)
 
 -- ---- a list cut at both ends
 
-pub cut_both : {A : Type 0} (from size : ℕ) (xs : List A) → drop from (take (from + size) xs) ≡ take size (drop from xs)
-cut_both zero size xs = refl
-cut_both {A} (suc from) size xs = let next : suc from + size ≡ suc (from + size) = omega arith in rw next (by xs)
-  where
-    by : (xs : List A) → drop (suc from) (take (suc (from + size)) xs) ≡ take size (drop (suc from) xs)
-    by [] = refl
-    by (x ∷ xs) = cut_both from size xs
+take_none : {A : Type 0} (n : ℕ) → take {A = A} n [] ≡ []
+take_none zero = refl
+take_none (suc n) = refl
 
-pub cut_far : {A : Type 0} (from : ℕ) (xs : List A) → drop (min from (length xs)) xs ≡ drop from xs
-cut_far zero xs = refl
-cut_far (suc from) [] = refl
-cut_far (suc from) (x ∷ xs) = cut_far from xs
+pub cut_both : {A : Type 0} (from size : ℕ) (xs : List A) → drop from (take (from + size) xs) ≡ take size (drop from xs)
+cut_both zero size xs = let none : 0 + size ≡ size = omega arith in rw none refl
+cut_both (suc from) size [] = let next : suc from + size ≡ suc (from + size) = omega arith in rw next (sym (take_none size))
+cut_both (suc from) size (x ∷ xs) = let next : suc from + size ≡ suc (from + size) = omega arith in rw next (cut_both from size xs)
 
 -- ---- what all entries share
 
@@ -105,4 +101,9 @@ table_plain score column keys page numbers same =
     ∙ ap (λ (l : List (Option ℤ)). get_or (map number_or_null l) k Null) same
     ∙ keys_same (length page) k (pos score) low in
     let at : RowPlace = get_or page k (record { place = 0; doc = 0; number = pos 0 }) in
-    ap (λ (key : Key). record { keys = key ∷ []; place = at.place; doc = at.doc; number = at.number }) own)
+    ap (row_at (column ∷ []) page) (let here : 0 + k ≡ k = omega arith in here)
+    ∙ ap (λ (key : Key). record { keys = key ∷ []; place = at.place; doc = at.doc; number = at.number }) own)
+
+pub replicate_more : {A : Type 0} (n : ℕ) (x : A) → replicate (n + 1) x ≡ replicate n x ++ x ∷ []
+replicate_more zero x = refl
+replicate_more {A} (suc n) x = let next : suc n + 1 ≡ suc (n + 1) = omega arith in rw next (ap (λ (l : List A). x ∷ l) (replicate_more n x))

@@ -1,12 +1,10 @@
 -- The page of a search, from the rows of a view.
-use Rattle.std.proofs.Common.{◌≡◌, ℕ, ◌+◌, List as Seq, [], ◌∷◌, length, map, Option, Some, refl, sym, ap, subst, ◌∙◌}
-use Rattle.std.specs.List.{AllByRecursion, filter_map, sum_by}
-use Rattle.std.proofs.lemmas.List.{length-map}
+use Rattle.std.proofs.Common.{◌≡◌, ℕ, ◌+◌, List as Seq, [], ◌∷◌, length, map, Option, refl, sym, ap, subst, ◌∙◌}
+use Rattle.std.specs.List.{filter_map, sum_by}
 use Rattle.flattener.specs.StandsFor.{Marked, ViewStandsFor}
 use Rattle.hit_order.specs.Table.{keys_of_row, number_of_row}
 use Rattle.mapping.specs.Mapping.{Mapping}
 use Rattle.nested_sort.specs.Keyed.{keyed_rows}
-use Rattle.nested_sort.specs.Listed.{IsHitAt}
 use Rattle.inner_hits.specs.Steps.{joined_in}
 use Rattle.query_ast.specs.Definition.{definitions_of}
 use Rattle.query_ast.specs.InnerHits.{inner_pages}

@@ -1,15 +1,15 @@
 -- A page of hits that have one score, by which alone they are ordered: they stand in order as they are found.
-use Rattle.std.proofs.Common.{◌≡◌, ℕ, zero, suc, ◌+◌, ◌<◌, ℤ, pos, Bool, true, false, cond, List as Seq, [], ◌∷◌, ◌++◌, length, map, filter, take, drop, get_or, slice_get, Option, Some, None, is_some, refl, sym, ap, subst, ◌∙◌, arith}
-use Rattle.std.specs.List.{AllByRecursion, cons_option, filter_map, flat_map, sum_by}
+use Rattle.std.proofs.Common.{◌≡◌, ℕ, zero, suc, ◌+◌, ◌==◌, ℤ, pos, Bool, true, false, cond, List as Seq, [], ◌∷◌, ◌++◌, length, map, take, drop, get_or, slice_get, Option, Some, None, is_some, refl, sym, ap, subst, ◌∙◌, arith}
+use Rattle.std.specs.List.{AllByRecursion, cons_option, filter_map, sum_by}
 use Rattle.std.specs.Option.{option_map}
 use Rattle.std.specs.Ordering.{int_cmp, is_lt}
 use Rattle.std.proofs.lemmas.List.{map-append}
 use Rattle.block_join.specs.Scores.{filled}
-use Rattle.flattener.specs.StandsFor.{Marked, ViewStandsFor, by_document}
+use Rattle.flattener.specs.StandsFor.{Marked, ViewStandsFor}
 use Rattle.hit_order.specs.Table.{keys_of_row, number_of_row}
 use Rattle.hit_order.specs.declared.column.RowPlace.{RowPlace}
 use Rattle.mapping.specs.Mapping.{Mapping}
-use Rattle.nested_sort.specs.Keyed.{keyed_row, keyed_rows, rows_from, rows_in, scored}
+use Rattle.nested_sort.specs.Keyed.{keyed_rows, rows_from, rows_in, scored}
 use Rattle.query_ast.specs.Clause.{Clause}
 use Rattle.query_ast.specs.Hit.{hit, those_hit}
 use Rattle.query_ast.specs.Joined.{roots}
@@ -19,7 +19,6 @@ use Rattle.query_ast.specs.Search.{found_rows, hit_of, hit_page}
 use Rattle.query_ast.specs.SortKey.{key_by, sort_key}
 use Rattle.query_ast.specs.declared.hit.Hit.{Hit}
 use Rattle.query_ast.specs.declared.search.SearchBody.{SearchBody}
-use Rattle.query_ast.specs.declared.sort.Direction.{Direction}
 use Rattle.query_ast.specs.declared.sort.Key.{Key}
 use Rattle.query_ast.specs.declared.sort.Key.TheVariants.{Number}
 use Rattle.query_ast.specs.declared.sort.KeyRow.{KeyRow}
@@ -33,8 +32,8 @@ use Rattle.tree_joins.specs.Seen.{at_scope, if_live, seen}
 use Rattle.tree_objects.specs.Object.{Object, block_objects, root, scope}
 use Rattle.tree_objects.specs.Tree.{ComesFirst, IsLiveList, Tree}
 use Rattle.search_page.specs.Hits.{AreRootRows, AreShared, IsByScore, hit_at, hit_in, place_of, places_of, plain_row, row_reads, shown_at, shown_of}
-use Rattle.search_page.specs.Searched.{hit_reads, page_reads}
-use Rattle.search_page.proofs.Agreeing.{Agree, agree_length, agree_shown}
+use Rattle.search_page.specs.Searched.{page_reads}
+use Rattle.search_page.proofs.Agreeing.{Agree, agree_shown}
 use Rattle.search_page.proofs.Empty.{rows_long}
 use Rattle.search_page.proofs.Paged.{Pair, at_roots, own_shown, reads_are, rows_are, shown, shown_are}
 use Rattle.search_page.proofs.Rising.{AreAlike, Rise, lower, page_alike}
@@ -179,8 +178,8 @@ module _ (m : Mapping) (one_root : OneRoot m) (view : Seq EntryState) (found : S
   unfolding keyed_rows
   rows_plain =
       let are = is_found.are trees stands in
-      ap (λ (sorts : Seq Sort). map unnumbered (rows_in m 0 live sorts (score_by m body.query live) 0 trees)) by_score.1.0
-      ∙ view_plain m live score by_score.0 by_score.1.1 (score_by m body.query live) 0 trees (subst (AreShared score) are shared)
+      ap (λ (sorts : Seq Sort). map unnumbered (rows_in m 0 live sorts (score_by m body.query live) 0 trees)) by_score.1
+      ∙ view_plain m live score by_score.0 by_score.2 (score_by m body.query live) 0 trees (subst (AreShared score) are shared)
       ∙ ap (λ (l : Seq Scores). map (plain_row score) (places_of 0 l)) (sym are)
 
   own_rise : Rise number_of (found_rows m live body)
@@ -189,7 +188,7 @@ module _ (m : Mapping) (one_root : OneRoot m) (view : Seq EntryState) (found : S
 
   shown_is : page_shown ≡ cut
   shown_is =
-      ap (λ (sorts : Seq Sort). page_of keys_of_row number_of_row (map direction_of sorts) body.after body.from body.size rows) by_score.1.0
+      ap (λ (sorts : Seq Sort). page_of keys_of_row number_of_row (map direction_of sorts) body.after body.from body.size rows) by_score.1
       ∙ ap (λ (o : Option KeyRow). page_of keys_of_row number_of_row (direction_of by_score.0 ∷ []) o body.from body.size rows) after
       ∙ page_alike keys_of_row number_of_row (direction_of by_score.0) (pos score) body.from body.size rows
       (alike_from score rows (places_of 0 found) rows_plain)

@@ -99,6 +99,7 @@ pub(crate) fn first_rows(
 }
 
 /// So many keys that are this score.
+#[tactic(auto, using(crate::proofs::Front::replicate_more))]
 fn score_keys(alloc: Global, score: u64, count: usize) -> Result<NumberKeys, NoMemory>
     requires { score ≤ SCORE_CAP }
     ensures { IfOk result (λ keys. keys ≡ replicate count (Some (pos score))) }

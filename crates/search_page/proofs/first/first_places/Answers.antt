@@ -1,4 +1,4 @@
-use Rattle.std.proofs.Common.{◌≡◌, ◌+◌, ◌++◌, Bool, List, length, take, drop, map, get_or, sym, ap, ◌∙◌, append_assoc, arith}
+use Rattle.std.proofs.Common.{◌+◌, ◌++◌, ℕ, Bool, List, Option, length, take, drop, map, sym, ap, ◌∙◌, append_assoc, arith}
 use Rattle.search_page.specs.Hits.{place_of, places_of}
 use Rattle.segment_parts.specs.Text.{marked_places}
 use Rattle.hit_order.specs.declared.column.RowPlace.{RowPlace}
@@ -9,8 +9,9 @@ use Rattle.search_page.proofs.first.first_places.Goals as goal
 pub entries-preserved : goal.entries-preserved
 entries-preserved c =
     let most = c.args.most in
-    let found : List (List Bool) = c.args.found.now in
-    let flags : List Bool = c.index-found-at.result in
+    let found : List (List (Option ℕ)) = c.args.found.now in
+    let scores : List (Option ℕ) = c.index-found-at.result in
+    let flags : List Bool = c.set.result.now in
     let old : List RowPlace = c.entries.places.items in
     let new : List RowPlace = c.add_places.new.places.items in
     let own : List RowPlace = map (place_of c.entries.at) (marked_places 0 flags) in
@@ -18,7 +19,7 @@ entries-preserved c =
       omega (arith, ap (λ (l : List RowPlace). length l) c.in_ok-add_places.ensures, taken_few most (old ++ own)),
       ap (λ (l : List RowPlace). take most (l ++ rest)) c.in_ok-add_places.ensures
           ∙ taken_on most (old ++ own) rest
-          ∙ ap (take most) (append_assoc old own rest ∙ ap (λ (l : List RowPlace). old ++ l) (sym (places_step c.entries.at found flags c.entries-test.true c.index-found-at.is)))
+          ∙ ap (take most) (append_assoc old own rest ∙ ap (λ (l : List RowPlace). old ++ l) (sym (places_step c.entries.at found scores flags c.entries-test.true c.index-found-at.is c.set.ensures)))
           ∙ c.entries.invariant.1,
     )
 

@@ -1,6 +1,5 @@
-use Rattle.std.proofs.Common.{◌≡◌, ◌++◌, ◌≤◌, List, length, take, drop}
+use Rattle.std.proofs.Common.{◌≡◌, ◌++◌, ◌≤◌, length, take, drop}
 use Rattle.search_page.specs.Hits.{places_of}
-use Rattle.hit_order.specs.declared.column.RowPlace.{RowPlace}
 use Rattle.search_page.proofs.first.first_places.Given as goal
 
 -- so far the first of those of the entries before

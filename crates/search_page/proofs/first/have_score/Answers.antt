@@ -1,4 +1,4 @@
-use Rattle.std.proofs.Common.{◌≡◌, ◌+◌, ℕ, List, Option, Some, drop, length, map, is_some, subst, sym, arith}
+use Rattle.std.proofs.Common.{◌≡◌, ℕ, Some, map, is_some, subst, sym, arith}
 use Rattle.block_join.specs.Scores.{filled}
 use Rattle.search_page.specs.Hits.{AreShared}
 use Rattle.search_page.proofs.Front.{dropped_all, shared_step}
@@ -13,4 +13,4 @@ entries-preserved c = λ rest.
     c.entries.invariant (shared_step c.args.score c.entries.at found scores c.entries-test.true c.index-found-at.is own rest)
 
 pub returns : goal.returns
-returns c = ?
+returns c = λ yes. c.entries.invariant (subst (AreShared c.args.score) (sym (dropped_all c.entries.at c.args.found.now c.entries-test.false)) tt)
