@@ -33,9 +33,9 @@ use Rattle.segment_builder.specs.Blocks.{block_of_marked, blocks_in}
 use Rattle.tree_json.specs.Value.{JsonValue}
 use Rattle.search_page.specs.Searched.{AreSearched, page_reads}
 use Rattle.tree_objects.specs.Tree.{IsLiveList, Tree}
-use Rattle.engine.specs.Answers.{Answers, answered_by, reply_bytes}
+use Rattle.engine.specs.Answers.{answered_by, reply_bytes}
 use Rattle.engine.specs.Faithful.{AreFaithful, Indexed, StandsFor, block_in, tree_in}
-use Rattle.engine.specs.Parts.{IsRefusedAs, answered_of}
+use Rattle.engine.specs.Parts.{Ends, IsRefusedAs, answered_of}
 use Rattle.engine.specs.Reads.{page_reads_of}
 use Rattle.engine.specs.declared.no_memory.NoMemory as memory
 use Rattle.engine.specs.declared.reply.Ended.{Ended}
@@ -180,9 +180,9 @@ its_bytes ended.Refused out = refl
 pub found_ends : (limits : Limits) (m : Mapping) (search : SearchBody) (index index' : IndexState) (state : State) (given : Reply) (result : Result Ended memory.NoMemory) (out : List ℕ)
     → AreFaithful (Some m) index state → index'.next ≡ index.next → layout_kept index' ≡ sealed (layout_kept index) → is_some search.pit ≡ false
     → given ≡ found_by m state.content.live search → IfOk result (λ ends. answered_of (Ok ends) ≡ answered_by (within limits given)) → OnOk result (out ≡ reply_text (within limits given))
-    → Answers state (outcome_of state (search_by limits m search (sealed_state state))) (answered_of result) out (Some m) index'
+    → Ends state (outcome_of state (search_by limits m search (sealed_state state))) (answered_of result) out (Some m) index'
 found_ends limits m search index index' state given (Ok ends) out f next seals no_pit is told_so text =
-    subst (λ answer. Answers state (outcome_of state answer) (answered_of (Ok ends)) out (Some m) index') (sym (over_live limits m search state (no_option search.pit no_pit)))
+    subst (λ answer. Ends state (outcome_of state answer) (answered_of (Ok ends)) out (Some m) index') (sym (over_live limits m search state (no_option search.pit no_pit)))
     (told (Some m) index' state (sealed_state state) (answered_of (Ok ends)) (within limits (found_by m state.content.live search)) out (sealed_faithful m index index' state f next seals) (its_bytes ends out)
     (told_so ∙ ap (λ (it : Reply). answered_by (within limits it)) is) (text ∙ ap (λ (it : Reply). reply_text (within limits it)) is))
 found_ends limits m search index index' state given (Err none) out f next seals no_pit is told_so text =
@@ -200,14 +200,14 @@ first_said first body.NoMemory refusal is said = absurd (cc)
 first_said first other refusal is said = ap body_refusal is ∙ said
 
 pub body_ends : (limits : Limits) (json : JsonValue) (m : Mapping) (index : IndexState) (state : State) (given : SearchRefusal) (result : Result Ended memory.NoMemory) (out : List ℕ) → AreFaithful (Some m) index state
-    → FirstIs (first_refusal m json) given → IsRefusedAs (refusal_of given) result out → Answers state (outcome_of state (search_step limits json m (sealed_state state))) (answered_of result) out (Some m) index
+    → FirstIs (first_refusal m json) given → IsRefusedAs (refusal_of given) result out → Ends state (outcome_of state (search_step limits json m (sealed_state state))) (answered_of result) out (Some m) index
 body_ends limits json m index state given result out f first said = by (refusal_of given) refl said
   where
-    at_err : (r : Result Ended memory.NoMemory) → IsErr r → Answers state (outcome_of state (search_step limits json m (sealed_state state))) (answered_of r) out (Some m) index
+    at_err : (r : Result Ended memory.NoMemory) → IsErr r → Ends state (outcome_of state (search_step limits json m (sealed_state state))) (answered_of r) out (Some m) index
     at_err (Ok ends) none = absurd (cc)
     at_err (Err none) is = lacking (Some m) index state _ out f
 
-    by : (why : Option Refusal) → refusal_of given ≡ why → IsRefusedAs why result out → Answers state (outcome_of state (search_step limits json m (sealed_state state))) (answered_of result) out (Some m) index
+    by : (why : Option Refusal) → refusal_of given ≡ why → IsRefusedAs why result out → Ends state (outcome_of state (search_step limits json m (sealed_state state))) (answered_of result) out (Some m) index
     by None e is = at_err result is
     by (Some refusal) e is =
         refusal_ends (Some m) index state (search_step limits json m (sealed_state state)) refusal result out f (body_refused limits json m state refusal (first_said (first_refusal m json) given refusal first e)) is
