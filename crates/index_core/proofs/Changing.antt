@@ -1,53 +1,61 @@
 -- What is so of the blocks of an index stays so when the buffer is sealed and when a block comes or goes.
-use Rattle.std.proofs.Common.{◌≡◌, ℕ, ◌+◌, ◌<◌, ◌≤◌, nat_le, List, [], ◌∷◌, ◌++◌, length, map, filter, Some, None, refl, sym, ap, subst, arith}
-use Rattle.std.specs.List.{count_by, find}
+use Rattle.std.proofs.Common.{◌≡◌, ℕ, ◌+◌, ◌<◌, ◌≤◌, nat_le, List, [], ◌∷◌, ◌++◌, length, map, filter, Option, Some, None, refl, sym, ap, subst, arith}
+use Rattle.std.specs.List.{count_by, find, flat_map}
 use Rattle.std.proofs.lemmas.Bool.{leb-false}
 use Rattle.std.proofs.lemmas.List.{length-append}
 use Rattle.std.proofs.lemmas.List.Sums.{sum_by_push, count_by-le-length, length-filter}
 use Rattle.flattener.specs.Block.{BlockState}
 use Rattle.flattener.specs.Fits.{most_live}
-use Rattle.layout.proofs.Changes.{sealed_numbers, change_ascends, own_ids_put, own_ids_taken}
+use Rattle.layout.proofs.Ascending.{ascend_both, ascend_first, ascend_second}
+use Rattle.layout.proofs.Changes.{change_ascends, own_ids_put, own_ids_taken}
 use Rattle.layout.proofs.Goes.{split, none_goes}
-use Rattle.layout.proofs.Keeps.{sealed_keeps, changed_keeps}
+use Rattle.layout.proofs.Keeps.{sealed_keeps, remade_keeps, changed_keeps}
 use Rattle.layout.proofs.Looked.{find_none, sum_without}
+use Rattle.layout.proofs.Merging.{remade_ascends}
+use Rattle.layout.proofs.Settling.{IsSound, sealed_after, sealed_emptied}
 use Rattle.layout.specs.Ascending.{Ascend}
-use Rattle.layout.specs.Layout.{Layout, live_items, segment_of, staying, killed, buffer_size, with_buffer_last, sealed, with_room, with_new}
+use Rattle.layout.specs.Layout.{Layout, OpenMerge, live_items, remade, staying, killed, buffer_size, sealed, with_new}
 use Rattle.segment_builder.specs.Blocks.{block_objects, objects_of}
-use Rattle.index_core.specs.Kept.{AreBlocks, HaveOwnIds, block_number, has_block_id}
+use Rattle.index_core.specs.Found.{AreOpenOf, HasRoom}
+use Rattle.index_core.specs.Kept.{AreBlocks, HaveOwnIds, block_number, has_block_id, most_made, numbers_in}
 
 -- ---- sealing
 
-pub sealed_is : (layout : Layout BlockState) → layout.factor ≡ None → sealed layout ≡ with_buffer_last layout
-unfolding sealed
-sealed_is layout none = rw none refl
+pub sealed_buffer : (layout : Layout BlockState) → (sealed layout).buffer ≡ []
+sealed_buffer layout = (sealed_emptied layout).buffer
 
-no_more : (id : ℕ) (blocks : List BlockState) → length (segment_of id blocks) ≤ length blocks
-no_more id [] = omega arith
-no_more id (block ∷ blocks) = omega arith
+sound_of : (layout : Layout BlockState) (next : ℕ) → AreOpenOf layout → AreBlocks layout next → IsSound block_number next layout
+sound_of layout next are is = record { open_are = are.open_are; ids = are.ids; ascending = is.ascending }
 
-pub sealed_blocks : (layout : Layout BlockState) (next : ℕ) → layout.factor ≡ None → AreBlocks layout next → AreBlocks (sealed layout) next
-sealed_blocks layout next none is =
-    let buffer : (sealed layout).buffer ≡ [] = ap (λ (l : Layout BlockState). l.buffer) (sealed_is layout none) in
-    let made : (sealed layout).made ≡ layout.made + length (segment_of layout.made layout.buffer) = ap (λ (l : Layout BlockState). l.made) (sealed_is layout none) in
+pub sealed_blocks : (layout : Layout BlockState) (next : ℕ) → AreOpenOf layout → (sealed layout).made < most_made → AreBlocks layout next → AreBlocks (sealed layout) next
+sealed_blocks layout next are made is = record {
+  ascending = (sealed_after block_number next layout (sound_of layout next are is)).sound.ascending;
+  ids = subst HaveOwnIds (sym (sealed_keeps layout)) is.ids;
+  few = omega (arith, is.few, ap objects_of (sealed_keeps layout));
+  buffer = omega (arith, ap length (sealed_buffer layout));
+  made = made;
+}
+
+pub sealed_room : (layout : Layout BlockState) (next : ℕ) → AreBlocks (sealed layout) next → HasRoom (sealed layout) next
+sealed_room layout next are = record { blocks = are; less = omega (arith, ap length (sealed_buffer layout)) }
+
+-- ---- a range gives way
+
+pub remade_blocks : (from count : ℕ) (layout : Layout BlockState) (next : ℕ) → (remade from count layout).made < most_made → AreBlocks layout next → AreBlocks (remade from count layout) next
+remade_blocks from count layout next made is =
+    let all = ascend_first (flat_map numbers_in layout.segments) (map block_number layout.buffer) 0 next is.ascending in
+    let last = ascend_second (flat_map numbers_in layout.segments) (map block_number layout.buffer) 0 next is.ascending in
     record {
-      ascending = subst (λ ns. Ascend 0 ns next) (sym (sealed_numbers block_number layout none)) is.ascending;
-      ids = subst HaveOwnIds (sym (sealed_keeps layout)) is.ids;
-      few = omega (arith, is.few, ap objects_of (sealed_keeps layout));
-      buffer = omega (arith, ap length buffer);
-      made = omega (arith, is.made, made, ap length buffer, no_more layout.made layout.buffer);
+      ascending = ascend_both (flat_map numbers_in (remade from count layout).segments) (map block_number layout.buffer) 0 _ next (remade_ascends block_number from count layout 0 _ all) last;
+      ids = subst HaveOwnIds (sym (remade_keeps from count layout)) is.ids;
+      few = omega (arith, is.few, ap objects_of (remade_keeps from count layout));
+      buffer = is.buffer;
+      made = made;
     }
 
-pub record HasRoom (layout : Layout BlockState) (next : ℕ) : Type 0 where
-  pub blocks : AreBlocks layout next
-  pub less : length layout.buffer < buffer_size
-
-pub room_blocks : (layout : Layout BlockState) (next : ℕ) → layout.factor ≡ None → AreBlocks layout next → HasRoom (with_room layout) next
-room_blocks layout next none is =
-    split (nat_le buffer_size (length layout.buffer))
-    (λ full.
-    let buffer : (sealed layout).buffer ≡ [] = ap (λ (l : Layout BlockState). l.buffer) (sealed_is layout none) in
-    rw full (record { blocks = sealed_blocks layout next none is; less = omega (arith, ap length buffer) }))
-    (λ room. rw room (record { blocks = is; less = leb-false buffer_size (length layout.buffer) room }))
+-- the same blocks beside other merges
+pub merges_blocks : (layout : Layout BlockState) (merges : List OpenMerge) (started : ℕ) (factor : Option ℕ) (next : ℕ) → AreBlocks layout next → AreBlocks (record layout { merges = merges; started = started; factor = factor }) next
+merges_blocks layout merges started factor next is = record { ascending = is.ascending; ids = is.ids; few = is.few; buffer = is.buffer; made = is.made }
 
 -- ---- a change
 
@@ -84,7 +92,7 @@ change_blocks layout next id new is are few =
       ids = subst HaveOwnIds (sym keeps) (new_ids id next new (live_items layout) are is.blocks.ids);
       few = omega (arith, few, ap objects_of keeps);
       buffer = omega (arith, is.less, long, kept, few_new id next new are);
-      made = omega (arith, is.blocks.made, long, kept, few_new id next new are);
+      made = is.blocks.made;
     }
 
 -- ---- objects

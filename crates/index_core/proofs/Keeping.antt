@@ -7,24 +7,24 @@ use Rattle.std.proofs.lemmas.List.Elements.{All-nil, All-cons, All-head, All-tai
 use Rattle.flattener.specs.Block.{BlockState}
 use Rattle.flattener.specs.Fits.{BlockFits, SegmentFits, most_live}
 use Rattle.flattener.specs.Seen.{block_seen}
-use Rattle.layout.proofs.Changes.{room_numbers, found_put, found_taken}
+use Rattle.layout.proofs.Changes.{found_put, found_taken}
 use Rattle.layout.proofs.Goes.{split}
-use Rattle.layout.proofs.Keeps.{sealed_keeps, with_room_keeps, changed_keeps}
+use Rattle.layout.proofs.Keeps.{with_room_keeps, changed_keeps}
 use Rattle.layout.specs.Ascending.{Ascend}
-use Rattle.layout.specs.Layout.{Layout, live_items, staying, killed, sealed, with_room, with_new, with_change, buffer_size}
+use Rattle.layout.specs.Layout.{Layout, live_items, staying, killed, with_room, with_new, with_change, buffer_size}
 use Rattle.mapping.specs.IsMapping.{IsMapping}
 use Rattle.mapping.specs.Mapping.{Mapping}
 use Rattle.segment.specs.Live.{EntryState}
 use Rattle.segment_builder.specs.Blocks.{objects_of}
-use Rattle.index_core.specs.Found.{BlocksState, HasOld, HasLive, AreFit, columns_of, layout_of, live_blocks, number_under}
+use Rattle.index_core.specs.Found.{BlocksState, HasOld, HasLive, HasRoom, AreFit, IsRelaid, columns_of, layout_of, live_blocks, number_under}
 use Rattle.index_core.specs.Inside.{IsKept, state_of}
 use Rattle.index_core.specs.declared.index_core.IndexCore.TheInside.{Inside}
-use Rattle.index_core.specs.Kept.{AreBlocks, HaveOwnIds, IndexFits, block_number, has_block_id, laid, numbers_of}
+use Rattle.index_core.specs.Kept.{AreBlocks, HaveOwnIds, IndexFits, block_number, has_block_id}
 use Rattle.index_core.specs.Write.{id_of, new_of, new_number, IsNext}
 use Rattle.index_core.specs.declared.live_numbers.LiveNumbers.{LiveNumbers}
 use Rattle.index_core.specs.declared.op.WriteOp.{WriteOp}
 use Rattle.index_core.specs.declared.op.WriteOp.TheVariants.{Put, Take}
-use Rattle.index_core.proofs.Changing.{AreNew, change_blocks, room_blocks, sealed_blocks, sealed_is}
+use Rattle.index_core.proofs.Changing.{AreNew, change_blocks, sealed_buffer}
 
 -- the number under each id is that of the live block with it
 abbrev pub AreNumbers : LiveNumbers → List BlockState → Type 0
@@ -32,8 +32,8 @@ AreNumbers numbers live = (id : List ℕ) → number_under numbers id ≡ option
 
 -- ---- what is looked up
 
-pub has_old : (entries : List EntryState) (buffer : List BlockState) (made next : ℕ) (numbers : LiveNumbers) (id : List ℕ) (old : Option ℕ) → AreBlocks (laid entries buffer made) next → AreNumbers numbers (live_blocks entries buffer) → old ≡ number_under numbers id → HasOld entries buffer id old
-has_old entries buffer made next numbers id old are known is = record { end = next; ascending = are.ascending; ids = are.ids; live = sym (known id) ∙ sym is }
+pub has_old : (it : BlocksState) (next : ℕ) (numbers : LiveNumbers) (id : List ℕ) (old : Option ℕ) → AreBlocks (layout_of it) next → AreNumbers numbers (live_blocks it.entries it.buffer) → old ≡ number_under numbers id → HasOld it.entries it.buffer id old
+has_old it next numbers id old are known is = record { end = next; ascending = are.ascending; ids = are.ids; live = sym (known id) ∙ sym is }
 
 pub found_number : (o : Option BlockState) (number : ℕ) → option_map block_number o ≡ Some number → (block : BlockState) × (o ≡ Some block) × (block_number block ≡ number)
 found_number None number e = absurd (cc (e))
@@ -53,13 +53,13 @@ none_live (Some block) e = absurd (cc (e))
 
 -- ---- after the buffer was sealed
 
-pub old_in_room : (entries now : List EntryState) (buffer left : List BlockState) (made next : ℕ) (id : List ℕ) (old : Option ℕ) → laid now left next ≡ with_room (laid entries buffer made) → HasOld entries buffer id old → HasOld now left id old
-old_in_room entries now buffer left made next id old room has =
-    let live : live_blocks now left ≡ live_blocks entries buffer = ap live_items room ∙ with_room_keeps (laid entries buffer made) in
+pub old_in_room : (it room : BlocksState) (next : ℕ) (id : List ℕ) (old : Option ℕ) → layout_of room ≡ with_room (layout_of it) → AreBlocks (layout_of room) next → HasOld it.entries it.buffer id old → HasOld room.entries room.buffer id old
+old_in_room it room next id old is are has =
+    let live : live_blocks room.entries room.buffer ≡ live_blocks it.entries it.buffer = ap live_items is ∙ with_room_keeps (layout_of it) in
     record {
-      end = has.end;
-      ascending = subst (λ ns. Ascend 0 ns has.end) (sym (ap numbers_of room ∙ room_numbers block_number (laid entries buffer made) refl)) has.ascending;
-      ids = subst HaveOwnIds (sym live) has.ids;
+      end = next;
+      ascending = are.ascending;
+      ids = are.ids;
       live = ap (λ blocks. option_map block_number (find (has_block_id id) blocks)) live ∙ has.live;
     }
 
@@ -85,10 +85,10 @@ pub record IsChanged (op : WriteOp) (layout now : Layout BlockState) (next : ℕ
   pub live_is : live_items now ≡ filter (staying (has_block_id (id_of op))) (live_items layout) ++ new_of op
   pub blocks : AreBlocks now (next + 1)
 
-pub changed : (m : Mapping) (op : WriteOp) (layout room now : Layout BlockState) (next : ℕ) → layout.factor ≡ None → AreBlocks layout next → IsNext m next op → room ≡ with_room layout
+pub changed : (m : Mapping) (op : WriteOp) (layout room now : Layout BlockState) (next : ℕ) → HasRoom room next → IsNext m next op → room ≡ with_room layout
     → now ≡ with_new (new_of op) (killed (has_block_id (id_of op)) room) → objects_of (filter (staying (has_block_id (id_of op))) (live_items layout) ++ new_of op) ≤ most_live → IsChanged op layout now next
 unfolding with_change
-changed m op layout room now next none are next_is room_is is few =
+changed m op layout room now next are next_is room_is is few =
     let goes = has_block_id (id_of op) in
     let with_room_is : now ≡ with_new (new_of op) (killed goes (with_room layout)) = is ∙ ap (λ (l : Layout BlockState). with_new (new_of op) (killed goes l)) room_is in
     let keeps : live_items (with_new (new_of op) (killed goes (with_room layout))) ≡ filter (staying goes) (live_items layout) ++ new_of op =
@@ -97,7 +97,7 @@ changed m op layout room now next none are next_is room_is is few =
     record {
       layout_is = with_room_is;
       live_is = ap live_items with_room_is ∙ keeps;
-      blocks = subst (λ (l : Layout BlockState). AreBlocks l (next + 1)) (sym with_room_is) (change_blocks (with_room layout) next (id_of op) (new_of op) (room_blocks layout next none are) (are_new m next op next_is) fewer);
+      blocks = subst (λ (l : Layout BlockState). AreBlocks l (next + 1)) (sym with_room_is) (change_blocks (with_room layout) next (id_of op) (new_of op) (subst (λ (l : Layout BlockState). HasRoom l next) room_is are) (are_new m next op next_is) fewer);
     }
 
 -- ---- beside a mapping
@@ -117,10 +117,10 @@ fit_columns m (entry ∷ entries) (first ∷ now) same fit =
     tail_is : {A : Type 0} (x y : A) (xs ys : List A) → y ∷ ys ≡ x ∷ xs → ys ≡ xs
     tail_is x y xs ys e = cc (e)
 
-room_fits : (m : Mapping) (layout : Layout BlockState) → layout.factor ≡ None → All (BlockFits m) layout.buffer → All (BlockFits m) (with_room layout).buffer
-room_fits m layout none fit =
+room_fits : (m : Mapping) (layout : Layout BlockState) → All (BlockFits m) layout.buffer → All (BlockFits m) (with_room layout).buffer
+room_fits m layout fit =
     split (nat_le buffer_size (length layout.buffer))
-    (λ full. rw full (subst (All (BlockFits m)) (sym (ap (λ (l : Layout BlockState). l.buffer) (sealed_is layout none))) (All-nil (BlockFits m))))
+    (λ full. rw full (subst (All (BlockFits m)) (sym (sealed_buffer layout)) (All-nil (BlockFits m))))
     (λ room. rw room fit)
 
 new_fits : (m : Mapping) (next : ℕ) (op : WriteOp) → IsNext m next op → All (BlockFits m) (new_of op)
@@ -128,15 +128,15 @@ new_fits m next (Put block) is = All-cons (BlockFits m) (block_seen block) [] is
 new_fits m next (Take id) is = All-nil (BlockFits m)
 
 -- the blocks in the buffer fit, after the buffer was sealed
-pub sealed_fits : (m : Mapping) (layout now : Layout BlockState) → layout.factor ≡ None → now ≡ with_room layout → All (BlockFits m) layout.buffer → All (BlockFits m) now.buffer
-sealed_fits m layout now none is fit = subst (λ (l : Layout BlockState). All (BlockFits m) l.buffer) (sym is) (room_fits m layout none fit)
+pub sealed_fits : (m : Mapping) (layout now : Layout BlockState) → now ≡ with_room layout → All (BlockFits m) layout.buffer → All (BlockFits m) now.buffer
+sealed_fits m layout now is fit = subst (λ (l : Layout BlockState). All (BlockFits m) l.buffer) (sym is) (room_fits m layout fit)
 
 -- a mapping that fitted fits still, after the buffer was sealed
 pub still_fits : (m : Mapping) (it : Inside) (room blocks : BlocksState) → IsMapping m → ((m' : Mapping) → IsMapping m' → All (BlockFits m') it.blocks.buffer → AreFit m' it.blocks.entries → AreFit m' room.entries)
     → columns_of blocks.entries ≡ columns_of room.entries → layout_of blocks ≡ with_room (layout_of it.blocks) → IndexFits m (state_of it) → IndexFits m (state_of (record it { blocks = blocks }))
 still_fits m it room blocks is segments columns room_is fits = record {
   entries = fit_columns m room.entries blocks.entries columns (segments m is fits.buffer fits.entries);
-  buffer = sealed_fits m (layout_of it.blocks) (layout_of blocks) refl room_is fits.buffer;
+  buffer = sealed_fits m (layout_of it.blocks) (layout_of blocks) room_is fits.buffer;
 }
 
 -- and after a change
@@ -155,13 +155,8 @@ kept_same it blocks same are is = record {
   objects = is.objects ∙ ap objects_of (sym same);
 }
 
-pub kept_sealed : (it : Inside) (blocks : BlocksState) → layout_of blocks ≡ sealed (layout_of it.blocks) → IsKept it → IsKept (record it { blocks = blocks })
-kept_sealed it blocks sealed_as is =
-    kept_same it blocks (ap live_items sealed_as ∙ sealed_keeps (layout_of it.blocks)) (subst (λ (l : Layout BlockState). AreBlocks l it.next) (sym sealed_as) (sealed_blocks (layout_of it.blocks) it.next refl is.index.blocks)) is
+pub kept_relaid : (it : Inside) (blocks : BlocksState) → IsRelaid it.blocks blocks → IsKept it → IsKept (record it { blocks = blocks })
+kept_relaid it blocks relaid is = kept_same it blocks relaid.live (relaid.blocks it.next is.index.blocks) is
 
-pub kept_in_room : (it : Inside) (blocks : BlocksState) → layout_of blocks ≡ with_room (layout_of it.blocks) → IsKept it → IsKept (record it { blocks = blocks })
-kept_in_room it blocks room is =
-    kept_same it blocks (ap live_items room ∙ with_room_keeps (layout_of it.blocks)) (subst (λ (l : Layout BlockState). AreBlocks l it.next) (sym room) (room_blocks (layout_of it.blocks) it.next refl is.index.blocks).blocks) is
-
-pub sealed_all_fit : (m : Mapping) (old now : BlocksState) → layout_of now ≡ sealed (layout_of old) → All (BlockFits m) now.buffer
-sealed_all_fit m old now is = subst (All (BlockFits m)) (sym (ap (λ (l : Layout BlockState). l.buffer) (is ∙ sealed_is (layout_of old) refl))) (All-nil (BlockFits m))
+pub kept_in_room : (it : Inside) (blocks : BlocksState) → layout_of blocks ≡ with_room (layout_of it.blocks) → AreBlocks (layout_of blocks) it.next → IsKept it → IsKept (record it { blocks = blocks })
+kept_in_room it blocks room are is = kept_same it blocks (ap live_items room ∙ with_room_keeps (layout_of it.blocks)) are is

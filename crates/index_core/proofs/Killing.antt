@@ -1,12 +1,12 @@
 -- The live block with an id goes: what becomes of entries and of the buffer.
-use Rattle.std.proofs.Common.{◌≡◌, ℕ, zero, suc, ◌+◌, ◌-◌, ◌==◌, ◌<◌, ◌≤◌, Bool, true, false, List, [], ◌∷◌, ◌++◌, map, filter, take, drop, set, get_or, slice_get, slice_set, IsSomeAnd, Some, refl, sym, ap, subst, ◌∙◌, arith, eqb-true}
+use Rattle.std.proofs.Common.{◌≡◌, ℕ, zero, suc, ◌+◌, ◌-◌, ◌==◌, ◌<◌, ◌≤◌, Bool, true, false, List, [], ◌∷◌, ◌++◌, map, filter, take, drop, set, get_or, slice_get, slice_set, IsSomeAnd, Option, Some, refl, sym, ap, subst, ◌∙◌, arith, eqb-true}
 use Rattle.std.specs.List.{count_by, flat_map, take-map, drop-map}
 use Rattle.std.proofs.lemmas.List.{map-append, map-set}
 use Rattle.std.proofs.lemmas.List.Elements.{All-get_or, All-set}
 use Rattle.flattener.specs.Block.{BlockState}
 use Rattle.layout.proofs.Goes.{split, counted_both, dead, dead_items, dead_in, none_goes, none_in, one_in, one_taken, some_in, some_at}
 use Rattle.layout.proofs.Looked.{find_passes}
-use Rattle.layout.specs.Layout.{Marked, SegmentOf, live_in, staying, killed, killed_in}
+use Rattle.layout.specs.Layout.{Layout, Marked, OpenMerge, SegmentOf, live_in, staying, killed, killed_in}
 use Rattle.segment.specs.Flat.{FlatRoot, flat_root, roots_of}
 use Rattle.segment.specs.Live.{EntryState, LiveState, killed as killed_bits}
 use Rattle.stored_sources.specs.Roots.{root_of, source_of}
@@ -28,6 +28,10 @@ set_same f (first ∷ xs) (suc index) x y at same = ap (λ rest. f first ∷ res
 pub removed : {A B : Type 0} (f : A → B) (xs ys : List A) (index : ℕ) → ys ≡ take index xs ++ drop (index + 1) xs → map f ys ≡ take index (map f xs) ++ drop (index + 1) (map f xs)
 removed f xs ys index is =
     ap (map f) is ∙ map-append f (take index xs) (drop (index + 1) xs) ∙ ap (λ zs. zs ++ map f (drop (index + 1) xs)) (sym (take-map f index xs)) ∙ ap (λ zs. take index (map f xs) ++ zs) (sym (drop-map f (index + 1) xs))
+
+-- a layout beside other merges and another factor
+abbrev pub beside : List OpenMerge → ℕ → Option ℕ → Layout BlockState → Layout BlockState
+beside merges started factor layout = record layout { merges = merges; started = started; factor = factor }
 
 -- ---- marks
 

@@ -8,3 +8,7 @@ pub mod Entering
 pub mod Viewing
 pub mod Laying
 pub mod Writing
+pub mod Jobs
+pub mod Opened
+pub mod Relaying
+pub mod Settled

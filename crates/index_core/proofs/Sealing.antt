@@ -6,36 +6,17 @@ use Rattle.flattener.specs.Block.{BlockState}
 use Rattle.flattener.specs.Fits.{SegmentFits}
 use Rattle.flattener.specs.Seen.{block_seen}
 use Rattle.flattener.specs.declared.document.Block.{Block}
-use Rattle.layout.specs.Layout.{Marked, SegmentOf, alive, sealed}
+use Rattle.layout.specs.Layout.{Marked, SegmentOf, alive, segment_of, with_buffer_last}
+use Rattle.merge_jobs.specs.Open.{merges_in, merges_shown}
 use Rattle.mapping.specs.Mapping.{Mapping}
 use Rattle.segment.specs.Flat.{FlatRoot, flat_root, roots_of}
 use Rattle.segment.specs.Live.{EntryState, LiveState, IsLiveOver}
 use Rattle.segment_parts.specs.declared.columns.Columns.{Columns}
 use Rattle.segment_builder.specs.Blocks.{blocks_of, blocks_in, marked_by}
-use Rattle.index_core.specs.Kept.{laid, segment_kept, segments_kept}
+use Rattle.index_core.specs.Kept.{segment_kept, segments_kept}
 use Rattle.segment_view.specs.Views.{IsNewId}
-use Rattle.index_core.specs.Found.{AreBelow, AreCounted, AreFit, IsWhole, root_numbers}
-use Rattle.index_core.proofs.Changing.{sealed_is}
-
-abbrev AllMarked : List Bool → Type 0
-AllMarked marks = (k : ℕ) → k < length marks → get_or marks k false ≡ false → ⊥
-
-all_alive : (blocks : List BlockState) (marks : List Bool) → length blocks ≡ length marks → AllMarked marks → marked_by blocks marks ≡ map alive blocks
-all_alive [] marks long all = refl
-all_alive (block ∷ blocks) [] long all = absurd (omega (arith, long))
-all_alive (block ∷ blocks) (false ∷ marks) long all = absurd (all 0 (omega arith) refl)
-all_alive (block ∷ blocks) (true ∷ marks) long all = ap (λ rest. alive block ∷ rest) (all_alive blocks marks (omega (arith, long)) (λ k within no. all (suc k) (omega (arith, within)) no))
-
-no_dead : (root : ℕ) → Contains [] root → ⊥
-no_dead root is = omega (arith, is.1)
-
--- no root is dead
-pub blocks_alive : (columns : Columns) (live : LiveState) → map (λ (block : BlockState). block.root) (blocks_of columns) ≡ roots_of columns → IsLiveOver columns live
-    → ((root : ℕ) → root < length columns.roots → (slice_index_or live.roots root false ≡ false) ↔ Contains [] root) → marked_by (blocks_of columns) live.roots ≡ map alive (blocks_of columns)
-blocks_alive columns live roots over dead =
-    all_alive (blocks_of columns) live.roots
-    (omega (arith, ap length roots, length-map (blocks_of columns) (λ (block : BlockState). block.root), length-map columns.roots flat_root, over.roots))
-    (λ k within no. no_dead k ((dead k (omega (arith, within, over.roots))).0 no))
+use Rattle.index_core.specs.Found.{AreBelow, AreCounted, AreFit, BlocksState, IsWhole, layout_of, layout_ready, root_numbers}
+use Rattle.index_core.specs.declared.ready.Ready.{Ready}
 
 map_twice : {A B C : Type 0} (f : B → C) (g : A → B) (xs : List A) → map f (map g xs) ≡ map (λ x. f (g x)) xs
 map_twice f g [] = refl
@@ -65,20 +46,30 @@ whole_entry entry roots over some counted = record {
 
 -- ---- the layout
 
-pub sealed_empty : (entries : List EntryState) (buffer : List BlockState) (made : ℕ) → buffer ≡ [] → laid entries buffer made ≡ sealed (laid entries buffer made)
-sealed_empty entries buffer made none =
-    let none_made : made + 0 ≡ made = omega arith in
-    rw none (sym (sealed_is (laid entries [] made) refl ∙ rw (append-nil (segments_kept entries), none_made) refl))
+-- the layout of what sealing makes, before settling: nothing was in the buffer
+pub last_none : (it : BlocksState) (ready : Ready) → it.buffer ≡ [] → ready.view ≡ it.entries → ready.made ≡ it.made → merges_shown ready.merges.items ≡ merges_in it.jobs → layout_ready ready it.started it.factor ≡ with_buffer_last (layout_of it)
+last_none it ready none view made merges =
+    let more : it.made + 0 ≡ it.made = omega arith in
+    rw (none, view, made, merges, append-nil (segments_kept it.entries), more) refl
 
-pub sealed_by : (entries now : List EntryState) (buffer : List BlockState) (made next : ℕ) (entry : EntryState) → 0 < length buffer → now ≡ entries ++ entry ∷ [] → next ≡ made + 1 → entry.id ≡ made → blocks_in entry ≡ map alive buffer
-    → laid now [] next ≡ sealed (laid entries buffer made)
-sealed_by entries now [] made next entry some put more id items = absurd (omega (arith, some))
-sealed_by entries now (block ∷ buffer) made next entry some put more id items =
-    let last : segment_kept entry ≡ record { id = made; items = map alive (block ∷ buffer) } =
-    ap (λ (n : ℕ). let s : SegmentOf BlockState = record { id = n; items = blocks_in entry } in s) id ∙ ap (λ (ms : List (Marked BlockState)). let s : SegmentOf BlockState = record { id = made; items = ms } in s) items in
-    let segments : segments_kept now ≡ segments_kept entries ++ record { id = made; items = map alive (block ∷ buffer) } ∷ [] =
-    ap segments_kept put ∙ map-append segment_kept entries (entry ∷ []) ∙ ap (λ s. segments_kept entries ++ s ∷ []) last in
-    rw (segments, more) (sym (sealed_is (laid entries (block ∷ buffer) made) refl))
+-- or its blocks are the last segment
+pub last_some : (it : BlocksState) (ready : Ready) (entry : EntryState) → 0 < length it.buffer → ready.view ≡ it.entries ++ entry ∷ [] → ready.made ≡ it.made + 1 → merges_shown ready.merges.items ≡ merges_in it.jobs → entry.id ≡ it.made → blocks_in entry ≡ map alive it.buffer
+    → layout_ready ready it.started it.factor ≡ with_buffer_last (layout_of it)
+last_some it ready entry some view made merges id items =
+    let segments : segments_kept ready.view ≡ segments_kept it.entries ++ segment_of it.made it.buffer = last_segments it.entries ready.view it.buffer it.made entry some view id items in
+    let more : it.made + length (segment_of it.made it.buffer) ≡ it.made + 1 = ap (λ n. it.made + n) (one_made it.buffer some) in
+    rw (segments, made, merges, more) refl
+  where
+    one_made : (blocks : List BlockState) → 0 < length blocks → length (segment_of it.made blocks) ≡ 1
+    one_made [] h = absurd (omega (arith, h))
+    one_made (block ∷ blocks) h = refl
+
+    last_segments : (entries now : List EntryState) (buffer : List BlockState) (made' : ℕ) (last : EntryState) → 0 < length buffer → now ≡ entries ++ last ∷ [] → last.id ≡ made' → blocks_in last ≡ map alive buffer → segments_kept now ≡ segments_kept entries ++ segment_of made' buffer
+    last_segments entries now [] made' last h put own its = absurd (omega (arith, h))
+    last_segments entries now (block ∷ buffer) made' last h put own its =
+        ap segments_kept put ∙ map-append segment_kept entries (last ∷ [])
+        ∙ ap (λ (n : ℕ). segments_kept entries ++ (let s : SegmentOf BlockState = record { id = n; items = blocks_in last } in s) ∷ []) own
+        ∙ ap (λ (ms : List (Marked BlockState)). segments_kept entries ++ (let s : SegmentOf BlockState = record { id = made'; items = ms } in s) ∷ []) its
 
 pub below_more : (entries now : List EntryState) (made next : ℕ) (entry : EntryState) → AreBelow made entries → now ≡ entries ++ entry ∷ [] → next ≡ made + 1 → entry.id ≡ made → IsWhole entry → AreBelow next now
 below_more entries now made next entry below put more id whole =

@@ -1,22 +1,27 @@
 -- These serve proofs alone: what is looked up by number and by id.
-use Rattle.std.specs.Prelude.{◌≡◌, ℕ, ◌<◌, ◌≤◌, nat_le, Bool, true, false, List, [], ◌∷◌, ◌++◌, length, map, filter, count_by, get_or, slice_get, find, Option, Some}
+use Rattle.std.specs.Prelude.{◌≡◌, ℕ, ◌+◌, ◌<◌, ◌≤◌, nat_le, Bool, true, false, List, [], ◌∷◌, ◌++◌, length, map, filter, count_by, get_or, slice_get, find, take, drop, Option, Some}
 use Rattle.std.specs.BTreeMap.{get_by}
 use Rattle.std.specs.Cmp.Lexicographic.{slice_cmp}
-use Rattle.std.specs.List.{All, flat_map}
+use Rattle.std.specs.List.{All, AllByRecursion, flat_map}
 use Rattle.std.specs.Option.{option_map}
 use Rattle.std.specs.Ordering.{nat_cmp}
 use Rattle.block_bits.specs.Flags.{is_marked}
 use Rattle.flattener.specs.Block.{BlockState}
 use Rattle.flattener.specs.Fits.{SegmentFits}
 use Rattle.layout.specs.Ascending.{Ascend}
-use Rattle.layout.specs.Layout.{Layout, is_live, item_in, live_in}
+use Rattle.layout.proofs.Merging.{HaveIds}
+use Rattle.layout.specs.Layout.{Layout, buffer_size, is_live, item_in, live_in, live_items}
+use Rattle.layout.specs.Merges.{AreOpen, factor_of}
 use Rattle.mapping.specs.Mapping.{Mapping}
+use Rattle.merge_jobs.specs.Job.{AreLater, IsLater}
+use Rattle.merge_jobs.specs.Open.{OpenState, is_named, merges_in, merges_shown}
 use Rattle.segment.specs.Live.{EntryState, LiveState, IsLiveOver}
 use Rattle.segment_parts.specs.declared.columns.Columns.{Columns}
 use Rattle.segment_builder.specs.Blocks.{blocks_in, blocks_of, marked_by, objects_of}
 use Rattle.stored_sources.specs.declared.root.Root.{Root}
-use Rattle.index_core.specs.Kept.{HaveOwnIds, has_block_id, block_number, numbers_in, segment_kept, segments_kept, laid}
+use Rattle.index_core.specs.Kept.{AreBlocks, HaveOwnIds, most_factor, has_block_id, block_number, numbers_in, segment_kept, segments_kept, laid}
 use Rattle.index_core.specs.declared.live_numbers.LiveNumbers.{LiveNumbers}
+use Rattle.index_core.specs.declared.ready.Ready.{Ready}
 use Rattle.index_core.specs.declared.place.Place.{Place}
 use Rattle.index_core.specs.declared.place.Place.TheVariants.{Root as AtRoot, Buffer as AtBuffer}
 
@@ -132,15 +137,19 @@ IsAt (AtBuffer index) entries buffer block = slice_get buffer index ≡ Some blo
 
 -- ---- what keeps blocks, without a mapping
 
--- entries, the blocks behind them, segments made, and for how many blocks more there is room
+-- entries, the blocks behind them, segments made, for how many blocks more there is room, the merges that are open with their
+-- jobs, how many were started, and the factor, where 0 is none
 pub record BlocksState : Type 0 where
   pub entries : List EntryState
   pub buffer : List BlockState
   pub made : ℕ
   pub spare : ℕ
+  pub jobs : List OpenState
+  pub started : ℕ
+  pub factor : ℕ
 
 abbrev pub layout_of : BlocksState → Layout BlockState
-layout_of it = laid it.entries it.buffer it.made
+layout_of it = record (laid it.entries it.buffer it.made) { merges = merges_in it.jobs; started = it.started; factor = factor_of it.factor }
 
 -- entries have ids of segments that were made, and are whole
 pub record AreBelow (made : ℕ) (entries : List EntryState) : Type 0 where
@@ -153,3 +162,63 @@ AreFit m entries = All (λ (entry : EntryState). SegmentFits m entry.columns) en
 
 abbrev pub columns_of : List EntryState → List Columns
 columns_of entries = map (λ (entry : EntryState). entry.columns) entries
+
+-- ---- open merges beside entries
+
+abbrev pub entry_id : EntryState → ℕ
+entry_id entry = entry.id
+
+-- an entry with the id of a part is that part later on
+abbrev pub IsLaterOf : EntryState → EntryState → Type 0
+IsLaterOf part entry = entry.id ≡ part.id → IsLater part entry
+
+abbrev pub ComesLater : List EntryState → EntryState → Type 0
+ComesLater entries part = AllByRecursion (IsLaterOf part) entries
+
+-- a merge has the entries in its range that it was started on, as they are now
+pub record IsJobOver (entries : List EntryState) (job : OpenState) : Type 0 where
+  pub ids : map entry_id job.parts ≡ map entry_id (take job.merge.count (drop job.merge.from entries))
+  pub later : AllByRecursion (ComesLater entries) job.parts
+
+-- what is so of entries and open merges at all times
+pub record AreKept (made started factor : ℕ) (entries : List EntryState) (jobs : List OpenState) : Type 0 where
+  pub below : AreBelow made entries
+  pub open_are : AreOpen (length entries) started (merges_in jobs)
+  pub over : AllByRecursion (IsJobOver entries) jobs
+  pub factor_is : factor ≤ most_factor
+
+-- an open merge with an id has no root left, and its neighbours stand as it has them
+pub record HasJob (entries : List EntryState) (jobs : List OpenState) (id : ℕ) (job : OpenState) : Type 0 where
+  pub named : find (is_named id) jobs ≡ Some job
+  pub done : job.merge.left ≡ 0
+  pub within : job.merge.from + job.merge.count ≤ length entries
+  pub same : AreLater job.parts (take job.merge.count (drop job.merge.from entries))
+
+-- ---- what sealing makes, before anything is replaced
+
+abbrev pub layout_ready : Ready → ℕ → ℕ → Layout BlockState
+layout_ready ready started factor = record {
+  segments = segments_kept ready.view;
+  buffer = [];
+  merges = merges_shown ready.merges.items;
+  started = started;
+  made = ready.made;
+  factor = factor_of factor;
+}
+
+-- ---- other segments with the same live blocks
+
+-- merges are open and segments have ids of their own
+pub record AreOpenOf (layout : Layout BlockState) : Type 0 where
+  pub open_are : AreOpen (length layout.segments) layout.started layout.merges
+  pub ids : HaveIds layout.segments layout.made
+
+-- what is so of the blocks of an index stays so, and the same are live
+pub record IsRelaid (old now : BlocksState) : Type 0 where
+  pub blocks : (next : ℕ) → AreBlocks (layout_of old) next → AreBlocks (layout_of now) next
+  pub live : live_items (layout_of now) ≡ live_items (layout_of old)
+
+-- there is room for one block more
+pub record HasRoom (layout : Layout BlockState) (next : ℕ) : Type 0 where
+  pub blocks : AreBlocks layout next
+  pub less : length layout.buffer < buffer_size

@@ -1,39 +1,37 @@
 -- What an index keeps: the entries of its view, each a segment of blocks, and the blocks in its buffer.
-use Rattle.std.specs.Prelude.{ℕ, ◌+◌, ◌≤◌, ◌^◌, Bool, List, [], ◌∷◌, ◌++◌, length, map, max, count_by, find, Option, None}
+use Rattle.std.specs.Prelude.{ℕ, ◌+◌, ◌<◌, ◌≤◌, ◌^◌, Bool, List, [], ◌∷◌, ◌++◌, length, map, max, count_by, find, Option, None}
 use Rattle.std.specs.List.{All, flat_map}
 use Rattle.std.specs.Str.{bytes_eq}
 use Rattle.flattener.specs.Block.{BlockState}
 use Rattle.flattener.specs.Fits.{BlockFits, SegmentFits, most_live}
 use Rattle.layout.specs.Ascending.{Ascend}
-use Rattle.layout.specs.Layout.{Marked, SegmentOf, Layout, live_items, buffer_size}
+use Rattle.layout.specs.Layout.{Marked, SegmentOf, Layout, OpenMerge, live_items, buffer_size}
 use Rattle.mapping.specs.Mapping.{Mapping}
 use Rattle.segment.specs.Live.{EntryState}
-use Rattle.segment_builder.specs.Blocks.{blocks_in, objects_of}
+use Rattle.segment_builder.specs.Blocks.{objects_of}
+pub use Rattle.merge_jobs.specs.Job.{segment_kept, segments_kept}
 
 -- the entries of the view and the blocks in the buffer behind them; how many segments were made, which is the id of the next
--- one; the next sequence number; and the most live objects
+-- one; the next sequence number; the most live objects; the merges that are open, and how many were started; and the factor by
+-- which neighbours are merged by themselves
 pub record IndexState : Type 0 where
   pub entries : List EntryState
   pub buffer : List BlockState
   pub made : ℕ
   pub next : ℕ
   pub objects : ℕ
+  pub merges : List OpenMerge
+  pub started : ℕ
+  pub factor : Option ℕ
 
 -- ---- the layout of its blocks
-
--- an entry as a segment of blocks
-abbrev pub segment_kept : EntryState → SegmentOf BlockState
-segment_kept entry = record { id = entry.id; items = blocks_in entry }
-
-abbrev pub segments_kept : List EntryState → List (SegmentOf BlockState)
-segments_kept entries = map segment_kept entries
 
 -- no merge is open, and there is no factor
 abbrev pub laid : List EntryState → List BlockState → ℕ → Layout BlockState
 laid entries buffer made = record { segments = segments_kept entries; buffer = buffer; merges = []; started = 0; made = made; factor = None }
 
 abbrev pub layout_kept : IndexState → Layout BlockState
-layout_kept kept = laid kept.entries kept.buffer kept.made
+layout_kept kept = record (laid kept.entries kept.buffer kept.made) { merges = kept.merges; started = kept.started; factor = kept.factor }
 
 -- the live blocks, in order
 abbrev pub live_kept : IndexState → List BlockState
@@ -67,18 +65,22 @@ numbers_of layout = flat_map numbers_in layout.segments ++ map block_number layo
 abbrev pub last_number : ℕ
 last_number = 2 ^ 62
 
--- the most segments that an opened index can have
-abbrev pub most_opened : ℕ
-most_opened = 2 ^ 64
+-- the greatest factor
+abbrev pub most_factor : ℕ
+most_factor = 10
 
--- numbers ascend below the next one, no two live blocks have the same id, there are not too many objects and blocks in the
--- buffer, and each segment that was made since the opening had a block of its own
+-- so many segments have an id
+abbrev pub most_made : ℕ
+most_made = 2 ^ 128
+
+-- numbers ascend below the next one, no two live blocks have the same id, and there are not too many objects, blocks in the
+-- buffer, and segments that were made
 pub record AreBlocks (layout : Layout BlockState) (next : ℕ) : Type 0 where
   pub ascending : Ascend 0 (numbers_of layout) next
   pub ids : HaveOwnIds (live_items layout)
   pub few : objects_of (live_items layout) ≤ most_live
   pub buffer : length layout.buffer ≤ buffer_size
-  pub made : layout.made + length layout.buffer ≤ most_opened + next
+  pub made : layout.made < most_made
 
 -- what an index keeps
 pub record IsIndex (kept : IndexState) : Type 0 where

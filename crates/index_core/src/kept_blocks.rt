@@ -1,26 +1,31 @@
 //! The blocks of an index: those of the entries of its view, and those in the buffer behind them.
 
-ghost use Rattle.std.specs.Prelude.{◌≡◌, ◌≢◌, ℕ, ◌+◌, ◌-◌, ◌<◌, ◌≤◌, ◌++◌, ◌^◌, [], ◌∷◌, List, length, map, take, drop, vec_len, vec_capacity, OnOk, OnErr, IfOk};
+ghost use Rattle.std.specs.Prelude.{◌≡◌, ℕ, ◌+◌, ◌-◌, ◌<◌, ◌≤◌, ◌++◌, [], ◌∷◌, List, None, Some, length, map, take, drop, vec_len, vec_capacity, OnOk, OnErr, IfOk};
 ghost use Rattle.std.specs.List.{All};
 ghost use Rattle.flattener.specs.Block.{BlockState};
 ghost use Rattle.flattener.specs.Fits.{BlockFits, SegmentFits, most_live};
 ghost use Rattle.flattener.specs.Seen.{block_seen};
-ghost use Rattle.layout.specs.Layout.{alive, killed, sealed};
+ghost use Rattle.layout.specs.Layout.{OpenMerge, alive, killed, live_of_range, remade, sealed, with_buffer_last};
+ghost use Rattle.layout.specs.Merges.{aborted, advanced, finish_fault, finished, merge_named, overlapping, start_fault, step_fault, with_merge};
 ghost use Rattle.mapping.specs.IsMapping.{IsMapping};
 ghost use Rattle.mapping.specs.Mapping.{Mapping as Mappings};
-ghost use Rattle.segment.specs.Live.{EntryState};
+ghost use Rattle.merge_jobs.specs.Open.{merges_in, merges_shown, placeless};
 ghost use Rattle.segment_builder.specs.Blocks.{block_objects, blocks_in, objects_of};
-ghost use Rattle.index_core.specs.Found.{AreBelow, AreFit, IsLive, IsLiveNumber, IsRootAt, IsWhole, columns_of, layout_of, live_blocks};
-ghost use Rattle.index_core.specs.Kept.{HaveOwnIds, has_block_id};
+ghost use Rattle.view_merge.specs.Given.{IsKeptOrMade};
+ghost use Rattle.index_core.specs.Found.{AreBelow, AreFit, AreOpenOf, IsLive, IsLiveNumber, IsRelaid, IsRootAt, IsWhole, columns_of, layout_of, layout_ready, live_blocks};
+ghost use Rattle.index_core.specs.Kept.{AreBlocks, HaveOwnIds, has_block_id, most_factor};
 
-use crate::NoMemory;
+use crate::finish::{Finished, finishing, give_way};
 use crate::place::{Place, entry_is_whole, place_of};
+use crate::ready::{Ready, made_after, mapping_is_numbered, next_merge, settled_ready};
+use crate::{MergeDone, NoMemory};
 use flattener::{Block, blocks_are_of_their_mapping};
 use mapping::Mapping;
-use segment::LiveBits;
 use segment_builder::{blocks_are_whole, built, deaths_mark_blocks};
+use merge_jobs::{MergeJob, MergeRow, OpenJobs};
 use segment_view::{Entry, View};
 use source_steps::Steps;
+use view_merge::{alive_entry, merged_entry, neighbours};
 use std::alloc::Global;
 use std::marker::Model;
 use std::sync::ledger::Ledger;
@@ -32,18 +37,21 @@ pub(crate) struct KeptBlocks {
     view: View,
     buffer: Vec<Block>,
     made: u128,
+    jobs: OpenJobs,
+    started: u64,
+    factor: u64,
 }
 
 impl Model for KeptBlocks {
     ghost use Rattle.std.specs.Prelude.{◌-◌, map, vec_capacity, vec_len};
     ghost use Rattle.flattener.specs.Seen.{block_seen};
-    ghost use Rattle.index_core.specs.Found.{BlocksState, AreBelow};
+    ghost use Rattle.index_core.specs.Found.{BlocksState, AreKept};
 
     ghost Value = { BlocksState };
 
-    ghost view = { λ it. record { entries = it.view; buffer = map block_seen it.buffer.items; made = it.made; spare = vec_capacity it.buffer - vec_len it.buffer } };
+    ghost view = { λ it. record { entries = it.view; buffer = map block_seen it.buffer.items; made = it.made; spare = vec_capacity it.buffer - vec_len it.buffer; jobs = it.jobs; started = it.started; factor = it.factor } };
 
-    ghost invariant = { λ it. AreBelow it.made it.view };
+    ghost invariant = { λ it. AreKept it.made it.started it.factor it.view it.jobs };
 }
 
 impl KeptBlocks {
@@ -53,12 +61,18 @@ impl KeptBlocks {
         ensures entries { result.entries ≡ view }
         ensures buffer { result.buffer ≡ [] }
         ensures made { result.made ≡ made }
+        ensures jobs { result.jobs ≡ [] }
+        ensures started { result.started ≡ 0 }
+        ensures factor { result.factor ≡ 0 }
     {
         KeptBlocks {
             alloc,
             view,
             buffer: Vec::new(alloc),
             made,
+            jobs: OpenJobs::empty(alloc),
+            started: 0,
+            factor: 0,
         }
     }
 
@@ -116,6 +130,7 @@ impl KeptBlocks {
         ensures killed { (id : List ℕ) (block : BlockState) → HaveOwnIds (live_blocks self.old.entries self.old.buffer) → IsLive self.old.entries self.old.buffer id block number
             → OnOk result (layout_of self.new ≡ killed (has_block_id id) (layout_of self.old)) }
         ensures columns { columns_of self.new.entries ≡ columns_of self.old.entries }
+        ensures made { self.new.made ≡ self.old.made }
         ensures room { self.old.spare ≤ self.new.spare }
         ensures same { OnErr result (self.new ≡ self.old) }
     {
@@ -135,6 +150,9 @@ impl KeptBlocks {
         ensures entries { self.new.entries ≡ self.old.entries }
         ensures buffer { self.new.buffer ≡ self.old.buffer }
         ensures made { self.new.made ≡ self.old.made }
+        ensures jobs { self.new.jobs ≡ self.old.jobs }
+        ensures started { self.new.started ≡ self.old.started }
+        ensures factor { self.new.factor ≡ self.old.factor }
     {
         self.buffer.reserve(1)?;
         Ok(())
@@ -146,26 +164,190 @@ impl KeptBlocks {
         ensures entries { self.new.entries ≡ self.old.entries }
         ensures buffer { self.new.buffer ≡ self.old.buffer ++ block_seen block ∷ [] }
         ensures made { self.new.made ≡ self.old.made }
+        ensures jobs { self.new.jobs ≡ self.old.jobs }
+        ensures started { self.new.started ≡ self.old.started }
+        ensures factor { self.new.factor ≡ self.old.factor }
     {
         self.buffer.push(block).unwrap();
     }
 
-    /// Makes a segment of the buffer, if there is a block in it. It fits each mapping that the blocks fit.
-    pub(crate) fn seal(&mut self, mapping: &Mapping) -> Result<(), NoMemory>
-        requires fits { All (BlockFits mapping.now) self.old.buffer }
-        requires few { objects_of self.old.buffer ≤ most_live }
-        requires made { self.old.made + 1 < 2 ^ 128 }
-        ensures sealed { OnOk result (layout_of self.new ≡ sealed (layout_of self.old)) }
-        ensures same { OnErr result (self.new ≡ self.old) }
-        ensures segments { (m : Mappings) → IsMapping m → All (BlockFits m) self.old.buffer → AreFit m self.old.entries → AreFit m self.new.entries }
+    /// The merges that are open.
+    pub(crate) fn merges(&self) -> Result<Vec<MergeRow>, NoMemory>
+        ensures { IfOk result (λ rows. merges_shown rows.items ≡ merges_in self.now.jobs) }
     {
-        if self.buffer.is_empty() {
-            return Ok(());
+        Ok(self.jobs.rows(self.alloc)?)
+    }
+
+    /// What sealing makes: a segment of the buffer, if there is a block in it, and what settling by the factor leaves, if there
+    /// is one. It fits each mapping that the blocks fit.
+    pub(crate) fn ready(&self, mapping: &Mapping) -> Result<Ready, NoMemory>
+        requires fits { All (BlockFits mapping.now) self.now.buffer }
+        requires segments { AreFit mapping.now self.now.entries }
+        requires few { objects_of (live_blocks self.now.entries self.now.buffer) ≤ most_live }
+        ensures sealed { IfOk result (λ ready. layout_ready ready self.now.started self.now.factor ≡ sealed (layout_of self.now)) }
+        ensures below { IfOk result (λ ready. AreBelow ready.made ready.view) }
+        ensures entries { IfOk result (λ ready. All (IsKeptOrMade self.now.entries self.now.made) ready.view) }
+        ensures fits { (m : Mappings) → IsMapping m → All (BlockFits m) self.now.buffer → AreFit m self.now.entries → IfOk result (λ ready. AreFit m ready.view) }
+        ensures placeless { IfOk result (λ ready. map placeless (merges_shown ready.merges.items) ≡ map placeless (merges_in self.now.jobs)) }
+        ensures open { AreOpenOf (layout_of self.now) }
+    {
+        let _entries = self.view.entries();
+        let last = self.with_last(mapping)?;
+        if self.factor == 0 {
+            return Ok(last);
         }
+        settled_ready(self.alloc, mapping, last, self.factor)
+    }
+
+    /// A view with the buffer as its last segment, if there is a block in it.
+    fn with_last(&self, mapping: &Mapping) -> Result<Ready, NoMemory>
+        requires fits { All (BlockFits mapping.now) self.now.buffer }
+        requires few { objects_of self.now.buffer ≤ most_live }
+        ensures last { IfOk result (λ ready. layout_ready ready self.now.started self.now.factor ≡ with_buffer_last (layout_of self.now)) }
+        ensures below { IfOk result (λ ready. AreBelow ready.made ready.view) }
+        ensures entries { IfOk result (λ ready. All (IsKeptOrMade self.now.entries self.now.made) ready.view) }
+        ensures fits { (m : Mappings) → IsMapping m → All (BlockFits m) self.now.buffer → AreFit m self.now.entries → IfOk result (λ ready. AreFit m ready.view) }
+    {
+        let mut view = self.view.pin(self.alloc)?;
+        let merges = self.jobs.rows(self.alloc)?;
+        if self.buffer.is_empty() {
+            return Ok(Ready {
+                view,
+                made: self.made,
+                merges,
+            });
+        }
+        let made = made_after(self.made, 1)?;
         let entry = entry_of(self.alloc, mapping, self.made, self.buffer.as_slice())?;
-        self.view.push(entry)?;
+        view.push(entry)?;
+        Ok(Ready { view, made, merges })
+    }
+
+    /// Takes what sealing made.
+    pub(crate) fn take_sealed(&mut self, ready: Ready)
+        requires sealed { layout_ready ready self.old.started self.old.factor ≡ sealed (layout_of self.old) }
+        requires below { AreBelow ready.made ready.view }
+        requires entries { All (IsKeptOrMade self.old.entries self.old.made) ready.view }
+        requires open { AreOpenOf (layout_of self.old) }
+        requires blocks { (next : ℕ) × AreBlocks (layout_of self.old) next }
+        requires placeless { map placeless (merges_shown ready.merges.items) ≡ map placeless (merges_in self.old.jobs) }
+        ensures sealed { layout_of self.new ≡ sealed (layout_of self.old) }
+        ensures entries { self.new.entries ≡ ready.view }
+        ensures buffer { self.new.buffer ≡ [] }
+        ensures relaid { IsRelaid self.old self.new }
+    {
+        let Ready { view, made, merges } = ready;
+        self.view = view;
         self.buffer.clear();
-        self.made += 1;
+        self.made = made;
+        self.jobs.place(merges.as_slice());
+    }
+
+    /// The factor by which neighbours are merged; 0 is none.
+    pub(crate) fn factor(&self) -> u64
+        ensures is { result ≡ self.now.factor }
+        ensures most { result ≤ most_factor }
+    {
+        let _ = &self.view;
+        self.factor
+    }
+
+    /// Sets the factor by which neighbours are merged; 0 is none.
+    pub(crate) fn set_factor(&mut self, factor: u64)
+        requires { factor ≤ most_factor }
+        ensures { self.new ≡ record self.old { factor = factor } }
+    {
+        self.factor = factor;
+    }
+
+    /// Opens a merge of a range of segments. How many of their roots are live.
+    pub(crate) fn start(&mut self, from: u64, count: u64) -> Result<MergeDone, NoMemory>
+        requires fault { start_fault from count (layout_of self.old) ≡ None }
+        requires few { objects_of (live_blocks self.old.entries self.old.buffer) ≤ most_live }
+        ensures layout { OnOk result (layout_of self.new ≡ with_merge from count (layout_of self.old)) }
+        ensures done { IfOk result (λ done. done ≡ record { id = self.old.started + 1; count = length (live_of_range from count (layout_of self.old)) }) }
+        ensures entries { self.new.entries ≡ self.old.entries }
+        ensures buffer { self.new.buffer ≡ self.old.buffer }
+        ensures relaid { IsRelaid self.old self.new }
+        ensures same { OnErr result (self.new ≡ self.old) }
+    {
+        let range = neighbours(self.view.entries(), from, count);
+        let job = MergeJob::start(self.alloc, range)?;
+        let roots = job.left();
+        let id = next_merge(self.started)?;
+        self.jobs.open(id, from, count, job)?;
+        self.started = id;
+        Ok(MergeDone { id, count: roots })
+    }
+
+    /// Walks so many roots of an open merge further. How many are left then.
+    pub(crate) fn advance(&mut self, id: u64, roots: u64) -> Result<MergeDone, NoMemory>
+        requires { step_fault id (layout_of self.old) ≡ None }
+        ensures layout { OnOk result (layout_of self.new ≡ advanced id roots (layout_of self.old)) }
+        ensures done { (merge : OpenMerge) → merge_named id (layout_of self.old) ≡ Some merge → IfOk result (λ done. done ≡ record { id = id; count = merge.left - roots }) }
+        ensures entries { self.new.entries ≡ self.old.entries }
+        ensures buffer { self.new.buffer ≡ self.old.buffer }
+        ensures relaid { IsRelaid self.old self.new }
+        ensures same { OnErr result (self.new ≡ self.old) }
+    {
+        let left = self.jobs.advance(id, roots)?;
+        Ok(MergeDone { id, count: left })
+    }
+
+    /// Closes an open merge.
+    pub(crate) fn abort(&mut self, id: u64)
+        requires { step_fault id (layout_of self.old) ≡ None }
+        ensures layout { layout_of self.new ≡ aborted id (layout_of self.old) }
+        ensures entries { self.new.entries ≡ self.old.entries }
+        ensures buffer { self.new.buffer ≡ self.old.buffer }
+        ensures relaid { IsRelaid self.old self.new }
+    {
+        self.jobs.close(id);
+    }
+
+    /// Makes one segment of the live blocks of an open merge's range, or none, and closes it. How many there are.
+    pub(crate) fn finish(&mut self, mapping: &Mapping, id: u64) -> Result<MergeDone, NoMemory>
+        requires fault { finish_fault id (layout_of self.old) ≡ None }
+        requires segments { AreFit mapping.now self.old.entries }
+        requires few { objects_of (live_blocks self.old.entries self.old.buffer) ≤ most_live }
+        ensures layout { (merge : OpenMerge) → merge_named id (layout_of self.old) ≡ Some merge → OnOk result (layout_of self.new ≡ finished merge (layout_of self.old)) }
+        ensures done { (merge : OpenMerge) → merge_named id (layout_of self.old) ≡ Some merge → IfOk result (λ done. done ≡ record { id = id; count = length (live_of_range merge.from merge.count (layout_of self.old)) }) }
+        ensures segments { (m : Mappings) → AreFit m self.old.entries → AreFit m self.new.entries }
+        ensures buffer { self.new.buffer ≡ self.old.buffer }
+        ensures relaid { IsRelaid self.old self.new }
+        ensures same { OnErr result (self.new ≡ self.old) }
+    {
+        mapping_is_numbered(mapping);
+        let Finished {
+            from,
+            count,
+            live,
+            entry,
+        } = finishing(self.alloc, &self.jobs, &self.view, self.made, id)?;
+        let by = give_way(&mut self.view, &mut self.made, from, count, entry)?;
+        self.jobs.close(id);
+        self.jobs.shift(from, count, by);
+        Ok(MergeDone { id, count: live })
+    }
+
+    /// Makes one segment of the live blocks of a range, or none.
+    pub(crate) fn force(&mut self, mapping: &Mapping, from: u64, count: u64) -> Result<(), NoMemory>
+        requires some { 0 < count }
+        requires within { from + count ≤ length self.old.entries }
+        requires clear { overlapping from count (layout_of self.old) ≡ None }
+        requires segments { AreFit mapping.now self.old.entries }
+        requires few { objects_of (live_blocks self.old.entries self.old.buffer) ≤ most_live }
+        ensures layout { OnOk result (layout_of self.new ≡ remade from count (layout_of self.old)) }
+        ensures segments { (m : Mappings) → AreFit m self.old.entries → AreFit m self.new.entries }
+        ensures buffer { self.new.buffer ≡ self.old.buffer }
+        ensures relaid { IsRelaid self.old self.new }
+        ensures same { OnErr result (self.new ≡ self.old) }
+    {
+        mapping_is_numbered(mapping);
+        let range = neighbours(self.view.entries(), from, count);
+        let entry = merged_entry(self.alloc, self.made, range)?;
+        let by = give_way(&mut self.view, &mut self.made, from, count, entry)?;
+        self.jobs.shift(from, count, by);
         Ok(())
     }
 }
@@ -221,9 +403,7 @@ fn entry_of(alloc: Global, mapping: &Mapping, id: u128, blocks: &[Block]) -> Res
 {
     blocks_are_of_their_mapping();
     let segment = built(alloc, mapping, blocks)?;
-    blocks_are_whole(&segment);
-    let live = LiveBits::over(alloc, &segment, &[])?;
-    let entry = Entry::new(alloc, id, segment, live)?;
+    let entry = alive_entry(alloc, id, segment)?;
     entry_is_whole(&entry);
     Ok(entry)
 }

@@ -7,15 +7,21 @@
 #![tactic(auto)]
 
 mod ascending;
+mod finish;
 mod index_core;
 mod kept_blocks;
 mod live_numbers;
+mod merge;
 mod op;
 mod opening;
 mod place;
+mod ready;
 mod refusal;
 mod write;
 
 pub use index_core::IndexCore;
+pub use merge::{LayoutRows, MergeDone, MergeRefusal};
+pub use merge_jobs::MergeRow;
 pub use op::{WriteDone, WriteOp};
 pub use refusal::{NoMemory, WriteRefusal};
+pub use view_merge::SegmentRow;

@@ -42,6 +42,24 @@ impl From<segment_builder::NoMemory> for NoMemory {
     }
 }
 
+impl From<merge_jobs::NoMemory> for NoMemory {
+    fn from(_: merge_jobs::NoMemory) -> NoMemory {
+        NoMemory
+    }
+}
+
+impl From<merge_policy::NoMemory> for NoMemory {
+    fn from(_: merge_policy::NoMemory) -> NoMemory {
+        NoMemory
+    }
+}
+
+impl From<view_merge::NoMemory> for NoMemory {
+    fn from(_: view_merge::NoMemory) -> NoMemory {
+        NoMemory
+    }
+}
+
 /// Why a write wasn't done.
 #[derive(Clone, Copy, Debug, PartialEq, Eq)]
 pub enum WriteRefusal {

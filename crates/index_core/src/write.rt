@@ -11,8 +11,8 @@ ghost use Rattle.layout.specs.Layout.{killed, staying, with_new, with_room};
 ghost use Rattle.mapping.specs.IsMapping.{IsMapping};
 ghost use Rattle.mapping.specs.Mapping.{Mapping as Mappings};
 ghost use Rattle.segment_builder.specs.Blocks.{objects_of};
-ghost use Rattle.index_core.specs.Found.{AreFit, HasLive, HasOld, columns_of, layout_of, live_blocks, number_under};
-ghost use Rattle.index_core.specs.Kept.{block_number, has_block_id};
+ghost use Rattle.index_core.specs.Found.{AreFit, HasLive, HasOld, HasRoom, columns_of, layout_of, live_blocks, number_under};
+ghost use Rattle.index_core.specs.Kept.{AreBlocks, block_number, has_block_id};
 ghost use Rattle.index_core.specs.Write.{done_of, id_of, new_number, new_of, takes_nothing as has_nothing};
 
 use crate::kept_blocks::KeptBlocks;
@@ -96,14 +96,17 @@ fn objects_without(blocks: &KeptBlocks, live_objects: u64, old: Option<u64>) -> 
 /// Makes a segment of a full buffer.
 pub(crate) fn make_room(blocks: &mut KeptBlocks, mapping: &Mapping) -> Result<(), NoMemory>
     requires fits { All (BlockFits mapping.now) blocks.old.buffer }
-    requires few { objects_of blocks.old.buffer ≤ most_live }
-    requires made { blocks.old.made + 1 < 2 ^ 128 }
+    requires segments { AreFit mapping.now blocks.old.entries }
+    requires few { objects_of (live_blocks blocks.old.entries blocks.old.buffer) ≤ most_live }
+    requires blocks { (next : ℕ) × AreBlocks (layout_of blocks.old) next }
     ensures room { OnOk result (layout_of blocks.new ≡ with_room (layout_of blocks.old)) }
+    ensures blocks { (next : ℕ) → AreBlocks (layout_of blocks.old) next → OnOk result (HasRoom (layout_of blocks.new) next) }
     ensures same { OnErr result (blocks.new ≡ blocks.old) }
     ensures segments { (m : Mappings) → IsMapping m → All (BlockFits m) blocks.old.buffer → AreFit m blocks.old.entries → AreFit m blocks.new.entries }
 {
     if blocks.buffered_count() >= BUFFER_SIZE {
-        blocks.seal(mapping)?;
+        let ready = blocks.ready(mapping)?;
+        blocks.take_sealed(ready);
     }
     Ok(())
 }
