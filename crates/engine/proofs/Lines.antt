@@ -47,10 +47,9 @@ first_accepted body mapping index state m out none f nothing first is text =
       stands = record { indexed = empty_layout; trees = ap sealed own.stands ∙ empty_sealed; blocks = nothing };
       laid = sealed_keeps state.layout ∙ own.laid;
       numbered = record { live = own.numbered.live; below = own.numbered.below };
-      points = own.points;
       stored = own.stored;
     } in
-    subst (λ answer. Ends state (outcome_of state answer) answered.Written out (Some m) index) (sym e) (accepted (Some m) index state after reply.Mapped out faithful refl text)
+    subst (λ answer. Ends state (outcome_of state answer) answered.Written out (Some m) index) (sym e) (accepted (Some m) index state after reply.Mapped out faithful refl refl text)
 
 -- ---- a further line
 
@@ -71,7 +70,6 @@ further_accepted same body m m' index index' state out is is' further f next sea
       stands = grown_stands same m m' is is' (subst (HasFurtherBodies m) (sym grown) further) (layout_kept index') (sealed state.layout) g.stands;
       laid = g.laid;
       numbered = record { live = f.numbered.live; below = f.numbered.below };
-      points = f.points;
       stored = f.stored;
     } in
-    subst (λ answer. Ends state (outcome_of state answer) answered.Written out (Some m') index') (sym e) (accepted (Some m') index' state after reply.Mapped out faithful refl text)
+    subst (λ answer. Ends state (outcome_of state answer) answered.Written out (Some m') index') (sym e) (accepted (Some m') index' state after reply.Mapped out faithful refl refl text)

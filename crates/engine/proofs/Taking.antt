@@ -81,7 +81,7 @@ pub not_there : (limits : Limits) (m : Mapping) (id : List ℕ) (index : IndexSt
     → out ≡ reply_text (reply.NotFound id) → Ends state (outcome_of state (delete_step limits m id state)) answered.Written out (Some m) index
 not_there limits m id index state out f none text =
     let e : delete_step limits m id state ≡ answers (reply.NotFound id) state = rw (no_tree m id index state f none) refl in
-    subst (λ answer. Ends state (outcome_of state answer) answered.Written out (Some m) index) (sym e) (accepted (Some m) index state state (reply.NotFound id) out f refl text)
+    subst (λ answer. Ends state (outcome_of state answer) answered.Written out (Some m) index) (sym e) (accepted (Some m) index state state (reply.NotFound id) out f refl refl text)
 
 taken_step : (limits : Limits) (m : Mapping) (id : List ℕ) (index : IndexState) (state : State) (number : ℕ) → IsLive m id index state number → delete_step limits m id state ≡ take_out limits m id state
 taken_step limits m id index state number live = rw live.tree refl
@@ -120,7 +120,6 @@ take_faithful m id index index' state number f live made =
       stands = record { indexed = changed_so.indexed; trees = changed_so.trees; blocks = kept ∙ changed_so.blocks };
       laid = change_laid id [] state f.laid ∙ append-nil (without id state.content.live);
       numbered = record { live = numbered.0; below = numbered.1 };
-      points = f.points;
       stored = f.stored;
     }
 
@@ -134,7 +133,7 @@ take_made limits m id index index' state number out most f some made text =
     ∙ ap (λ o. refused_if o (changed m id (without id state.content.live) [] Deleted state)) (take_full_by limits m id index state number false most f live made.taken) in
     let said : out ≡ reply_text (reply.Written id state.content.next Deleted) = text ∙ ap (λ k. reply_text (reply.Written id k Deleted)) (sym f.next) in
     subst (λ answer. Ends state (outcome_of state answer) answered.Written out (Some m) index') (sym e)
-    (accepted (Some m) index' state after (reply.Written id state.content.next Deleted) out (take_faithful m id index index' state number f live made) refl said)
+    (accepted (Some m) index' state after (reply.Written id state.content.next Deleted) out (take_faithful m id index index' state number f live made) refl refl said)
 
 -- ---- updates
 

@@ -175,7 +175,6 @@ put_faithful same m id source plan index index' state is f p made =
       stands = record { indexed = changed_so.indexed; trees = changed_so.trees; blocks = kept ∙ changed_so.blocks };
       laid = change_laid id (tree ∷ []) state f.laid;
       numbered = record { live = numbered.0; below = numbered.1 };
-      points = f.points;
       stored = f.stored;
     }
 
@@ -195,4 +194,4 @@ put_made same limits m m' id source plan tree index index' state out is most f p
     subst (λ (it : Mapping). AreFaithful (Some it) index' after) (sym (grown ∙ q.grown)) (put_faithful same m id source plan index index' state is f q made) in
     let said : out ≡ reply_text (reply.Written id n (put_result tree)) = text ∙ ap (λ k. reply_text (reply.Written id k (put_result tree))) (sym f.next) in
     subst (λ answer. Ends state (outcome_of state answer) answered.Written out (Some m') index') (sym e)
-    (accepted (Some m') index' state after (reply.Written id n (put_result tree)) out faithful refl said)
+    (accepted (Some m') index' state after (reply.Written id n (put_result tree)) out faithful refl refl said)

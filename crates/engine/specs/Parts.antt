@@ -36,20 +36,26 @@ answered_of (Ok Accepted) = answered.Written
 answered_of (Ok Refused) = answered.Refused
 answered_of (Err none) = answered.NoMemory
 
--- A command ends so but for the points in time: a reply that may be given is written, and the mapping and the index are
--- faithful to the state afterwards.
+-- How a command ends that leaves the points in time as they are: a reply that may be given is written, and the mapping and the
+-- index are faithful to the state afterwards.
 pub record Ends (before : State) (outcome : Outcome) (answered : Answered) (out : List ℕ) (mapping : Option Mapping) (index : IndexState) : Type 0 where
   pub reply : Reply
   pub after : State
   pub may : MayEnd before outcome reply after
   pub faithful : AreFaithful mapping index after
+  pub points : after.points ≡ before.points
   pub told : answered ≡ answered_by reply
   pub text : reply_bytes answered out ≡ reply_text reply
 
--- and with them
+-- and one that may change them
 pub record EndsWith (before : State) (outcome : Outcome) (answered : Answered) (out : List ℕ) (mapping : Option Mapping) (index : IndexState) (points : KeptPoints) : Type 0 where
-  pub ends : Ends before outcome answered out mapping index
-  pub points : PointsStandFor mapping points ends.after.points
+  pub reply : Reply
+  pub after : State
+  pub may : MayEnd before outcome reply after
+  pub faithful : AreFaithful mapping index after
+  pub points : PointsStandFor mapping points after.points
+  pub told : answered ≡ answered_by reply
+  pub text : reply_bytes answered out ≡ reply_text reply
 
 -- a mapping has further bodies behind its own
 pub record HasGrown (m m' : Mapping) : Type 0 where
