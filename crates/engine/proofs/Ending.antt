@@ -1,5 +1,5 @@
 -- How writes end, by what became of the change.
-use Rattle.std.proofs.Common.{◌≡◌, true, false, ℕ, List, [], ◌∷◌, Option, Some, None, Result, Ok, Err, option_map, unwrap_or, refl, sym, ap, subst, inl, Bool, ◌∙◌}
+use Rattle.std.proofs.Common.{◌≡◌, true, false, ℕ, List, [], ◌∷◌, Option, Some, None, Result, Ok, Err, option_map, unwrap_or, refl, sym, ap, subst, inl, inr, Bool, ◌∙◌}
 use Rattle.std.proofs.lemmas.List.Elements.{All-cons, All-nil}
 use Rattle.std.specs.List.{All}
 use Rattle.flattener.specs.Block.{BlockState, root_of_tree}
@@ -13,6 +13,7 @@ use Rattle.machine.specs.Answer.{first_of, outcome_of}
 use Rattle.machine.specs.State.{State}
 use Rattle.machine.specs.Write.{added_body, put_result, put_source}
 use Rattle.machine.specs.declared.limits.Limits.{Limits}
+use Rattle.mapping.specs.Growth.{HasFurtherBodies}
 use Rattle.mapping.specs.IsMapping.{IsMapping}
 use Rattle.mapping.specs.Mapping.{Mapping}
 use Rattle.reply_text.specs.Text.{reply_text}
@@ -24,7 +25,7 @@ use Rattle.write_plan.specs.Planned.{IsPlanned, refusals_of}
 use Rattle.write_plan.specs.declared.plan.Plan.{Plan}
 use Rattle.engine.specs.Faithful.{AreFaithful}
 use Rattle.engine.specs.Kept.{HasValue, IsIndexOf}
-use Rattle.engine.specs.Parts.{Ends, IsChanged, Leaves, answered_of, delete_step, mapping_put}
+use Rattle.engine.specs.Parts.{Ends, Grows, IsChanged, Leaves, answered_of, delete_step, mapping_put}
 use Rattle.engine.specs.declared.engine.Answered.TheVariants as answered
 use Rattle.engine.specs.declared.no_memory.NoMemory as memory
 use Rattle.engine.specs.declared.reply.Ended.{Ended}
@@ -70,6 +71,14 @@ put_leaves m m' id source plan index index' (Ok Refused) out out' is index_of p 
 put_leaves m m' id source plan index index' (Err none) out out' is index_of p changed grown fits objects =
     subst (λ (it : Mapping). Leaves answered.NoMemory (Some m) (Some it) it index index') (sym grown)
     (leaves_sealed answered.NoMemory m index index' index_of (changed.fits m is index_of.fits) changed.next objects (stays_or_seals (layout_kept index) (layout_kept index') changed.layout))
+
+pub put_grows : (m m' : Mapping) (id : List ℕ) (source : JsonValue) (number : ℕ) (plan : Plan) (result : Result Ended memory.NoMemory) → IsMapping m → IsPlanned m id source number plan
+    → m' ≡ mapping_put result m plan.grown → Grows m m'
+put_grows m m' id source number plan (Ok Accepted) is p grown =
+    let same = sym (grown ∙ p.grown) in
+    inr (record { before = is; after = subst IsMapping same p.later.mapping; further = subst (HasFurtherBodies m) same p.later.further })
+put_grows m m' id source number plan (Ok Refused) is p grown = inl grown
+put_grows m m' id source number plan (Err none) is p grown = inl grown
 
 -- ---- a tree that is taken out
 
