@@ -1,12 +1,13 @@
 -- How merge commands end, by what a merge call answers.
-use Rattle.std.proofs.Common.{◌≡◌, ◌⊎◌, ℕ, ◌+◌, ◌-◌, ◌==◌, zero, suc, Bool, true, false, cond, List, length, Option, Some, None, Ok, Err, refl, sym, ap, ◌∙◌}
+use Rattle.std.proofs.Common.{◌≡◌, ℕ, ◌+◌, ◌-◌, length, Option, Some, None, Ok, Err, refl, sym, ap, ◌∙◌}
 use Rattle.flattener.specs.Block.{BlockState}
 use Rattle.index_core.specs.Kept.{IndexState, layout_kept}
 use Rattle.index_core.specs.Merge.{refusal_of}
 use Rattle.index_core.specs.declared.merge.MergeDone.{MergeDone}
 use Rattle.index_core.specs.declared.merge.MergeRefusal.{MergeRefusal}
 use Rattle.index_core.specs.declared.merge.MergeRefusal.TheVariants as merge
-use Rattle.layout.specs.Layout.{Layout, OpenMerge, remade, is_spent, is_half_dead, each_remade, last_uneven, evened_at, evened, all_remade, all_evened, settled, with_buffer_last, sealed, live_of_range}
+use Rattle.layout.proofs.Settling.{sealed_emptied}
+use Rattle.layout.specs.Layout.{Layout, OpenMerge, sealed, live_of_range}
 use Rattle.layout.specs.Merges.{MergeFault, bad_range, overlaps, too_many, unknown, not_done, start_fault, step_fault, unknown_fault, finish_fault, left_fault, force_fault, merge_named, with_merge, advanced, finished, aborted, forced}
 use Rattle.machine.specs.Merging.{LayoutAnswer, declined, relaid, merge_refusal, unless_faulty, no_merge, with_open, start_done, advance_done, finish_done, abort_done, force_done, merged_by}
 use Rattle.machine.specs.declared.merge_command.MergeCommand.{MergeCommand}
@@ -17,37 +18,6 @@ use Rattle.layout_commands.specs.Ends.{IsMerged, StaysOrSeals, not_done_by}
 
 abbrev Blocks : Type 0
 Blocks = Layout BlockState
-
--- ---- sealing starts no merge
-
-each_started : {A : Type 0} (test : Layout A → ℕ → Bool) (n : ℕ) (layout : Layout A) → (each_remade test n layout).started ≡ layout.started
-each_started test zero layout = refl
-each_started test (suc n) layout =
-    each_started test n (cond (test layout n) (remade n 1 layout) layout)
-    ∙ elim (test layout n) as (λ b. (cond b (remade n 1 layout) layout).started ≡ layout.started) [
-      | true ↦ refl
-      | false ↦ refl
-    ]
-
-evened_at_started : {A : Type 0} (index : Option ℕ) (layout : Layout A) → (evened_at index layout).started ≡ layout.started
-evened_at_started None layout = refl
-evened_at_started (Some index) layout = refl
-
-evened_started : {A : Type 0} (steps factor : ℕ) (layout : Layout A) → (evened steps factor layout).started ≡ layout.started
-evened_started zero factor layout = refl
-evened_started (suc steps) factor layout =
-    evened_started steps factor (evened_at (last_uneven factor layout) layout) ∙ evened_at_started (last_uneven factor layout) layout
-
-settled_started : {A : Type 0} (factor : Option ℕ) (layout : Layout A) → (settled factor layout).started ≡ layout.started
-settled_started None layout = refl
-settled_started (Some factor) layout =
-    each_started is_half_dead (length (all_evened factor (all_remade is_spent layout)).segments) (all_evened factor (all_remade is_spent layout))
-    ∙ evened_started (length (all_remade is_spent layout).segments) factor (all_remade is_spent layout)
-    ∙ each_started is_spent (length layout.segments) layout
-
-pub sealed_started : {A : Type 0} (layout : Layout A) → (sealed layout).started ≡ layout.started
-unfolding sealed
-sealed_started layout = settled_started layout.factor (with_buffer_last layout)
 
 -- ---- refusals
 
@@ -109,7 +79,7 @@ pub started : (from count : ℕ) (index index' : IndexState) (done : MergeDone) 
 unfolding merged_by
 started from count index index' done none is layout =
     let L = sealed (layout_kept index) in
-    let id : L.started + 1 ≡ done.id = ap (λ n. n + 1) (sealed_started (layout_kept index)) ∙ sym (ap (λ (d : MergeDone). d.id) is) in
+    let id : L.started + 1 ≡ done.id = ap (λ n. n + 1) (sealed_emptied (layout_kept index)).started ∙ sym (ap (λ (d : MergeDone). d.id) is) in
     let left : length (live_of_range from count L) ≡ done.count = sym (ap (λ (d : MergeDone). d.count) is) in
     ap (λ fault. unless_faulty no_merge fault (start_done from count L)) none
     ∙ (λ i. relaid (reply.MergeStarted (id i) (left i)) (sym layout i))

@@ -8,14 +8,14 @@ use Rattle.layout.specs.Layout.{OpenMerge, sealed}
 use Rattle.machine.specs.Merging.{declined, merged_by, relaid}
 use Rattle.machine.specs.declared.merge_command.MergeCommand.{MergeCommand}
 use Rattle.machine.specs.declared.merge_command.MergeCommand.TheVariants.{Start, Advance, Finish, Abort, Force}
-use Rattle.merge_jobs.specs.declared.rows.MergeRow as open
+use Rattle.merge_jobs.specs.declared.rows.MergeRow.{MergeRow as KeptMerge}
 use Rattle.point_in_time.specs.Points.{KeptPoints, is_full, is_open, with_point, without_point}
 use Rattle.reply_text.specs.declared.layout.MergeRow.{MergeRow}
 use Rattle.reply_text.specs.declared.layout.SegmentRow.{SegmentRow}
 use Rattle.reply_text.specs.declared.refusal.Refusal.TheVariants as why
 use Rattle.reply_text.specs.declared.reply.Reply.{Reply}
 use Rattle.reply_text.specs.declared.reply.Reply.TheVariants.{PitOpened, PitClosed}
-use Rattle.view_merge.specs.declared.rows.SegmentRow as segment
+use Rattle.view_merge.specs.declared.rows.SegmentRow.{SegmentRow as KeptSegment}
 use Rattle.layout_commands.specs.declared.not_done.NotDone.{NotDone}
 use Rattle.layout_commands.specs.declared.not_done.NotDone.TheVariants.{Refused, NoMemory}
 
@@ -76,8 +76,8 @@ IsClosed id (Err (Refused refusal)) index index' points points' = (is_open id po
 IsClosed id (Err NoMemory) index index' points points' = IsLacking index index' points points'
 
 -- rows as replies have them
-abbrev pub merge_row_of : open.MergeRow → MergeRow
+abbrev pub merge_row_of : KeptMerge → MergeRow
 merge_row_of row = record { count = row.count; from = row.from; left = row.left; merge = row.merge }
 
-abbrev pub segment_row_of : segment.SegmentRow → SegmentRow
+abbrev pub segment_row_of : KeptSegment → SegmentRow
 segment_row_of row = record { dead = row.dead; first = row.first; last = row.last; live = row.live; objects = row.objects }

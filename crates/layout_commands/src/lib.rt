@@ -6,17 +6,17 @@
 //! anywhere: the engine writes the reply. Begin with `specs/Ends`, then `merge`.
 #![tactic(auto)]
 
-mod automerge;
-mod merge;
+mod factor;
+mod layout_rows;
+mod merges;
 mod not_done;
 mod points;
-mod rows;
 
-pub use automerge::automerge;
-pub use merge::merge;
+pub use factor::automerge;
+pub use layout_rows::rows;
+pub use merges::merge;
 pub use not_done::NotDone;
 pub use points::{close_point, open_point};
-pub use rows::rows;
 
 /// The most bytes of a reply to a merge command, to `automerge` and of a point in time, its newline aside: such a reply has two
 /// numbers of 64 bits at most. Who takes room for it beforehand can write it whatever happens.

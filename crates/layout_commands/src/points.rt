@@ -13,6 +13,7 @@ use point_in_time::PointsInTime;
 use reply_text::{Refusal, Reply};
 
 /// Opens a point in time on the sealed index.
+#[tactic(auto, using(crate::proofs::Short::short))]
 pub fn open_point(
     mapping: &Mapping,
     index: &mut IndexCore,
@@ -38,6 +39,7 @@ pub fn open_point(
 }
 
 /// Closes a point in time.
+#[tactic(auto, using(crate::proofs::Short::short))]
 pub fn close_point(
     mapping: &Mapping,
     index: &mut IndexCore,

@@ -6,7 +6,7 @@ use Rattle.machine.specs.declared.merge_command.MergeCommand.TheVariants.{Advanc
 use Rattle.layout_commands.specs.Ends.{IsMerged}
 use Rattle.layout_commands.specs.declared.not_done.NotDone.{NotDone}
 use Rattle.layout_commands.proofs.Ending.{err_ends, walked, advance_refused}
-use Rattle.layout_commands.proofs.merge.advance.Goals as goal
+use Rattle.layout_commands.proofs.merges.advance.Goals as goal
 
 pub returns-in-Ok-clause-merged : goal.returns-in-Ok-clause-merged
 returns-in-Ok-clause-merged c = walked c.args.id c.args.index.now c.advance_merge.new.self c.args.roots c.in-Ok.done (c.in-Ok.ensures.accepted tt) c.in-Ok.ensures.done c.in-Ok.ensures.layout

@@ -14,6 +14,7 @@ use reply_text::Reply;
 
 /// Sets the factor by which neighbours are merged, or none where it is 0, and seals the index by it. After NoMemory nothing has
 /// changed.
+#[tactic(auto, using(crate::proofs::Short::short))]
 pub fn automerge(
     mapping: &Mapping,
     index: &mut IndexCore,

@@ -6,7 +6,7 @@ use Rattle.machine.specs.declared.merge_command.MergeCommand.TheVariants.{Force}
 use Rattle.layout_commands.specs.Ends.{IsMerged}
 use Rattle.layout_commands.specs.declared.not_done.NotDone.{NotDone}
 use Rattle.layout_commands.proofs.Ending.{err_ends, forces, force_refused}
-use Rattle.layout_commands.proofs.merge.force.Goals as goal
+use Rattle.layout_commands.proofs.merges.force.Goals as goal
 
 pub returns-in-Ok-clause-merged : goal.returns-in-Ok-clause-merged
 returns-in-Ok-clause-merged c = forces c.args.most c.args.index.now c.force_merge.new.self c.in-Ok.done (c.in-Ok.ensures.accepted tt) c.in-Ok.ensures.done c.in-Ok.ensures.layout

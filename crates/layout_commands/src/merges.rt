@@ -37,6 +37,7 @@ pub fn merge(
 }
 
 /// Opens a merge.
+#[tactic(auto, using(crate::proofs::Short::short))]
 fn start(
     mapping: &Mapping,
     index: &mut IndexCore,
@@ -60,6 +61,7 @@ fn start(
 }
 
 /// Walks roots of an open merge.
+#[tactic(auto, using(crate::proofs::Short::short))]
 fn advance(
     mapping: &Mapping,
     index: &mut IndexCore,
@@ -83,6 +85,7 @@ fn advance(
 }
 
 /// Puts the segment of an open merge in place.
+#[tactic(auto, using(crate::proofs::Short::short))]
 fn finish(mapping: &Mapping, index: &mut IndexCore, id: u64) -> Result<Reply, NotDone>
     requires { IndexFits mapping.now index.old }
     ensures merged { IsMerged (Finish id) result index.old index.new }
@@ -101,6 +104,7 @@ fn finish(mapping: &Mapping, index: &mut IndexCore, id: u64) -> Result<Reply, No
 }
 
 /// Gives an open merge up.
+#[tactic(auto, using(crate::proofs::Short::short))]
 fn abort(mapping: &Mapping, index: &mut IndexCore, id: u64) -> Result<Reply, NotDone>
     requires { IndexFits mapping.now index.old }
     ensures merged { IsMerged (Abort id) result index.old index.new }
@@ -116,6 +120,7 @@ fn abort(mapping: &Mapping, index: &mut IndexCore, id: u64) -> Result<Reply, Not
 }
 
 /// Merges at once.
+#[tactic(auto, using(crate::proofs::Short::short))]
 fn force(mapping: &Mapping, index: &mut IndexCore, most: u64) -> Result<Reply, NotDone>
     requires fits { IndexFits mapping.now index.old }
     requires most { 0 < most }

@@ -6,7 +6,7 @@ use Rattle.machine.specs.declared.merge_command.MergeCommand.TheVariants.{Abort}
 use Rattle.layout_commands.specs.Ends.{IsMerged}
 use Rattle.layout_commands.specs.declared.not_done.NotDone.{NotDone}
 use Rattle.layout_commands.proofs.Ending.{err_ends, aborts, abort_refused}
-use Rattle.layout_commands.proofs.merge.abort.Goals as goal
+use Rattle.layout_commands.proofs.merges.abort.Goals as goal
 
 pub returns-in-Ok-clause-merged : goal.returns-in-Ok-clause-merged
 returns-in-Ok-clause-merged c = aborts c.args.id c.args.index.now c.abort_merge.new.self (c.in-Ok.ensures.accepted tt) c.in-Ok.ensures.layout
