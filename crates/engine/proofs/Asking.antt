@@ -87,7 +87,7 @@ with_answer kept state outcome answered out e = record {
   reply = e.reply;
   after = e.after;
   may = e.may;
-  faithful = record { are = e.faithful; points = e.points };
+  faithful = record { are = e.faithful; points = e.stand };
   told = e.told;
   text = e.text;
 }

@@ -33,7 +33,7 @@ ends_with mapping index points state outcome answered out stand e = record {
   after = e.after;
   may = e.may;
   faithful = e.faithful;
-  points = subst (PointsStandFor mapping points) (sym e.points) stand;
+  stand = subst (PointsStandFor mapping points) (sym e.points) stand;
   told = e.told;
   text = e.text;
 }
@@ -46,7 +46,7 @@ done_with m index points state others given out f stand told_so text = record {
   after = with_points others (sealed_state state);
   may = inl (record { reply_is = refl; state_is = refl });
   faithful = record { mapped = f.mapped; next = f.next; stands = f.stands; laid = f.laid; numbered = f.numbered; stored = f.stored };
-  points = stand;
+  stand = stand;
   told = sym told_so;
   text = text;
 }

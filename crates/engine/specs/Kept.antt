@@ -54,13 +54,13 @@ abbrev pub IfKept : IndexState → Option Ordinals → Type 0
 IfKept index ordinals = IfSome ordinals (AreKeptFor index)
 
 -- what holds of every engine, and of the ordinals that it keeps, if there are any
-pub record IsEngine (kept : EngineState) (ordinals : Option Ordinals) : Type 0 where
+pub record IsEngine (kept : EngineState) (known : Option Ordinals) : Type 0 where
   pub limits : AreLimits kept.limits
   pub objects : kept.index.objects ≡ kept.limits.objects
   pub under : IsUnder kept.mapping kept.index
   pub points : ArePointsUnder kept.mapping kept.points
   pub opened : kept.points.opened ≤ kept.calls
-  pub ordinals : IfKept kept.index ordinals
+  pub ordinals : IfKept kept.index known
 
 -- what is kept is as it was, or the buffer is sealed
 pub record StaysOrSeals (kept kept' : EngineState) : Type 0 where

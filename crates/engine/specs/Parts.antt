@@ -53,7 +53,7 @@ pub record EndsWith (before : State) (outcome : Outcome) (answered : Answered) (
   pub after : State
   pub may : MayEnd before outcome reply after
   pub faithful : AreFaithful mapping index after
-  pub points : PointsStandFor mapping points after.points
+  pub stand : PointsStandFor mapping points after.points
   pub told : answered ≡ answered_by reply
   pub text : reply_bytes answered out ≡ reply_text reply
 
