@@ -1,5 +1,5 @@
 -- How merge commands end, by what a merge call answers.
-use Rattle.std.proofs.Common.{◌≡◌, ℕ, ◌+◌, ◌-◌, length, Option, Some, None, Ok, Err, refl, sym, ap, ◌∙◌}
+use Rattle.std.proofs.Common.{◌≡◌, ℕ, ◌+◌, ◌-◌, length, Option, Some, None, Ok, Err, IsErrOf, refl, sym, ap, ◌∙◌}
 use Rattle.flattener.specs.Block.{BlockState}
 use Rattle.index_core.specs.Kept.{IndexState, layout_kept}
 use Rattle.index_core.specs.Merge.{refusal_of}
@@ -21,11 +21,15 @@ Blocks = Layout BlockState
 
 -- ---- refusals
 
+-- a merge call is refused so
+abbrev Refuses : MergeRefusal → MergeRefusal → Type 0
+Refuses why other = IsErrOf {T = MergeDone} (Err why) other
+
 -- by what is wrong, a refusal leaves all as it was
 pub err_ends : (id : ℕ) (command : MergeCommand) (index index' : IndexState) (why : MergeRefusal) (fault : Option MergeFault)
-    → ((f : MergeFault) → why ≡ refusal_of f → fault ≡ Some f)
-    → ((f : MergeFault) → why ≡ refusal_of f → index' ≡ index)
-    → (why ≡ merge.NoMemory → StaysOrSeals index index')
+    → ((f : MergeFault) → Refuses why (refusal_of f) → fault ≡ Some f)
+    → ((f : MergeFault) → Refuses why (refusal_of f) → index' ≡ index)
+    → (Refuses why merge.NoMemory → StaysOrSeals index index')
     → ((f : MergeFault) → fault ≡ Some f → merged_by command (sealed (layout_kept index)) ≡ declined (merge_refusal id f))
     → IsMerged command (Err (not_done_by id why)) index index'
 err_ends id command index index' merge.BadRange fault is same kept says = (says bad_range (is bad_range refl), same bad_range refl)

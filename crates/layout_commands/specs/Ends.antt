@@ -51,12 +51,12 @@ pub record HasOpened (reply : Reply) (index index' : IndexState) (points points'
   pub room : is_full points ≡ false
   pub reply_is : reply ≡ PitOpened (points.opened + 1)
   pub layout : layout_kept index' ≡ sealed (layout_kept index)
-  pub points : points' ≡ with_point index'.entries points
+  pub points_are : points' ≡ with_point index'.entries points
 
 -- what becomes of points in time where there was no memory
 pub record IsLacking (index index' : IndexState) (points points' : KeptPoints) : Type 0 where
   pub layout : StaysOrSeals index index'
-  pub points : points' ≡ points
+  pub points_are : points' ≡ points
 
 abbrev pub IsOpened : Result Reply NotDone → IndexState → IndexState → KeptPoints → KeptPoints → Type 0
 IsOpened (Ok reply) index index' points points' = HasOpened reply index index' points points'
@@ -65,10 +65,10 @@ IsOpened (Err NoMemory) index index' points points' = IsLacking index index' poi
 
 -- a point in time was closed
 pub record HasClosed (id : ℕ) (reply : Reply) (index index' : IndexState) (points points' : KeptPoints) : Type 0 where
-  pub open : is_open id points.points ≡ true
+  pub was_open : is_open id points.points ≡ true
   pub reply_is : reply ≡ PitClosed id
   pub layout : layout_kept index' ≡ sealed (layout_kept index)
-  pub points : points' ≡ without_point id points
+  pub points_are : points' ≡ without_point id points
 
 abbrev pub IsClosed : ℕ → Result Reply NotDone → IndexState → IndexState → KeptPoints → KeptPoints → Type 0
 IsClosed id (Ok reply) index index' points points' = HasClosed id reply index index' points points'

@@ -1,4 +1,4 @@
-use Rattle.std.proofs.Common.{Err, subst, sym}
+use Rattle.std.proofs.Common.{Err, refl, subst, sym}
 use Rattle.index_core.specs.Kept.{layout_kept}
 use Rattle.layout.specs.Layout.{sealed}
 use Rattle.layout.specs.Merges.{step_fault}
@@ -9,7 +9,7 @@ use Rattle.layout_commands.proofs.Ending.{err_ends, aborts, abort_refused}
 use Rattle.layout_commands.proofs.merges.abort.Goals as goal
 
 pub returns-in-Ok-clause-merged : goal.returns-in-Ok-clause-merged
-returns-in-Ok-clause-merged c = aborts c.args.id c.args.index.now c.abort_merge.new.self (c.in-Ok.ensures.accepted tt) c.in-Ok.ensures.layout
+returns-in-Ok-clause-merged c = aborts c.args.id c.args.index.now c.abort_merge.new.self (c.in-Ok.ensures.accepted refl) c.in-Ok.ensures.layout
 
 pub returns-in-Err-clause-merged : goal.returns-in-Err-clause-merged
 returns-in-Err-clause-merged c =

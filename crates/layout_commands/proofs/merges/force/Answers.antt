@@ -1,4 +1,4 @@
-use Rattle.std.proofs.Common.{Err, subst, sym}
+use Rattle.std.proofs.Common.{Err, refl, subst, sym}
 use Rattle.index_core.specs.Kept.{layout_kept}
 use Rattle.layout.specs.Layout.{sealed}
 use Rattle.layout.specs.Merges.{force_fault}
@@ -9,7 +9,7 @@ use Rattle.layout_commands.proofs.Ending.{err_ends, forces, force_refused}
 use Rattle.layout_commands.proofs.merges.force.Goals as goal
 
 pub returns-in-Ok-clause-merged : goal.returns-in-Ok-clause-merged
-returns-in-Ok-clause-merged c = forces c.args.most c.args.index.now c.force_merge.new.self c.in-Ok.done (c.in-Ok.ensures.accepted tt) c.in-Ok.ensures.done c.in-Ok.ensures.layout
+returns-in-Ok-clause-merged c = forces c.args.most c.args.index.now c.force_merge.new.self c.in-Ok.done (c.in-Ok.ensures.accepted refl) c.in-Ok.ensures.done c.in-Ok.ensures.layout
 
 pub returns-in-Err-clause-merged : goal.returns-in-Err-clause-merged
 returns-in-Err-clause-merged c =
