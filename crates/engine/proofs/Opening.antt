@@ -56,7 +56,7 @@ done_with m index points state others given out f stand told_so text = record {
 pub lacking_with : (m : Mapping) (index index' : IndexState) (points points' : KeptPoints) (state : State) (outcome : Outcome) (out : List ℕ) → AreFaithful (Some m) index state → PointsStand m points state.points
     → index'.next ≡ index.next → IsLacking index index' points points' → EndsWith state outcome NoMemory out (Some m) index' points'
 lacking_with m index index' points points' state outcome out f stand next is =
-    ends_with (Some m) index' points' state outcome NoMemory out (subst (λ (own : KeptPoints). PointsStand m own state.points) (sym is.points) stand)
+    ends_with (Some m) index' points' state outcome NoMemory out (subst (λ (own : KeptPoints). PointsStand m own state.points) (sym is.points_are) stand)
     (lacking_room m index index' state outcome out f next is.layout)
 
 -- ---- refusals
@@ -88,7 +88,7 @@ open_ends m index index' points points' state given out f stand next is text =
     let said : given ≡ reply.PitOpened (state.points.opened + 1) = is.reply_is ∙ ap (λ n. reply.PitOpened (n + 1)) (sym stand.opened) in
     subst (λ answer. EndsWith state (outcome_of state answer) Written out (Some m) index' points') (sym (open_by m points state false stand is.room))
     (done_with m index' points' state (machine.with_point state.content.live state.points) (reply.PitOpened (state.points.opened + 1)) out sealed_so
-    (subst (λ (own : KeptPoints). PointsStand m own (machine.with_point state.content.live state.points)) (sym is.points) opened) refl (text ∙ ap reply_text said))
+    (subst (λ (own : KeptPoints). PointsStand m own (machine.with_point state.content.live state.points)) (sym is.points_are) opened) refl (text ∙ ap reply_text said))
 
 -- ---- closed
 
@@ -105,6 +105,6 @@ pub close_ends : (m : Mapping) (id : ℕ) (index index' : IndexState) (points po
     → index'.next ≡ index.next → HasClosed id given index index' points points' → out ≡ reply_text given
     → EndsWith state (outcome_of state (close_step id m (sealed_state state))) Written out (Some m) index' points'
 close_ends m id index index' points points' state given out f stand next is text =
-    subst (λ answer. EndsWith state (outcome_of state answer) Written out (Some m) index' points') (sym (close_by m id points state true stand is.open))
+    subst (λ answer. EndsWith state (outcome_of state answer) Written out (Some m) index' points') (sym (close_by m id points state true stand is.was_open))
     (done_with m index' points' state (machine.without_point id state.points) (reply.PitClosed id) out (sealed_faithful m index index' state f next is.layout)
-    (subst (λ (own : KeptPoints). PointsStand m own (machine.without_point id state.points)) (sym is.points) (point_closed m id points state.points stand)) refl (text ∙ ap reply_text is.reply_is))
+    (subst (λ (own : KeptPoints). PointsStand m own (machine.without_point id state.points)) (sym is.points_are) (point_closed m id points state.points stand)) refl (text ∙ ap reply_text is.reply_is))
