@@ -22,7 +22,7 @@ use Rattle.engine.specs.Reads.{reads_asked}
 use Rattle.engine.specs.declared.engine.Answered.{Answered}
 use Rattle.engine.specs.declared.engine.Answered.TheVariants.{NoMemory}
 use Rattle.engine.proofs.Leaving.{SegmentsFit}
-use Rattle.engine.proofs.Points.{zip_weaker}
+use Rattle.engine.proofs.Pointing.{zip_weaker}
 use Rattle.engine.proofs.Standing.{SameBlocks, grown_entries}
 
 -- ---- where there is no mapping, and where there is one
@@ -76,7 +76,7 @@ ends_answer kept state outcome answered out stand e = record {
   reply = e.reply;
   after = e.after;
   may = e.may;
-  faithful = record { are = e.faithful; points = subst (PointsStandFor kept.mapping kept.points) (sym e.points) stand };
+  faithful = (e.faithful, subst (PointsStandFor kept.mapping kept.points) (sym e.points) stand);
   told = e.told;
   text = e.text;
 }
@@ -87,7 +87,7 @@ with_answer kept state outcome answered out e = record {
   reply = e.reply;
   after = e.after;
   may = e.may;
-  faithful = record { are = e.faithful; points = e.stand };
+  faithful = (e.faithful, e.stand);
   told = e.told;
   text = e.text;
 }

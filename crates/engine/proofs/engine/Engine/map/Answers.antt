@@ -1,0 +1,4 @@
+use Rattle.engine.proofs.engine.Engine.map.Goals as goal
+
+pub returns-clause-answers : goal.returns-clause-answers
+returns-clause-answers c = ?
