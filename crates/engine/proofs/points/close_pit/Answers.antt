@@ -1,4 +1,7 @@
-use Rattle.std.proofs.Common.{◌≡◌, ◌++◌, ℕ, List, Ok, Some, ap, inr, subst, sym, ◌∙◌}
+use Rattle.std.proofs.Common.{◌≡◌, ◌++◌, ℕ, List, Ok, Err, Some, ap, inr, subst, sym, ◌∙◌}
+use Rattle.layout_commands.specs.Ends.{IsClosed, IsLacking}
+use Rattle.layout_commands.specs.declared.not_done.NotDone.{NotDone}
+use Rattle.layout_commands.specs.declared.not_done.NotDone.TheVariants.{Refused}
 use Rattle.machine.specs.Answer.{outcome_of}
 use Rattle.machine.specs.Points.{close_step}
 use Rattle.machine.specs.State.{sealed_state}
@@ -38,14 +41,18 @@ returns-in-Ok-clause-fit c =
 
 pub returns-in-Err-Refused-clause-answers : goal.returns-in-Err-Refused-clause-answers
 returns-in-Err-Refused-clause-answers c = λ state f stand.
-    let refused = c.in-Err-Refused.ensures.closed in
+    let refused : IsClosed c.args.id (Err (Refused c.in-Err-Refused.why)) c.args.index.now c.close_point.new.index c.args.points.now c.close_point.new.points =
+    subst (λ (it : NotDone). IsClosed c.args.id (Err it) c.args.index.now c.close_point.new.index c.args.points.now c.close_point.new.points) c.in-Err-Refused.field-0-is c.in-Err-Refused.ensures.closed in
     refusal_with c.args.mapping.now c.args.index.now c.close_point.new.index c.args.points.now c.close_point.new.points state (close_step c.args.id c.args.mapping.now (sealed_state state)) UnknownPit c.in-Err-Refused.why c.refuse.result
     c.refuse.new.out.bytes f stand refused.2.1 refused.2.2 refused.1 (close_refused c.args.mapping.now c.args.id c.args.points.now state stand refused.0) c.refuse.ensures.refused
 
 pub returns-in-Err-NoMemory-clause-answers : goal.returns-in-Err-NoMemory-clause-answers
 returns-in-Err-NoMemory-clause-answers c = λ state f stand.
-    lacking_with c.args.mapping.now c.args.index.now c.close_point.new.index c.args.points.now c.close_point.new.points state _ c.make_room.new.out.bytes f stand c.close_point.ensures.next c.in-Err-NoMemory.ensures.closed
+    lacking_with c.args.mapping.now c.args.index.now c.close_point.new.index c.args.points.now c.close_point.new.points state _ c.make_room.new.out.bytes f stand c.close_point.ensures.next
+    (subst (λ (it : NotDone). IsClosed c.args.id (Err it) c.args.index.now c.close_point.new.index c.args.points.now c.close_point.new.points) c.in-Err-NoMemory.field-0-is c.in-Err-NoMemory.ensures.closed)
 
 pub returns-in-Err-NoMemory-clause-leaves : goal.returns-in-Err-NoMemory-clause-leaves
 returns-in-Err-NoMemory-clause-leaves c =
-    leaves_sealed NoMemory c.args.mapping.now c.args.index.now c.close_point.new.index c.requires.index c.close_point.ensures.fits c.close_point.ensures.next c.close_point.ensures.objects c.in-Err-NoMemory.ensures.closed.layout
+    let lacking : IsLacking c.args.index.now c.close_point.new.index c.args.points.now c.close_point.new.points =
+    subst (λ (it : NotDone). IsClosed c.args.id (Err it) c.args.index.now c.close_point.new.index c.args.points.now c.close_point.new.points) c.in-Err-NoMemory.field-0-is c.in-Err-NoMemory.ensures.closed in
+    leaves_sealed NoMemory c.args.mapping.now c.args.index.now c.close_point.new.index c.requires.index c.close_point.ensures.fits c.close_point.ensures.next c.close_point.ensures.objects lacking.layout

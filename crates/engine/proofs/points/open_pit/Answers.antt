@@ -1,4 +1,7 @@
-use Rattle.std.proofs.Common.{◌≡◌, ◌++◌, ℕ, List, Ok, Some, ap, inr, subst, sym, ◌∙◌}
+use Rattle.std.proofs.Common.{◌≡◌, ◌++◌, ℕ, List, Ok, Err, Some, ap, inr, subst, sym, ◌∙◌}
+use Rattle.layout_commands.specs.Ends.{IsOpened, IsLacking}
+use Rattle.layout_commands.specs.declared.not_done.NotDone.{NotDone}
+use Rattle.layout_commands.specs.declared.not_done.NotDone.TheVariants.{Refused}
 use Rattle.machine.specs.Answer.{outcome_of}
 use Rattle.machine.specs.Points.{open_step}
 use Rattle.machine.specs.State.{sealed_state}
@@ -34,18 +37,22 @@ returns-in-Ok-clause-leaves c =
 pub returns-in-Ok-clause-fit : goal.returns-in-Ok-clause-fit
 returns-in-Ok-clause-fit c =
     subst (PointsFit c.args.mapping.now) (sym c.in-Ok.ensures.opened.points_are)
-    (fit_opened c.args.mapping.now c.open_point.new.index.entries c.args.points.now c.requires.fit (c.view-_fits.ensures.fits c.args.mapping.now c.open_point.ensures.fits))
+    (fit_opened c.args.mapping.now c.open_point.new.index.entries c.args.points.now c.requires.fit (c.view-fits.ensures.fits c.args.mapping.now c.open_point.ensures.fits))
 
 pub returns-in-Err-Refused-clause-answers : goal.returns-in-Err-Refused-clause-answers
 returns-in-Err-Refused-clause-answers c = λ state f stand.
-    let refused = c.in-Err-Refused.ensures.opened in
+    let refused : IsOpened (Err (Refused c.in-Err-Refused.why)) c.args.index.now c.open_point.new.index c.args.points.now c.open_point.new.points =
+    subst (λ (it : NotDone). IsOpened (Err it) c.args.index.now c.open_point.new.index c.args.points.now c.open_point.new.points) c.in-Err-Refused.field-0-is c.in-Err-Refused.ensures.opened in
     refusal_with c.args.mapping.now c.args.index.now c.open_point.new.index c.args.points.now c.open_point.new.points state (open_step c.args.mapping.now (sealed_state state)) TooManyPits c.in-Err-Refused.why c.refuse.result
     c.refuse.new.out.bytes f stand refused.2.1 refused.2.2 refused.1 (open_refused c.args.mapping.now c.args.points.now state stand refused.0) c.refuse.ensures.refused
 
 pub returns-in-Err-NoMemory-clause-answers : goal.returns-in-Err-NoMemory-clause-answers
 returns-in-Err-NoMemory-clause-answers c = λ state f stand.
-    lacking_with c.args.mapping.now c.args.index.now c.open_point.new.index c.args.points.now c.open_point.new.points state _ c.make_room.new.out.bytes f stand c.open_point.ensures.next c.in-Err-NoMemory.ensures.opened
+    lacking_with c.args.mapping.now c.args.index.now c.open_point.new.index c.args.points.now c.open_point.new.points state _ c.make_room.new.out.bytes f stand c.open_point.ensures.next
+    (subst (λ (it : NotDone). IsOpened (Err it) c.args.index.now c.open_point.new.index c.args.points.now c.open_point.new.points) c.in-Err-NoMemory.field-0-is c.in-Err-NoMemory.ensures.opened)
 
 pub returns-in-Err-NoMemory-clause-leaves : goal.returns-in-Err-NoMemory-clause-leaves
 returns-in-Err-NoMemory-clause-leaves c =
-    leaves_sealed NoMemory c.args.mapping.now c.args.index.now c.open_point.new.index c.requires.index c.open_point.ensures.fits c.open_point.ensures.next c.open_point.ensures.objects c.in-Err-NoMemory.ensures.opened.layout
+    let lacking : IsLacking c.args.index.now c.open_point.new.index c.args.points.now c.open_point.new.points =
+    subst (λ (it : NotDone). IsOpened (Err it) c.args.index.now c.open_point.new.index c.args.points.now c.open_point.new.points) c.in-Err-NoMemory.field-0-is c.in-Err-NoMemory.ensures.opened in
+    leaves_sealed NoMemory c.args.mapping.now c.args.index.now c.open_point.new.index c.requires.index c.open_point.ensures.fits c.open_point.ensures.next c.open_point.ensures.objects lacking.layout

@@ -1,4 +1,7 @@
-use Rattle.std.proofs.Common.{◌≡◌, ◌++◌, ℕ, List, Ok, Some, ap, subst, sym, ◌∙◌}
+use Rattle.std.proofs.Common.{◌≡◌, ◌++◌, ℕ, List, Ok, Err, Some, ap, subst, sym, ◌∙◌}
+use Rattle.layout_commands.specs.Ends.{IsMerged}
+use Rattle.layout_commands.specs.declared.not_done.NotDone.{NotDone}
+use Rattle.layout_commands.specs.declared.not_done.NotDone.TheVariants.{Refused}
 use Rattle.machine.specs.Answer.{outcome_of}
 use Rattle.machine.specs.Merging.{merge_step}
 use Rattle.machine.specs.State.{sealed_state}
@@ -25,13 +28,14 @@ returns-in-Ok-clause-leaves c =
 
 pub returns-in-Err-Refused-clause-answers : goal.returns-in-Err-Refused-clause-answers
 returns-in-Err-Refused-clause-answers c = λ state f.
-    merge_refused c.args.mapping.now c.args.command c.args.index.now c.merge.new.index state c.in-Err-Refused.why c.refuse.result c.refuse.new.out.bytes f c.in-Err-Refused.ensures.merged.0
-    c.in-Err-Refused.ensures.merged.1 c.refuse.ensures.refused
+    let merged : IsMerged c.args.command (Err (Refused c.in-Err-Refused.why)) c.args.index.now c.merge.new.index =
+    subst (λ (it : NotDone). IsMerged c.args.command (Err it) c.args.index.now c.merge.new.index) c.in-Err-Refused.field-0-is c.in-Err-Refused.ensures.merged in
+    merge_refused c.args.mapping.now c.args.command c.args.index.now c.merge.new.index state c.in-Err-Refused.why c.refuse.result c.refuse.new.out.bytes f merged.0 merged.1 c.refuse.ensures.refused
 
 pub returns-in-Err-NoMemory-clause-answers : goal.returns-in-Err-NoMemory-clause-answers
 returns-in-Err-NoMemory-clause-answers c = λ state f.
-    lacking_room c.args.mapping.now c.args.index.now c.merge.new.index state _ c.make_room.new.out.bytes f c.merge.ensures.next c.in-Err-NoMemory.ensures.merged
+    lacking_room c.args.mapping.now c.args.index.now c.merge.new.index state _ c.make_room.new.out.bytes f c.merge.ensures.next (subst (λ (it : NotDone). IsMerged c.args.command (Err it) c.args.index.now c.merge.new.index) c.in-Err-NoMemory.field-0-is c.in-Err-NoMemory.ensures.merged)
 
 pub returns-in-Err-NoMemory-clause-leaves : goal.returns-in-Err-NoMemory-clause-leaves
 returns-in-Err-NoMemory-clause-leaves c =
-    leaves_sealed NoMemory c.args.mapping.now c.args.index.now c.merge.new.index c.requires.index c.merge.ensures.fits c.merge.ensures.next c.merge.ensures.objects c.in-Err-NoMemory.ensures.merged
+    leaves_sealed NoMemory c.args.mapping.now c.args.index.now c.merge.new.index c.requires.index c.merge.ensures.fits c.merge.ensures.next c.merge.ensures.objects (subst (λ (it : NotDone). IsMerged c.args.command (Err it) c.args.index.now c.merge.new.index) c.in-Err-NoMemory.field-0-is c.in-Err-NoMemory.ensures.merged)
