@@ -44,7 +44,7 @@ returns-in-Err-Refused-clause-answers c = λ state f stand.
     let refused : IsClosed c.args.id (Err (Refused c.in-Err-Refused.why)) c.args.index.now c.close_point.new.index c.args.points.now c.close_point.new.points =
     subst (λ (it : NotDone). IsClosed c.args.id (Err it) c.args.index.now c.close_point.new.index c.args.points.now c.close_point.new.points) c.in-Err-Refused.field-0-is c.in-Err-Refused.ensures.closed in
     refusal_with c.args.mapping.now c.args.index.now c.close_point.new.index c.args.points.now c.close_point.new.points state (close_step c.args.id c.args.mapping.now (sealed_state state)) UnknownPit c.in-Err-Refused.why c.refuse.result
-    c.refuse.new.out.bytes f stand refused.2.1 refused.2.2 refused.1 (close_refused c.args.mapping.now c.args.id c.args.points.now state stand refused.0) c.refuse.ensures.refused
+    c.refuse.new.out.bytes f stand refused.2 refused.3 refused.1 (close_refused c.args.mapping.now c.args.id c.args.points.now state stand refused.0) c.refuse.ensures.refused
 
 pub returns-in-Err-NoMemory-clause-answers : goal.returns-in-Err-NoMemory-clause-answers
 returns-in-Err-NoMemory-clause-answers c = λ state f stand.

@@ -44,7 +44,7 @@ returns-in-Err-Refused-clause-answers c = λ state f stand.
     let refused : IsOpened (Err (Refused c.in-Err-Refused.why)) c.args.index.now c.open_point.new.index c.args.points.now c.open_point.new.points =
     subst (λ (it : NotDone). IsOpened (Err it) c.args.index.now c.open_point.new.index c.args.points.now c.open_point.new.points) c.in-Err-Refused.field-0-is c.in-Err-Refused.ensures.opened in
     refusal_with c.args.mapping.now c.args.index.now c.open_point.new.index c.args.points.now c.open_point.new.points state (open_step c.args.mapping.now (sealed_state state)) TooManyPits c.in-Err-Refused.why c.refuse.result
-    c.refuse.new.out.bytes f stand refused.2.1 refused.2.2 refused.1 (open_refused c.args.mapping.now c.args.points.now state stand refused.0) c.refuse.ensures.refused
+    c.refuse.new.out.bytes f stand refused.2 refused.3 refused.1 (open_refused c.args.mapping.now c.args.points.now state stand refused.0) c.refuse.ensures.refused
 
 pub returns-in-Err-NoMemory-clause-answers : goal.returns-in-Err-NoMemory-clause-answers
 returns-in-Err-NoMemory-clause-answers c = λ state f stand.

@@ -1,4 +1,4 @@
-use Rattle.std.proofs.Common.{refl, subst, sym}
+use Rattle.std.proofs.Common.{ap, refl, subst, sym, ◌∙◌}
 use Rattle.machine.specs.Write.{write_step}
 use Rattle.request_form.specs.Seen.{write_view}
 use Rattle.engine.specs.Faithful.{IsFaithful}
@@ -10,6 +10,6 @@ use Rattle.engine.proofs.engine.Engine.write.Goals as goal
 pub returns-in-Some-clause-answers : goal.returns-in-Some-clause-answers
 returns-in-Some-clause-answers g c = λ state f.
     let own = subst (λ (it : EngineState). IsFaithful it state) (sym c.self.view_is) f in
-    write_answer c.further_bodies_leave_blocks.ensures.same _ c.self.inside.mapping c.self.inside.index state c.in-Some.mapping c.write_tree.new.mapping (λ m. write_step c.self.inside.limits m (write_view c.args.it) state)
+    write_answer c.further_bodies_leave_blocks.ensures.same _ c.self.inside.mapping c.self.inside.index state c.in-Some.mapping c.write_tree.new.mapping (λ m. write_step c.args.self.now.limits m (write_view c.args.it) state)
     (answered_of c.write_tree.result) c.write_tree.new.out.bytes c.in-Some.is refl c.write_tree.ensures.grows own.0 own.1
-    (λ own_f. c.write_tree.ensures.answers c.self.inside.limits state c.self.invariant.objects own_f)
+    (c.write_tree.ensures.answers c.args.self.now.limits state (c.self.invariant.objects ∙ ap (λ (it : EngineState). it.limits.objects) c.self.view_is))
