@@ -1,5 +1,5 @@
 -- What is asked for: commands where there is no mapping, what becomes of the points in time, and the answer to a request.
-use Rattle.std.proofs.Common.{◌≡◌, ◌≤◌, ◌+◌, ℕ, List, Option, Some, None, refl, sym, ap, subst, inl, inr, ◌∙◌}
+use Rattle.std.proofs.Common.{◌≡◌, ◌≤◌, ◌+◌, ℕ, List, Option, Some, None, Result, refl, sym, ap, subst, inl, inr, ◌∙◌}
 use Rattle.std.proofs.lemmas.List.Elements.{All-nil, All-weaker}
 use Rattle.std.specs.List.{All}
 use Rattle.flattener.specs.Fits.{EntryFits, ViewFits}
@@ -11,18 +11,22 @@ use Rattle.machine.specs.State as machine
 use Rattle.machine.specs.Step.{asked_step, step}
 use Rattle.mapping.specs.Mapping.{Mapping}
 use Rattle.point_in_time.specs.Points.{KeptPoint, KeptPoints, no_points}
+use Rattle.reply_text.specs.declared.refusal.Refusal.{Refusal}
 use Rattle.reply_text.specs.declared.refusal.Refusal.TheVariants.{NoMapping}
 use Rattle.request_form.specs.Asked.{asked_of}
 use Rattle.segment.specs.Live.{EntryState}
 use Rattle.engine.specs.Answers.{Answers, AnswersTo}
-use Rattle.engine.specs.Faithful.{IsFaithful, PointStandsFor, PointsStand, PointsStandFor}
+use Rattle.engine.specs.Faithful.{AreFaithful, IsFaithful, PointStandsFor, PointsStand, PointsStandFor}
 use Rattle.engine.specs.Kept.{ArePointsUnder, EngineState, PointsFit}
-use Rattle.engine.specs.Parts.{Ends, EndsWith, Grows, GrowsFrom, HasGrown}
+use Rattle.engine.specs.Parts.{Ends, EndsWith, Grows, GrowsFrom, HasGrown, IsRefusal, answered_of}
 use Rattle.engine.specs.Reads.{reads_asked}
 use Rattle.engine.specs.declared.engine.Answered.{Answered}
 use Rattle.engine.specs.declared.engine.Answered.TheVariants.{NoMemory}
+use Rattle.engine.specs.declared.no_memory.NoMemory as memory
+use Rattle.engine.specs.declared.reply.Ended.{Ended}
+use Rattle.engine.proofs.Answering.{lacking, refusal_ends}
 use Rattle.engine.proofs.Leaving.{SegmentsFit}
-use Rattle.engine.proofs.Points.{zip_weaker}
+use Rattle.engine.proofs.Pointing.{zip_weaker}
 use Rattle.engine.proofs.Standing.{SameBlocks, grown_entries}
 
 -- ---- where there is no mapping, and where there is one
@@ -67,16 +71,16 @@ fit_under segments (Some m) (Some m') (inl e) points fit = subst (λ (it : Mappi
 fit_under segments (Some m) (Some m') (inr g) points fit =
     All-weaker (λ (point : KeptPoint). ViewFits m point.entries) (λ (point : KeptPoint). ViewFits m' point.entries) (λ point. view_grown segments m m' g point.entries) points.points fit
 
--- ---- the answer to a request
+-- ---- by how a command ends
 
--- where a command leaves the points in time as they are
+-- where it leaves the points in time as they are
 pub ends_answer : (kept : EngineState) (state : State) (outcome : Outcome) (answered : Answered) (out : List ℕ) → PointsStandFor kept.mapping kept.points state.points → Ends state outcome answered out kept.mapping kept.index
     → Answers state outcome answered out kept
 ends_answer kept state outcome answered out stand e = record {
   reply = e.reply;
   after = e.after;
   may = e.may;
-  faithful = record { are = e.faithful; points = subst (PointsStandFor kept.mapping kept.points) (sym e.points) stand };
+  faithful = (e.faithful, subst (PointsStandFor kept.mapping kept.points) (sym e.points) stand);
   told = e.told;
   text = e.text;
 }
@@ -87,16 +91,66 @@ with_answer kept state outcome answered out e = record {
   reply = e.reply;
   after = e.after;
   may = e.may;
-  faithful = record { are = e.faithful; points = e.stand };
+  faithful = (e.faithful, e.stand);
   told = e.told;
   text = e.text;
 }
 
--- a command under the mapping of the state
-pub mapped_answer : (kept : EngineState) (state : State) (m : Mapping) (command : Mapping → Answer) (answered : Answered) (out : List ℕ) → state.content.mapping ≡ Some m
-    → Answers state (outcome_of state (command m)) answered out kept → Answers state (outcome_of state (with_mapping state.content.mapping command)) answered out kept
-mapped_answer kept state m command answered out is a =
+-- where it makes the mapping grow, if it does
+pub grown_answer : SameBlocks → (kept : EngineState) (before : Option Mapping) (state : State) (outcome : Outcome) (answered : Answered) (out : List ℕ) → GrowsFrom before kept.mapping
+    → PointsStandFor before kept.points state.points → Ends state outcome answered out kept.mapping kept.index → Answers state outcome answered out kept
+grown_answer same kept before state outcome answered out grows stand e =
+    ends_answer kept state outcome answered out (points_under same before kept.mapping grows kept.points state.points stand) e
+
+pub refusal_answer : (kept : EngineState) (state : State) (answer : Answer) (why : Refusal) (result : Result Ended memory.NoMemory) (out : List ℕ) → IsFaithful kept state → answer ≡ refuses why
+    → IsRefusal why result out → Answers state (outcome_of state answer) (answered_of result) out kept
+refusal_answer kept state answer why result out f e said =
+    ends_answer kept state (outcome_of state answer) (answered_of result) out f.1 (refusal_ends kept.mapping kept.index state answer why result out f.0 e said)
+
+pub lacking_answer : (kept : EngineState) (state : State) (outcome : Outcome) (out : List ℕ) → IsFaithful kept state → Answers state outcome NoMemory out kept
+lacking_answer kept state outcome out f = ends_answer kept state outcome NoMemory out f.1 (lacking kept.mapping kept.index state outcome out f.0)
+
+-- ---- a command that wants a mapping, where there is one
+
+abbrev Maps : EngineState → State → (Mapping → Answer) → Answered → List ℕ → Type 0
+Maps kept state command answered out = Answers state (outcome_of state (with_mapping state.content.mapping command)) answered out kept
+
+by_mapping : (kept : EngineState) (state : State) (m : Mapping) (command : Mapping → Answer) (answered : Answered) (out : List ℕ) → state.content.mapping ≡ Some m
+    → Answers state (outcome_of state (command m)) answered out kept → Maps kept state command answered out
+by_mapping kept state m command answered out is a =
     subst (λ (mapping : Option Mapping). Answers state (outcome_of state (with_mapping mapping command)) answered out kept) (sym is) a
+
+pub under_answer : (kept : EngineState) (index : IndexState) (state : State) (m : Mapping) (command : Mapping → Answer) (answered : Answered) (out : List ℕ) → kept.mapping ≡ Some m
+    → AreFaithful kept.mapping index state → PointsStandFor kept.mapping kept.points state.points
+    → (AreFaithful (Some m) index state → Ends state (outcome_of state (command m)) answered out (Some m) kept.index) → Maps kept state command answered out
+under_answer kept index state m command answered out is f stand ends =
+    by_mapping kept state m command answered out (f.mapped ∙ is)
+    (ends_answer kept state (outcome_of state (command m)) answered out stand
+    (subst (λ (mapping : Option Mapping). Ends state (outcome_of state (command m)) answered out mapping kept.index) (sym is)
+    (ends (subst (λ (mapping : Option Mapping). AreFaithful mapping index state) is f))))
+
+-- and where the points in time may change
+pub under_answer_with : (kept : EngineState) (index : IndexState) (points : KeptPoints) (state : State) (m : Mapping) (command : Mapping → Answer) (answered : Answered) (out : List ℕ) → kept.mapping ≡ Some m
+    → AreFaithful kept.mapping index state → PointsStandFor kept.mapping points state.points
+    → (AreFaithful (Some m) index state → PointsStand m points state.points → EndsWith state (outcome_of state (command m)) answered out (Some m) kept.index kept.points) → Maps kept state command answered out
+under_answer_with kept index points state m command answered out is f stand ends =
+    by_mapping kept state m command answered out (f.mapped ∙ is)
+    (with_answer kept state (outcome_of state (command m)) answered out
+    (subst (λ (mapping : Option Mapping). EndsWith state (outcome_of state (command m)) answered out mapping kept.index kept.points) (sym is)
+    (ends (subst (λ (mapping : Option Mapping). AreFaithful mapping index state) is f) (subst (λ (mapping : Option Mapping). PointsStandFor mapping points state.points) is stand))))
+
+-- a write, which may make the mapping grow
+pub write_answer : SameBlocks → (kept : EngineState) (before : Option Mapping) (index : IndexState) (state : State) (m m' : Mapping) (command : Mapping → Answer) (answered : Answered) (out : List ℕ) → before ≡ Some m
+    → kept.mapping ≡ Some m' → Grows m m' → AreFaithful before index state → PointsStandFor before kept.points state.points
+    → (AreFaithful (Some m) index state → Ends state (outcome_of state (command m)) answered out (Some m') kept.index) → Maps kept state command answered out
+write_answer same kept before index state m m' command answered out is after grows f stand ends =
+    by_mapping kept state m command answered out (f.mapped ∙ is)
+    (grown_answer same kept (Some m) state (outcome_of state (command m)) answered out (subst (GrowsFrom (Some m)) (sym after) grows)
+    (subst (λ (mapping : Option Mapping). PointsStandFor mapping kept.points state.points) is stand)
+    (subst (λ (mapping : Option Mapping). Ends state (outcome_of state (command m)) answered out mapping kept.index) (sym after)
+    (ends (subst (λ (mapping : Option Mapping). AreFaithful mapping index state) is f))))
+
+-- ---- the answer to a request
 
 pub answers_to : (own before after : EngineState) (state : State) (request : Request) (answered : Answered) (out : List ℕ) (reads reads' : ℕ) → own ≡ before → IsFaithful before state
     → (IsFaithful own state → Answers state (outcome_of state (asked_step own.limits (asked_of request.first request.source) state)) answered out after)

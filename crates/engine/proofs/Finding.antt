@@ -34,7 +34,7 @@ use Rattle.tree_json.specs.Value.{JsonValue}
 use Rattle.search_page.specs.Searched.{AreSearched, page_reads}
 use Rattle.tree_objects.specs.Tree.{IsLiveList, Tree}
 use Rattle.engine.specs.Answers.{answered_by, reply_bytes}
-use Rattle.engine.specs.Faithful.{AreFaithful, Indexed, StandsFor, block_in, tree_in}
+use Rattle.engine.specs.Faithful.{AreFaithful, EntriesStandFor, Indexed, StandsFor, block_in, tree_in}
 use Rattle.engine.specs.Parts.{Ends, IsRefusedAs, answered_of}
 use Rattle.engine.specs.Reads.{page_reads_of}
 use Rattle.engine.specs.declared.no_memory.NoMemory as memory
@@ -154,7 +154,7 @@ body_passes limits body m state first = ap (λ o. refused_if (body_refusal o) (s
 
 -- ---- a search of an index that was sealed
 
-its_bytes : (ends : Ended) (out : List ℕ) → reply_bytes (answered_of (Ok ends)) out ≡ out
+pub its_bytes : (ends : Ended) (out : List ℕ) → reply_bytes (answered_of (Ok ends)) out ≡ out
 its_bytes Accepted out = refl
 its_bytes ended.Refused out = refl
 

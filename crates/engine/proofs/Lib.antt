@@ -12,7 +12,7 @@ pub mod Leaving
 pub mod Ending
 pub mod Pages
 pub mod Keeping
-pub mod Points
+pub mod Pointing
 pub mod Opening
 pub mod Merging
 pub mod Asking

@@ -1,5 +1,5 @@
 -- Commands on the layout: merges, merges by a factor and rows. What the machine does to trees, the index does to their blocks.
-use Rattle.std.proofs.Common.{◌≡◌, ◌≤◌, ◌==◌, ℕ, Bool, false, cond, List, length, map, Option, Some, None, unwrap_or, IfSome, refl, sym, ap, subst, inr, ◌∙◌, arith}
+use Rattle.std.proofs.Common.{◌≡◌, ◌≤◌, ◌==◌, ℕ, Bool, false, cond, List, length, map, Option, Some, None, unwrap_or, IfOk, IfSome, OnOk, Result, Ok, Err, refl, sym, ap, subst, inr, ◌∙◌, arith}
 use Rattle.std.proofs.lemmas.Bool.Decides.{nat_tests}
 use Rattle.std.proofs.lemmas.List.Elements.{All-same}
 use Rattle.std.specs.List.{All}
@@ -29,9 +29,12 @@ use Rattle.tree_objects.specs.Tree.{Tree}
 use Rattle.engine.specs.Answers.{answered_by}
 use Rattle.engine.specs.Faithful.{AreFaithful, Indexed, StandsFor, block_in, tree_in}
 use Rattle.engine.specs.Kept.{HasValue, IsIndexOf}
-use Rattle.engine.specs.Parts.{Ends, Leaves}
+use Rattle.engine.specs.Parts.{Ends, IsRefusal, Leaves, answered_of}
 use Rattle.engine.specs.declared.engine.Answered.TheVariants.{Written}
-use Rattle.engine.proofs.Answering.{accepted, sealed_faithful}
+use Rattle.engine.specs.declared.no_memory.NoMemory as memory
+use Rattle.engine.specs.declared.reply.Ended.{Ended}
+use Rattle.engine.proofs.Answering.{accepted, lacking_sealed, refusal_ends, sealed_faithful, told}
+use Rattle.engine.proofs.Finding.{its_bytes}
 use Rattle.engine.proofs.Standing.{number_same, objects_in as objects_same, same_kept, sealed_stands}
 
 -- ---- a reply to what was done is no refusal
@@ -126,6 +129,13 @@ merge_leaves m command index index' given index_of fits objects is = record {
   stays = tt;
 }
 
+pub merge_refused : (m : Mapping) (command : MergeCommand) (index index' : IndexState) (state : State) (why : Refusal) (result : Result Ended memory.NoMemory) (out : List ℕ) → AreFaithful (Some m) index state
+    → merged_by command (sealed (layout_kept index)) ≡ declined why → index' ≡ index → IsRefusal why result out
+    → Ends state (outcome_of state (merge_step command m (sealed_state state))) (answered_of result) out (Some m) index'
+merge_refused m command index index' state why result out f is same said =
+    subst (λ (own : IndexState). Ends state (outcome_of state (merge_step command m (sealed_state state))) (answered_of result) out (Some m) own) (sym same)
+    (refusal_ends (Some m) index state (merge_step command m (sealed_state state)) why result out f (merge_declined m command index state why f is) said)
+
 -- ---- merges by a factor
 
 factor_same : (factor : Option ℕ) → IfSome factor IsFactor → factor_of (unwrap_or factor 0) ≡ factor
@@ -181,3 +191,15 @@ rows_same m kept layout s =
     ap (layout_rows block_objects block_number) s.blocks
     ∙ ap (λ (rows : List SegmentSummary). reply.Layout (map merge_row s.indexed.merges) (map segment_row rows)) (summaries_same m s.indexed)
     ∙ sym (ap (layout_reply m) s.trees)
+
+pub rows_end : (limits : Limits) (m : Mapping) (index index' : IndexState) (state : State) (given : Reply) (result : Result Ended memory.NoMemory) (out : List ℕ) → AreFaithful (Some m) index state → index'.next ≡ index.next
+    → layout_kept index' ≡ sealed (layout_kept index) → given ≡ layout_rows block_objects block_number (layout_kept index') → IfOk result (λ ends. answered_of (Ok ends) ≡ answered_by (within limits given))
+    → OnOk result (out ≡ reply_text (within limits given)) → Ends state (outcome_of state (segments_step limits m (sealed_state state))) (answered_of result) out (Some m) index'
+unfolding segments_step
+rows_end limits m index index' state given (Ok ends) out f next seals rows told_so text =
+    let faithful = sealed_faithful m index index' state f next seals in
+    let is : given ≡ layout_reply m (sealed state.layout) = rows ∙ rows_same m (layout_kept index') (sealed state.layout) faithful.stands in
+    told (Some m) index' state (sealed_state state) (answered_of (Ok ends)) (within limits (layout_reply m (sealed state.layout))) out faithful refl (its_bytes ends out)
+    (told_so ∙ ap (λ (it : Reply). answered_by (within limits it)) is) (text ∙ ap (λ (it : Reply). reply_text (within limits it)) is)
+rows_end limits m index index' state given (Err none) out f next seals rows told_so text =
+    lacking_sealed m index' state _ out (sealed_faithful m index index' state f next seals)

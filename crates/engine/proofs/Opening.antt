@@ -22,7 +22,7 @@ use Rattle.engine.specs.declared.no_memory.NoMemory as memory
 use Rattle.engine.specs.declared.reply.Ended.{Ended}
 use Rattle.engine.proofs.Answering.{lacking_room, refusal_ends, sealed_faithful}
 use Rattle.engine.proofs.Finding.{index_stands}
-use Rattle.engine.proofs.Points.{full_same, open_same, point_closed, point_opened}
+use Rattle.engine.proofs.Pointing.{full_same, open_same, point_closed, point_opened}
 use Rattle.engine.proofs.Sealing.{buffer_sealed}
 
 -- where the points in time stay as they are
@@ -92,10 +92,10 @@ open_ends m index index' points points' state given out f stand next is text =
 
 -- ---- closed
 
-close_by : (m : Mapping) (id : ℕ) (points : KeptPoints) (state : State) (open : Bool) → PointsStand m points state.points → is_open id points.points ≡ open
-    → close_step id m (sealed_state state) ≡ unless (when (not open) UnknownPit ∷ []) (close_done id (sealed_state state))
+close_by : (m : Mapping) (id : ℕ) (points : KeptPoints) (state : State) (was : Bool) → PointsStand m points state.points → is_open id points.points ≡ was
+    → close_step id m (sealed_state state) ≡ unless (when (not was) UnknownPit ∷ []) (close_done id (sealed_state state))
 unfolding close_step
-close_by m id points state open stand is =
+close_by m id points state was stand is =
     ap (λ b. unless (when (not b) UnknownPit ∷ []) (close_done id (sealed_state state))) (open_same m id points.points state.points.points stand.each ∙ is)
 
 pub close_refused : (m : Mapping) (id : ℕ) (points : KeptPoints) (state : State) → PointsStand m points state.points → is_open id points.points ≡ false → close_step id m (sealed_state state) ≡ refuses UnknownPit

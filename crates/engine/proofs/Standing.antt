@@ -128,7 +128,7 @@ found_in m id kept layout s =
       block = ap (find (has_block_id id)) (live_blocks m kept layout s) ∙ found.block;
     }
 
-number_same : (m : Mapping) (tree : Tree) → block_number (block_of m tree) ≡ tree.number
+pub number_same : (m : Mapping) (tree : Tree) → block_number (block_of m tree) ≡ tree.number
 unfolding root_of_tree
 number_same m tree = refl
 
@@ -143,7 +143,7 @@ number_found m id trees blocks found =
 
 -- ---- how many objects there are
 
-objects_in : (m : Mapping) (tree : Tree) → length (block_of m tree).flats ≡ length (block_objects m tree)
+pub objects_in : (m : Mapping) (tree : Tree) → length (block_of m tree).flats ≡ length (block_objects m tree)
 unfolding flats_of_tree
 objects_in m tree = length-map (block_objects m tree) (flat_of m)
 

@@ -30,7 +30,7 @@ use Rattle.engine.specs.Faithful.{AreFaithful, Indexed, block_in, tree_in}
 use Rattle.engine.specs.Parts.{Ends, IsMade, delete_step, update_step}
 use Rattle.engine.specs.declared.engine.Answered.TheVariants as answered
 use Rattle.engine.proofs.Answering.{accepted, refused}
-use Rattle.engine.proofs.Standing.{changed_stands}
+use Rattle.engine.proofs.Standing.{changed_stands, number_same}
 use Rattle.engine.proofs.Writing.{found_live, full_by, objects_after}
 
 -- ---- whether a tree is live
@@ -56,10 +56,6 @@ pub record IsLive (m : Mapping) (id : List ℕ) (index : IndexState) (state : St
   pub tree : live_tree id state.content.live ≡ Some it.tree
   pub block : live_block id index ≡ Some (block_of m it.tree)
   pub same : it.tree.number ≡ number
-
-number_same : (m : Mapping) (tree : Tree) → block_number (block_of m tree) ≡ tree.number
-unfolding root_of_tree
-number_same m tree = refl
 
 number_in : (m : Mapping) (it : Option (Indexed m)) (number : ℕ) → Some number ≡ option_map block_number (option_map (block_in m) it) → (own : Indexed m) × (it ≡ Some own) × (own.tree.number ≡ number)
 number_in m None number e = absurd (cc)

@@ -76,6 +76,5 @@ PointsStandFor (Some m) kept points = PointsStand m kept points
 -- ---- the whole
 
 -- what an engine keeps is faithful to a state
-pub record IsFaithful (kept : EngineState) (state : State) : Type 0 where
-  pub are : AreFaithful kept.mapping kept.index state
-  pub points : PointsStandFor kept.mapping kept.points state.points
+abbrev pub IsFaithful : EngineState → State → Type 0
+IsFaithful kept state = AreFaithful kept.mapping kept.index state × PointsStandFor kept.mapping kept.points state.points

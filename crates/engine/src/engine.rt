@@ -165,7 +165,7 @@ impl Engine {
     }
 
     /// Writes the reply to a request. Where there is no memory, a part of one may stand in `out`.
-    #[tactic(auto, using(crate::proofs::Answering::refusal_ends, crate::proofs::Answering::lacking))]
+    #[tactic(auto, using(crate::proofs::Asking::refusal_answer, crate::proofs::Asking::lacking_answer))]
     fn reply<L: Ledger>(
         &mut self,
         first: FirstLine<'_>,
@@ -194,7 +194,7 @@ impl Engine {
     }
 
     /// Does what is asked for, and writes the reply.
-    #[tactic(auto, using(crate::proofs::Answering::refusal_ends))]
+    #[tactic(auto, using(crate::proofs::Asking::refusal_answer))]
     fn perform<L: Ledger>(
         &mut self,
         action: Action,
@@ -254,7 +254,7 @@ impl Engine {
         )
     }
 
-    #[tactic(auto, using(crate::proofs::Answering::refusal_ends, crate::proofs::Asking::unmapped))]
+    #[tactic(auto, using(crate::proofs::Asking::refusal_answer, crate::proofs::Asking::unmapped))]
     fn write<L: Ledger>(
         &mut self,
         it: Write,
@@ -279,7 +279,7 @@ impl Engine {
         }
     }
 
-    #[tactic(auto, using(crate::proofs::Answering::refusal_ends, crate::proofs::Asking::unmapped_sealed))]
+    #[tactic(auto, using(crate::proofs::Asking::refusal_answer, crate::proofs::Asking::unmapped_sealed))]
     fn search<L: Ledger>(
         &mut self,
         body: &Json,
@@ -312,7 +312,7 @@ impl Engine {
         }
     }
 
-    #[tactic(auto, using(crate::proofs::Answering::refusal_ends, crate::proofs::Asking::unmapped_sealed))]
+    #[tactic(auto, using(crate::proofs::Asking::refusal_answer, crate::proofs::Asking::unmapped_sealed))]
     fn refresh(&mut self, out: &mut OutText) -> Result<Ended, NoMemory>
         requires { out.old.bytes ≡ [] }
         ensures answers { (state : State) → IsFaithful self.old state
@@ -329,7 +329,7 @@ impl Engine {
         }
     }
 
-    #[tactic(auto, using(crate::proofs::Answering::refusal_ends, crate::proofs::Asking::unmapped_sealed))]
+    #[tactic(auto, using(crate::proofs::Asking::refusal_answer, crate::proofs::Asking::unmapped_sealed))]
     fn segments(&mut self, out: &mut OutText) -> Result<Ended, NoMemory>
         requires { out.old.bytes ≡ [] }
         ensures answers { (state : State) → IsFaithful self.old state
@@ -348,7 +348,7 @@ impl Engine {
         }
     }
 
-    #[tactic(auto, using(crate::proofs::Answering::refusal_ends, crate::proofs::Asking::unmapped_sealed))]
+    #[tactic(auto, using(crate::proofs::Asking::refusal_answer, crate::proofs::Asking::unmapped_sealed))]
     fn open_pit(&mut self, out: &mut OutText) -> Result<Ended, NoMemory>
         requires counted { IsCounted self.old }
         requires empty { out.old.bytes ≡ [] }
@@ -366,7 +366,7 @@ impl Engine {
         }
     }
 
-    #[tactic(auto, using(crate::proofs::Answering::refusal_ends, crate::proofs::Asking::unmapped_sealed))]
+    #[tactic(auto, using(crate::proofs::Asking::refusal_answer, crate::proofs::Asking::unmapped_sealed))]
     fn close_pit(&mut self, id: u64, out: &mut OutText) -> Result<Ended, NoMemory>
         requires { out.old.bytes ≡ [] }
         ensures answers { (state : State) → IsFaithful self.old state
@@ -383,7 +383,7 @@ impl Engine {
         }
     }
 
-    #[tactic(auto, using(crate::proofs::Answering::refusal_ends, crate::proofs::Asking::unmapped_sealed))]
+    #[tactic(auto, using(crate::proofs::Asking::refusal_answer, crate::proofs::Asking::unmapped_sealed))]
     fn merge(&mut self, command: MergeCommand, out: &mut OutText) -> Result<Ended, NoMemory>
         requires formed { IsMergeFormed command }
         requires empty { out.old.bytes ≡ [] }
@@ -401,7 +401,7 @@ impl Engine {
         }
     }
 
-    #[tactic(auto, using(crate::proofs::Answering::refusal_ends, crate::proofs::Asking::unmapped))]
+    #[tactic(auto, using(crate::proofs::Asking::refusal_answer, crate::proofs::Asking::unmapped))]
     fn automerge(&mut self, factor: Option<u64>, out: &mut OutText) -> Result<Ended, NoMemory>
         requires factor { IfSome factor IsFactor }
         requires empty { out.old.bytes ≡ [] }

@@ -126,10 +126,10 @@ served_start limits left taken input engine given new = record {
   turns = [];
   given = given;
   chain = tt;
-  stands = subst (λ (kept : EngineState). IsFaithful kept empty_state) (sym new) (record {
-    are = record { mapped = refl; next = refl; stands = refl; laid = refl; numbered = record { live = tt; below = tt }; stored = refl };
-    points = (refl, refl);
-  });
+  stands = subst (λ (kept : EngineState). IsFaithful kept empty_state) (sym new) (
+    record { mapped = refl; next = refl; stands = refl; laid = refl; numbered = record { live = tt; below = tt }; stored = refl },
+    (refl, refl),
+  );
   written = appends_none taken;
   within = ap (λ (it : EngineState). it.limits) new;
 }

@@ -1,5 +1,5 @@
 -- Points in time: those that are kept stand for those of the machine, one for another.
-use Rattle.std.proofs.Common.{◌≡◌, ◌+◌, ◌==◌, ℕ, Bool, true, false, not, cond, ◌||◌, nat_le, List, [], ◌∷◌, ◌++◌, length, filter, Option, Some, None, is_some, refl, sym, ap, subst, ◌∙◌}
+use Rattle.std.proofs.Common.{◌≡◌, ◌+◌, ◌==◌, ℕ, suc, Bool, true, false, not, cond, ◌||◌, nat_le, List, [], ◌∷◌, ◌++◌, length, filter, Option, Some, None, is_some, refl, sym, ap, subst, ◌∙◌}
 use Rattle.std.proofs.lemmas.List.Elements.{All-append, All-cons, All-filter, All-nil}
 use Rattle.std.specs.List.{All, AllZip, find, list_any}
 use Rattle.std.specs.Option.{option_map}
@@ -22,7 +22,7 @@ pub zip_length : {X Y : Type 0} (R : X → Y → Type 0) (xs : List X) (ys : Lis
 zip_length R [] [] each = refl
 zip_length R [] (y ∷ ys) each = absurd each
 zip_length R (x ∷ xs) [] each = absurd each
-zip_length R (x ∷ xs) (y ∷ ys) each = ap (λ n. n + 1) (zip_length R xs ys each.1)
+zip_length R (x ∷ xs) (y ∷ ys) each = ap suc (zip_length R xs ys each.1)
 
 pub zip_more : {X Y : Type 0} (R : X → Y → Type 0) (xs : List X) (ys : List Y) (x : X) (y : Y) → AllZip R xs ys → R x y → AllZip R (xs ++ x ∷ []) (ys ++ y ∷ [])
 zip_more R [] [] x y each last = (last, tt)
