@@ -1,7 +1,6 @@
 -- What is asked for: commands where there is no mapping, what becomes of the points in time, and the answer to a request.
-use Rattle.std.proofs.Common.{◌≡◌, ◌≤◌, ◌+◌, ℕ, List, Option, Some, None, Result, refl, sym, ap, subst, inl, inr, ◌∙◌}
+use Rattle.std.proofs.Common.{◌≡◌, ◌≤◌, ◌+◌, ℕ, List, Option, Some, None, Result, refl, sym, subst, inl, inr, ◌∙◌}
 use Rattle.std.proofs.lemmas.List.Elements.{All-nil, All-weaker}
-use Rattle.std.specs.List.{All}
 use Rattle.flattener.specs.Fits.{EntryFits, ViewFits}
 use Rattle.index_core.specs.Kept.{IndexState}
 use Rattle.line_reader.specs.Request.{Request}

@@ -1,14 +1,14 @@
 -- Searches: what the machine finds among trees, as the engine finds it among blocks.
-use Rattle.std.proofs.Common.{◌≡◌, ◌≢◌, ◌≤◌, ◌<◌, ◌+◌, ℕ, Bool, true, false, cond, List, [], ◌∷◌, ◌++◌, length, map, filter, Option, Some, None, is_some, Result, Ok, Err, IsErr, IfOk, OnOk, refl, sym, ap, subst, ◌∙◌, append-nil, arith}
+use Rattle.std.proofs.Common.{◌≡◌, ℕ, Bool, true, false, cond, List, [], ◌∷◌, ◌++◌, map, filter, Option, Some, None, is_some, Result, Ok, Err, IsErr, IfOk, OnOk, refl, sym, ap, subst, ◌∙◌, append-nil}
 use Rattle.std.proofs.lemmas.List.{map-append}
 use Rattle.std.specs.List.{AllByRecursion, flat_map}
 use Rattle.flattener.specs.Block.{BlockState}
 use Rattle.flattener.specs.StandsFor.{EntryStandsFor, Marked, ViewStandsFor}
-use Rattle.index_core.specs.Kept.{IndexState, laid, layout_kept, segment_kept}
+use Rattle.index_core.specs.Kept.{IndexState, layout_kept, segment_kept}
 use Rattle.layout.specs.As.{marked_as, segment_as}
 use Rattle.layout.specs.Layout.{Layout, SegmentOf, is_live, item_in, live_in, sealed}
-use Rattle.machine.specs.Answer.{answers, outcome_of, refused_if, refuses}
-use Rattle.machine.specs.Searching.{refusal_of, body_refusal, found_by, search_by, search_over, search_step, searched, within}
+use Rattle.machine.specs.Answer.{outcome_of, refused_if, refuses}
+use Rattle.machine.specs.Searching.{refusal_of, body_refusal, found_by, search_by, search_over, search_step, within}
 use Rattle.machine.specs.State.{State, sealed_state}
 use Rattle.machine.specs.declared.limits.Limits.{Limits}
 use Rattle.mapping.specs.IsMapping.{IsMapping}
@@ -22,7 +22,6 @@ use Rattle.query_eval.specs.Found.{live_trees as found_trees}
 use Rattle.query_parser.specs.Search.{search_of}
 use Rattle.reply_text.specs.Text.{reply_text}
 use Rattle.reply_text.specs.declared.refusal.Refusal.{Refusal}
-use Rattle.reply_text.specs.declared.refusal.Refusal.TheVariants as why
 use Rattle.reply_text.specs.declared.reply.Reply.{Reply}
 use Rattle.reply_text.specs.declared.reply.Reply.TheVariants as reply
 use Rattle.search_walk.specs.Refusal.{first_refusal}
@@ -31,12 +30,11 @@ use Rattle.search_walk.specs.declared.refusal.SearchRefusal.TheVariants as body
 use Rattle.segment.specs.Live.{EntryState}
 use Rattle.segment_builder.specs.Blocks.{block_of_marked, blocks_in}
 use Rattle.tree_json.specs.Value.{JsonValue}
-use Rattle.search_page.specs.Searched.{AreSearched, page_reads}
+use Rattle.search_page.specs.Searched.{AreSearched}
 use Rattle.tree_objects.specs.Tree.{IsLiveList, Tree}
 use Rattle.engine.specs.Answers.{answered_by, reply_bytes}
-use Rattle.engine.specs.Faithful.{AreFaithful, EntriesStandFor, Indexed, StandsFor, block_in, tree_in}
+use Rattle.engine.specs.Faithful.{AreFaithful, EntriesStandFor, Indexed, block_in, tree_in}
 use Rattle.engine.specs.Parts.{Ends, IsRefusedAs, answered_of}
-use Rattle.engine.specs.Reads.{page_reads_of}
 use Rattle.engine.specs.declared.no_memory.NoMemory as memory
 use Rattle.engine.specs.declared.reply.Ended.{Ended}
 use Rattle.engine.specs.declared.reply.Ended.TheVariants.{Accepted}

@@ -1,16 +1,15 @@
 -- Commands on the layout: merges, merges by a factor and rows. What the machine does to trees, the index does to their blocks.
-use Rattle.std.proofs.Common.{◌≡◌, ◌≤◌, ◌==◌, ℕ, Bool, false, cond, List, length, map, Option, Some, None, unwrap_or, IfOk, IfSome, OnOk, Result, Ok, Err, refl, sym, ap, subst, inr, ◌∙◌, arith}
+use Rattle.std.proofs.Common.{◌≡◌, ◌==◌, ℕ, false, cond, List, map, Option, Some, None, unwrap_or, IfOk, IfSome, OnOk, Result, Ok, Err, refl, sym, ap, subst, ◌∙◌, arith}
 use Rattle.std.proofs.lemmas.Bool.Decides.{nat_tests}
 use Rattle.std.proofs.lemmas.List.Elements.{All-same}
-use Rattle.std.specs.List.{All}
-use Rattle.flattener.specs.Block.{BlockState, block_of}
+use Rattle.flattener.specs.Block.{BlockState}
 use Rattle.index_core.specs.Kept.{IndexFits, IndexState, block_number, layout_kept}
 use Rattle.layout.specs.As.{layout_as}
 use Rattle.layout.specs.Layout.{Layout, OpenMerge, live_items, sealed}
 use Rattle.layout.specs.Merges.{MergeFault, SegmentSummary, factor_of, finish_fault, force_fault, merge_named, start_fault, summaries_of, with_factor}
 use Rattle.layout.proofs.Keeps.{sealed_keeps}
 use Rattle.layout.proofs.MergesAs.{summaries_as}
-use Rattle.machine.specs.Answer.{answers, outcome_of, refuses}
+use Rattle.machine.specs.Answer.{outcome_of, refuses}
 use Rattle.machine.specs.Merging.{LayoutAnswer, abort_done, advance_done, answer_as, answer_of, automerge_step, declined, finish_done, force_done, layout_reply, layout_rows, merge_row, merge_step, merged_by, no_merge, objects_in, number_in, relaid, segment_row, segments_step, start_done, unless_faulty, with_layout, with_open}
 use Rattle.machine.specs.Searching.{within}
 use Rattle.machine.specs.State.{State, sealed_state}

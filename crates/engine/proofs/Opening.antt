@@ -1,6 +1,6 @@
 -- Points in time that are opened and closed: what the machine answers, as the engine answers it.
-use Rattle.std.proofs.Common.{◌≡◌, ◌+◌, ℕ, Bool, true, false, not, List, [], ◌∷◌, Option, Some, Result, Ok, Err, refl, sym, ap, subst, inl, ◌∙◌}
-use Rattle.index_core.specs.Kept.{IndexState, layout_kept}
+use Rattle.std.proofs.Common.{◌≡◌, ◌+◌, ℕ, Bool, true, false, not, List, [], ◌∷◌, Option, Some, Result, refl, sym, ap, subst, inl, ◌∙◌}
+use Rattle.index_core.specs.Kept.{IndexState}
 use Rattle.layout_commands.specs.Ends.{HasClosed, HasOpened, IsLacking}
 use Rattle.machine.specs.Answer.{Answer, Outcome, outcome_of, refuses, unless, when}
 use Rattle.machine.specs.Points.{close_done, close_step, open_done, open_step, with_points}
@@ -13,7 +13,7 @@ use Rattle.reply_text.specs.declared.refusal.Refusal.{Refusal}
 use Rattle.reply_text.specs.declared.refusal.Refusal.TheVariants.{TooManyPits, UnknownPit}
 use Rattle.reply_text.specs.declared.reply.Reply.{Reply}
 use Rattle.reply_text.specs.declared.reply.Reply.TheVariants as reply
-use Rattle.engine.specs.Answers.{answered_by, reply_bytes}
+use Rattle.engine.specs.Answers.{answered_by}
 use Rattle.engine.specs.Faithful.{AreFaithful, PointsStand, PointsStandFor}
 use Rattle.engine.specs.Parts.{Ends, EndsWith, IsRefusal, answered_of}
 use Rattle.engine.specs.declared.engine.Answered.{Answered}

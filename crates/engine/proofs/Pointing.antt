@@ -1,7 +1,7 @@
 -- Points in time: those that are kept stand for those of the machine, one for another.
-use Rattle.std.proofs.Common.{◌≡◌, ◌+◌, ◌==◌, ℕ, suc, Bool, true, false, not, cond, ◌||◌, nat_le, List, [], ◌∷◌, ◌++◌, length, filter, Option, Some, None, is_some, refl, sym, ap, subst, ◌∙◌}
+use Rattle.std.proofs.Common.{◌≡◌, ◌+◌, ◌==◌, ℕ, suc, Bool, true, false, not, cond, ◌||◌, nat_le, List, [], ◌∷◌, ◌++◌, length, filter, Option, Some, None, refl, sym, ap, subst}
 use Rattle.std.proofs.lemmas.List.Elements.{All-append, All-cons, All-filter, All-nil}
-use Rattle.std.specs.List.{All, AllZip, find, list_any}
+use Rattle.std.specs.List.{AllZip, find, list_any}
 use Rattle.std.specs.Option.{option_map}
 use Rattle.flattener.specs.Fits.{ViewFits}
 use Rattle.machine.specs.Points as machine

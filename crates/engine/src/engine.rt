@@ -245,13 +245,7 @@ impl Engine {
     {
         further_bodies_leave_blocks();
         self.ordinals = None;
-        mapping_line(
-            self.alloc,
-            &mut self.mapping,
-            &mut self.index,
-            body,
-            out,
-        )
+        mapping_line(self.alloc, &mut self.mapping, &mut self.index, body, out)
     }
 
     #[tactic(auto, using(crate::proofs::Asking::refusal_answer, crate::proofs::Asking::unmapped))]

@@ -68,7 +68,9 @@ pub(crate) fn search<L: Ledger>(
 {
     match search_form::search(body) {
         Ok(shape) => match resolved(alloc, shape, mapping) {
-            Ok(search) => search_over(alloc, limits, mapping, index, ordinals, points, &search, out, steps),
+            Ok(search) => search_over(
+                alloc, limits, mapping, index, ordinals, points, &search, out, steps,
+            ),
             Err(why) => refuse_search(why, out),
         },
         Err(ShapeRefusal::BadRequest) => unreachable!(),

@@ -1,12 +1,9 @@
 use Rattle.std.proofs.Common.{◌≡◌, ◌≤◌, ◌+◌, ℕ, List, Option, Some, ap, subst, sym, ◌∙◌}
 use Rattle.std.specs.Option.{option_map}
-use Rattle.machine.specs.Answer.{Answer, outcome_of}
+use Rattle.machine.specs.Answer.{outcome_of}
 use Rattle.machine.specs.Searching.{search_by, search_over, searched}
 use Rattle.machine.specs.State.{sealed_state}
-use Rattle.point_in_time.specs.Points.{entries_under}
 use Rattle.reply_text.specs.declared.refusal.Refusal.TheVariants.{UnknownPit}
-use Rattle.segment.specs.Live.{EntryState}
-use Rattle.segment_view.specs.declared.view.View.{View}
 use Rattle.tree_objects.specs.Tree.{Tree}
 use Rattle.engine.specs.Parts.{Ends, answered_of}
 use Rattle.engine.specs.Reads.{page_reads_of}
