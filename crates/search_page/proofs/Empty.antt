@@ -1,13 +1,12 @@
 -- A page that asks for no hit.
-use Rattle.std.proofs.Common.{◌≡◌, ℕ, suc, List as Seq, [], ◌∷◌, filter, length, map, Option, Some, None, refl, sym, ap, ◌∙◌}
-use Rattle.std.specs.List.{cons_option, filter_map}
-use Rattle.std.specs.Option.{option_map}
+use Rattle.std.proofs.Common.{◌≡◌, ℕ, suc, List as Seq, [], ◌∷◌, length, map, Option, Some, None, refl, sym, ap, ◌∙◌}
+use Rattle.std.specs.List.{filter_map}
 use Rattle.mapping.specs.Mapping.{Mapping}
 use Rattle.query_ast.specs.Clause.{Clause}
-use Rattle.query_ast.specs.Hit.{hit, is_hit, those_hit}
+use Rattle.query_ast.specs.Hit.{hit, those_hit}
 use Rattle.query_ast.specs.Joined.{roots}
 use Rattle.query_ast.specs.Page.{page_of}
-use Rattle.query_ast.specs.Rows.{Row, paged, row_if, row_of, rows_of}
+use Rattle.query_ast.specs.Rows.{Row, paged, row_if, rows_of}
 use Rattle.query_ast.specs.Search.{found_rows, hit_of, hit_page}
 use Rattle.query_ast.specs.declared.hit.Hit.{Hit}
 use Rattle.query_ast.specs.declared.search.SearchBody.{SearchBody}
@@ -16,7 +15,7 @@ use Rattle.tree_objects.specs.Object.{Object}
 use Rattle.tree_objects.specs.Tree.{Tree}
 
 -- a row for each object that is hit
-rows_long : (m : Mapping) (live : Seq Tree) (query : Clause) (sorts : Seq Sort) (os : Seq Object) → length (filter_map (row_if m live query sorts) os) ≡ length (those_hit m live query os)
+pub rows_long : (m : Mapping) (live : Seq Tree) (query : Clause) (sorts : Seq Sort) (os : Seq Object) → length (filter_map (row_if m live query sorts) os) ≡ length (those_hit m live query os)
 rows_long m live query sorts [] = refl
 rows_long m live query sorts (o ∷ os) = by (hit m live query o) refl (rows_long m live query sorts os)
   where

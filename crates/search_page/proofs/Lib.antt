@@ -1,5 +1,5 @@
 -- Lists that agree, and pages of them; the rows of a view; the page of a search; what filters find; roots' documents; what is
--- given row by row; a page of no hits.
+-- given row by row; a page of no hits; a page of hits that stand in order.
 mod Agreeing
 mod Rows
 mod Paged
@@ -7,3 +7,6 @@ mod Filtered
 mod Marks
 mod Shown
 mod Empty
+mod Rising
+mod Front
+mod Plain

@@ -1,12 +1,10 @@
 -- The page of a search, from the rows of a view.
-use Rattle.std.proofs.Common.{◌≡◌, ℕ, ◌+◌, List as Seq, [], ◌∷◌, length, map, Option, Some, refl, sym, ap, subst, ◌∙◌}
-use Rattle.std.specs.List.{AllByRecursion, filter_map, sum_by}
-use Rattle.std.proofs.lemmas.List.{length-map}
+use Rattle.std.proofs.Common.{◌≡◌, ℕ, ◌+◌, List as Seq, [], ◌∷◌, length, map, Option, refl, sym, ap, subst, ◌∙◌}
+use Rattle.std.specs.List.{filter_map, sum_by}
 use Rattle.flattener.specs.StandsFor.{Marked, ViewStandsFor}
 use Rattle.hit_order.specs.Table.{keys_of_row, number_of_row}
 use Rattle.mapping.specs.Mapping.{Mapping}
 use Rattle.nested_sort.specs.Keyed.{keyed_rows}
-use Rattle.nested_sort.specs.Listed.{IsHitAt}
 use Rattle.inner_hits.specs.Steps.{joined_in}
 use Rattle.query_ast.specs.Definition.{definitions_of}
 use Rattle.query_ast.specs.InnerHits.{inner_pages}
@@ -35,30 +33,30 @@ module _ (m : Mapping) (one_root : OneRoot m) (view : Seq EntryState) (found : S
   abbrev rows : Seq KeyRow
   rows = keyed_rows m 0 body.sort (score_by m body.query) trees
 
-  abbrev shown : Seq KeyRow
+  abbrev pub shown : Seq KeyRow
   shown = page_of keys_of_row number_of_row (map direction_of body.sort) body.after body.from body.size rows
 
-  abbrev own_shown : Seq Row
+  abbrev pub own_shown : Seq Row
   own_shown = paged body.sort body.after body.from body.size (found_rows m live body)
 
-  abbrev Pair : KeyRow → Row → Type 0
+  abbrev pub Pair : KeyRow → Row → Type 0
   Pair = Same m one_root view found trees body
 
-  rows_are : Agree Pair rows (found_rows m live body)
+  pub rows_are : Agree Pair rows (found_rows m live body)
   unfolding keyed_rows
   rows_are = rows_agree m one_root view found trees body [] view [] trees 0 refl refl refl (is_found.are trees stands) refl stands
 
-  shown_are : Agree Pair shown own_shown
+  pub shown_are : Agree Pair shown own_shown
   shown_are = agree_page Pair keys_of_row number_of_row keys_of number_of (λ row own it. it.keys) (λ row own it. it.number) (map direction_of body.sort) body.after body.from body.size rows (found_rows m live body) rows_are
 
-  at_roots : (some : Seq KeyRow) (own : Seq Row) → Agree Pair some own → AreRootRows m trees some
+  pub at_roots : (some : Seq KeyRow) (own : Seq Row) → Agree Pair some own → AreRootRows m trees some
   at_roots [] [] are = tt
   at_roots [] (o ∷ own) are = absurd are
   at_roots (row ∷ some) [] are = absurd are
   at_roots (row ∷ some) (o ∷ own) are = (are.0.at_root, at_roots some own are.1)
 
   -- as many sources are read for the rows as for the hits
-  reads_are : (some : Seq KeyRow) (own : Seq Row) → Agree Pair some own → sum_by (row_reads m trees body) some ≡ sum_by hit_reads (map (hit_of m live body) own)
+  pub reads_are : (some : Seq KeyRow) (own : Seq Row) → Agree Pair some own → sum_by (row_reads m trees body) some ≡ sum_by hit_reads (map (hit_of m live body) own)
   reads_are [] [] are = refl
   reads_are [] (o ∷ own) are = absurd are
   reads_are (row ∷ some) [] are = absurd are

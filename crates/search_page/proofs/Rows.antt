@@ -23,7 +23,6 @@ use Rattle.query_ast.specs.Rows.{Row, number_of, row_if, row_of, rows_of}
 use Rattle.query_ast.specs.Search.{hit_of}
 use Rattle.query_ast.specs.declared.hit.Hit.{Hit}
 use Rattle.query_ast.specs.declared.search.SearchBody.{SearchBody}
-use Rattle.query_ast.specs.declared.sort.Key.{Key}
 use Rattle.query_ast.specs.declared.sort.KeyRow.{KeyRow}
 use Rattle.query_eval.specs.Found.{live_in, live_trees}
 use Rattle.view_objects.specs.Hits.{any_object, no_object}

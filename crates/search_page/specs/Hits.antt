@@ -1,10 +1,12 @@
 -- Serves proofs: the hit of a row. Its id and number are read from the segment that the row was found in; its source and its
 -- inner hits are those of the object that the row's document stands for.
-use Rattle.std.specs.Prelude.{ℕ, ◌+◌, nat_le, Bool, if◌then◌else◌, List, [], map, get_or, slice_get, Option, Some, None}
+use Rattle.std.specs.Prelude.{◌≡◌, ℕ, suc, pos, ◌+◌, nat_le, Bool, if◌then◌else◌, List, [], ◌∷◌, ◌++◌, map, get_or, slice_get, Option, Some, None, is_some}
 use Rattle.std.specs.List.{AllByRecursion}
 use Rattle.std.specs.Option.{option_map}
 use Rattle.block_bits.specs.Blocks.{documents_of}
+use Rattle.block_join.specs.Scores.{filled}
 use Rattle.flattener.specs.StandsFor.{Marked}
+use Rattle.hit_order.specs.declared.column.RowPlace.{RowPlace}
 use Rattle.inner_hits.specs.Steps.{joined_in}
 use Rattle.mapping.specs.Mapping.{Mapping}
 use Rattle.nested_sort.specs.Listed.{IsHitAt}
@@ -14,9 +16,13 @@ use Rattle.query_ast.specs.Pages.{PagePart, pages_of}
 use Rattle.query_ast.specs.declared.hit.Hit.{Hit}
 use Rattle.query_ast.specs.declared.search.SearchBody.{SearchBody}
 use Rattle.query_ast.specs.declared.sort.Key.{Key}
+use Rattle.query_ast.specs.declared.sort.Key.TheVariants.{Number}
 use Rattle.query_ast.specs.declared.sort.KeyRow.{KeyRow}
+use Rattle.query_ast.specs.declared.sort.Sort.{Sort}
+use Rattle.query_ast.specs.declared.sort.SortKey.TheVariants.{Score}
 use Rattle.segment.specs.Flat.{FlatDocument, FlatRoot, flat_root, flats_of}
 use Rattle.segment.specs.Live.{EntryState, root_of as block_root}
+use Rattle.segment_parts.specs.Text.{marked_places}
 use Rattle.segment_parts.specs.declared.columns.Columns.{Columns}
 use Rattle.stored_sources.specs.Roots.{root_of as stored_root}
 use Rattle.tree_objects.specs.Object.{Object}
@@ -77,3 +83,24 @@ AreRootRows m trees rows = AllByRecursion (λ (row : KeyRow). IsHitAt m 0 trees 
 -- how many stored sources a row may cost
 abbrev pub row_reads : Mapping → List (List (Marked Tree)) → SearchBody → KeyRow → ℕ
 row_reads m trees body row = 1 + joined_in (pages_of (row_pages m trees body row))
+
+-- ---- hits that have one score, by which alone they are ordered
+
+-- where the documents of the entries with scores stand, the first entry at a place
+abbrev pub place_of : ℕ → ℕ → RowPlace
+place_of place doc = record { place = place; doc = doc; number = pos 0 }
+
+abbrev pub places_of : ℕ → List (List (Option ℕ)) → List RowPlace
+places_of place [] = []
+places_of place (scores ∷ more) = map (place_of place) (marked_places 0 (map is_some scores)) ++ places_of (suc place) more
+
+-- their rows, but for the numbers of their trees
+abbrev pub plain_row : ℕ → RowPlace → KeyRow
+plain_row score at = record { keys = Number (pos score) ∷ []; place = at.place; doc = at.doc; number = at.number }
+
+abbrev pub AreShared : ℕ → List (List (Option ℕ)) → Type 0
+AreShared score found = AllByRecursion (λ (scores : List (Option ℕ)). scores ≡ filled (Some score) (map is_some scores)) found
+
+-- the score alone orders them
+abbrev pub IsByScore : List Sort → Type 0
+IsByScore sorts = (sort : Sort) × (sorts ≡ sort ∷ []) × (sort.key ≡ Score)

@@ -6,6 +6,7 @@
 #![tactic(auto)]
 
 mod filters;
+mod first;
 mod hits;
 mod no_memory;
 mod ordinals;

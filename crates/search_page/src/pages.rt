@@ -1,5 +1,5 @@
 //! What a search finds.
-ghost use Rattle.std.specs.Prelude.{◌≡◌, ◌≤◌, ◌+◌, List, [], false, true, IfOk, IfSome};
+ghost use Rattle.std.specs.Prelude.{◌≡◌, ◌≤◌, ◌+◌, List, [], false, true, IfOk, IfSome, None};
 ghost use Rattle.flattener.specs.Fits.{ViewFits};
 ghost use Rattle.flattener.specs.StandsFor.{Marked};
 ghost use Rattle.join_ordinals.specs.Ordinals.{AreOrdinals};
@@ -8,12 +8,15 @@ ghost use Rattle.query_ast.specs.Joins.{search_joins};
 ghost use Rattle.query_ast.specs.Resolved.{IsSearch};
 ghost use Rattle.query_ast.specs.Search.{found_buckets, hit_page};
 ghost use Rattle.query_eval.specs.Found.{IsFound};
+ghost use Rattle.score_math.specs.declared.score.TheConstants.{SCORE_CAP};
+ghost use Rattle.search_page.specs.Hits.{AreShared, IsByScore};
 ghost use Rattle.search_page.specs.Searched.{AreSearched, page_reads};
 ghost use Rattle.tree_objects.specs.Tree.{Tree};
 ghost use Rattle.view_objects.specs.Hits.{live_trees};
 
 use crate::NoMemory;
 use crate::filters::filters_found;
+use crate::first::{first_rows, only_score};
 use crate::hits::hits_of;
 use crate::ordinals::make_ordinals;
 use block_join::Matches;
@@ -100,7 +103,8 @@ fn found_by<L: Ledger>(
 
 /// The page of the hits of what the query matches, and the number of all of them.
 ///
-/// Where no hit is asked for the hits are counted, and nothing is made for any of them.
+/// Where no hit is asked for the hits are counted, and nothing is made for any of them. Where they stand in order as they are
+/// found, something is made for those of the page alone.
 fn page<L: Ledger>(
     alloc: Global,
     view: &View,
@@ -121,8 +125,49 @@ fn page<L: Ledger>(
     if search.size == 0 {
         empty_page(alloc, view, mapping, search, matched)
     } else {
-        shown_page(alloc, view, mapping, search, ordinals, matched, steps)
+        match only_score(search, matched) {
+            Some(score) => first_page(
+                alloc, view, mapping, search, ordinals, matched, score, steps,
+            ),
+            None => shown_page(alloc, view, mapping, search, ordinals, matched, steps),
+        }
     }
+}
+
+/// The page, where hits stand in order as they are found: rows are made for its hits alone.
+fn first_page<L: Ledger>(
+    alloc: Global,
+    view: &View,
+    mapping: &Mapping,
+    search: &SearchBody,
+    ordinals: &JoinOrdinals,
+    matched: &Matches,
+    score: u64,
+    steps: &mut Steps<L>,
+) -> Result<HitPage, NoMemory>
+    requires fits { ViewFits mapping.now view.now }
+    requires resolved { IsSearch mapping.now search.now }
+    requires joined { search_joins search.now ≡ true → AreOrdinals view.now ordinals.now }
+    requires matched { IsFound mapping.now view.now 0 search.now.query matched.now }
+    requires after { search.now.after ≡ None }
+    requires sort { IsByScore search.now.sort }
+    requires shared { AreShared score matched.now }
+    requires capped { score ≤ SCORE_CAP }
+    ensures page { IfOk result (λ page. (trees : List (List (Marked Tree))) → AreSearched mapping.now view.now trees → page ≡ hit_page mapping.now (live_trees trees) search.now) }
+    ensures reads { (trees : List (List (Marked Tree))) → AreSearched mapping.now view.now trees → steps.new ≤ steps.old + page_reads (hit_page mapping.now (live_trees trees) search.now) }
+    ensures unread { search.now.source ≡ false → search.now.inner ≡ [] → steps.new ≡ steps.old }
+{
+    objects_nest();
+    let total = found_count(view, mapping, matched)?;
+    let prepared = prepare(alloc, view, mapping, ordinals, &search.inner, 0, steps)?;
+    let rows = first_rows(alloc, matched, search.from, search.size, score)?;
+    let hits = hits_of(
+        alloc, view, mapping, ordinals, search, &prepared, matched, &rows, steps,
+    )?;
+    Ok(HitPage {
+        hits: HitList::of(hits),
+        total,
+    })
 }
 
 /// The page of no hits, with the number of all.

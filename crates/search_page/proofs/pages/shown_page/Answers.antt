@@ -1,4 +1,4 @@
-use Rattle.std.proofs.Common.{◌≡◌, ◌≤◌, ◌+◌, List, sym, ap, ◌∙◌, arith}
+use Rattle.std.proofs.Common.{◌≡◌, ◌∙◌, arith}
 use Rattle.query_ast.specs.Search.{hit_page}
 use Rattle.query_eval.specs.Found.{live_trees, score_by}
 use Rattle.std.specs.List.{sum_by}
