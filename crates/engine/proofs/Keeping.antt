@@ -5,7 +5,6 @@ use Rattle.index_core.specs.Kept.{IndexState, layout_kept}
 use Rattle.join_ordinals.specs.Ordinals.{AreOrdinals, Ordinals}
 use Rattle.layout.specs.Layout.{Layout, sealed, segment_of}
 use Rattle.engine.specs.Kept.{IfKept}
-use Rattle.engine.proofs.Finding.{buffer_sealed}
 
 -- where no neighbours are merged and the buffer is empty, sealing leaves all as it is
 still : {A : Type 0} (layout : Layout A) → layout.factor ≡ None → layout.buffer ≡ [] → sealed layout ≡ layout
@@ -23,6 +22,6 @@ kept_own index None kept = tt
 kept_own index (Some ordinals) kept = kept.own
 
 -- those of the view of a sealed index may be kept
-pub kept_sealed : (index index' : IndexState) (ordinals : Option Ordinals) → layout_kept index' ≡ sealed (layout_kept index) → IfSome ordinals (AreOrdinals index'.entries) → IfKept index' ordinals
-kept_sealed index index' None seals own = tt
-kept_sealed index index' (Some ordinals) seals own = record { own = own; still = still (layout_kept index') refl (buffer_sealed index index' seals) }
+pub kept_sealed : (index : IndexState) (ordinals : Option Ordinals) → index.buffer ≡ [] → IfSome ordinals (AreOrdinals index.entries) → IfKept index ordinals
+kept_sealed index None empty own = tt
+kept_sealed index (Some ordinals) empty own = record { own = own; still = still (layout_kept index) refl empty }
