@@ -1,7 +1,9 @@
 pub mod Tests
+pub mod Listed
 pub mod Listing
 pub mod Gaining
 pub mod Termed
+pub mod Alone
 pub mod Cutting
 pub mod Unions
 pub mod Shown

@@ -60,6 +60,10 @@ lies_within low high bytes = is_from_end low bytes && is_to_end high bytes
 abbrev pub begins : List ℕ → List ℕ → Bool
 begins start bytes = starts_with nat_eq bytes start
 
+-- the term of a field with these bytes
+abbrev pub is_term : ℕ → List ℕ → ℕ × List ℕ → Bool
+is_term field bytes term = nat_eq term.0 field && bytes_eq bytes term.1
+
 -- a document has this term of a field
 abbrev pub has_bytes : ℕ → FlatDocument → List ℕ → Bool
 has_bytes field d bytes = has_term field (bytes_eq bytes) d

@@ -8,3 +8,4 @@ pub mod Values
 pub mod Roots
 pub mod Cursors
 pub mod Kept
+pub mod Ids

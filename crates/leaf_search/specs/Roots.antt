@@ -19,6 +19,6 @@ is_child_of r id (Named relation) = false
 is_child_of r id (Child relation parent) = relation == r && bytes_eq parent id
 
 abbrev pub root_passes : RootTest → FlatRoot → Bool
-root_passes (HasId listed) root = list_any (bytes_eq root.id) listed.now
+root_passes (HasId listed) root = list_any (bytes_eq root.id) listed
 root_passes IsJoined root = is_joined root.join
 root_passes (IsChild relation id) root = is_child_of relation id.now root.join

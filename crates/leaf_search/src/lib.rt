@@ -6,6 +6,7 @@
 #![tactic(auto)]
 
 mod exists;
+mod ids;
 mod key;
 mod leaves;
 mod no_memory;

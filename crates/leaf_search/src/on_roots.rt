@@ -7,6 +7,7 @@ ghost use Rattle.segment.specs.Live.{IsLiveOver};
 ghost use Rattle.leaf_search.specs.Found.{Finds};
 
 use crate::NoMemory;
+use crate::ids::IdList;
 use crate::roots::RootTest;
 use crate::scoped::keep_live;
 use crate::sets::root_set;
@@ -59,7 +60,8 @@ pub(crate) fn with_ids(
 {
     objects_nest();
     values_are_of_documents(segment);
-    Ok(root_set(alloc, segment, live, scope, &RootTest::HasId(listed))?)
+    let ids = IdList::of(alloc, listed)?;
+    Ok(root_set(alloc, segment, live, scope, &RootTest::HasId(ids))?)
 }
 
 /// `parent_id`: the roots of a child relation whose parent has this id.

@@ -1,8 +1,6 @@
 //! The roots that pass a test of their ids or their join values.
 
 ghost use Rattle.std.specs.Prelude.{◌≡◌, ◌<◌, length, true, slice_set, if◌then◌else◌, IfOk};
-ghost use Rattle.std.specs.List.{list_any};
-ghost use Rattle.std.specs.Str.{bytes_eq};
 ghost use Rattle.stored_sources.specs.Roots.{lent_join};
 ghost use Rattle.stored_sources.specs.Roots.{root_of};
 ghost use Rattle.segment.specs.Flat.{flat_root, flats_of, roots_of};
@@ -10,8 +8,8 @@ ghost use Rattle.leaf_search.specs.Roots.{root_passes, is_joined, is_child_of};
 ghost use Rattle.leaf_search.specs.Sets.{root_marks};
 
 use crate::NoMemory;
+use crate::ids::IdList;
 use block_bits::BitSet;
-use mapping::Bytes;
 use segment::{JoinValue, Segment, scopes_are_of_documents};
 use std::alloc::Global;
 
@@ -19,7 +17,7 @@ use std::alloc::Global;
 #[derive(Drop)]
 pub(crate) enum RootTest<'a> {
     /// Its id is one of these.
-    HasId(&'a [Bytes]),
+    HasId(IdList<'a>),
     /// It has a join value.
     IsJoined,
     /// Its relation is this child relation, and its parent has this id.
@@ -60,21 +58,10 @@ fn passes(segment: &Segment, root: u32, test: &RootTest) -> bool
     ensures { result ≡ root_passes test.now (flat_root (root_of segment.now.roots root)) }
 {
     match test {
-        RootTest::HasId(listed) => is_listed(segment.root_id(root), listed),
+        RootTest::HasId(listed) => listed.has(segment.root_id(root)),
         RootTest::IsJoined => is_joined(segment.root_join(root)),
         RootTest::IsChild(relation, id) => is_child_of(*relation, id, segment.root_join(root)),
     }
-}
-
-fn is_listed(id: &[u8], listed: &[Bytes]) -> bool
-    ensures { result ≡ list_any (bytes_eq id.now) listed.now }
-{
-    'listed: for other in listed {
-        if id == other.as_slice() {
-            return true;
-        }
-    }
-    false
 }
 
 fn is_joined(join: JoinValue) -> bool

@@ -5,7 +5,8 @@ ghost use Rattle.std.specs.List.{All, list_any};
 ghost use Rattle.std.specs.Str.{bytes_eq};
 ghost use Rattle.postings.specs.Marks.{has_document};
 ghost use Rattle.segment.specs.Lists.{terms_of, postings_of};
-ghost use Rattle.leaf_search.specs.Keys.{FitsKey, EndFits, key_of, is_within, lies_within, begins, has_one_of};
+ghost use Rattle.term_table.specs.Ranges.{IsRange};
+ghost use Rattle.leaf_search.specs.Keys.{FitsKey, EndFits, key_of, is_term, is_within, lies_within, begins, has_one_of};
 ghost use Rattle.leaf_search.specs.Sets.{Gains};
 ghost use Rattle.segment.specs.Shows.{has_term};
 
@@ -13,7 +14,7 @@ use crate::key::{Key, edge};
 use block_bits::BitSet;
 use query_ast::RangeEnd;
 use segment::{Segment, terms_are_of_documents};
-use term_table::Edge;
+use term_table::{Edge, TermTable};
 use tree_objects::FieldValue;
 
 /// Adds the documents of the terms with these ordinals, list by list.
@@ -52,18 +53,27 @@ pub(crate) fn mark_prefix(segment: &Segment, field: u32, start: &[u8], set: &mut
     mark_lists(segment, first, end, set);
 }
 
+/// The ordinals of a term: its own alone, and none where the field doesn't have it. One search in the table.
+fn ordinals_of(terms: &TermTable, field: u32, bytes: &[u8]) -> (u64, u64)
+    ensures ordered { result.0 ≤ result.1 }
+    ensures within { result.1 ≤ length terms.now }
+    ensures own { IsRange (is_term field bytes.now) terms.now result.0 result.1 }
+{
+    let _count = terms.count();
+    match terms.find(field, bytes) {
+        Some(ordinal) => (ordinal, ordinal + 1),
+        None => (0, 0),
+    }
+}
+
 /// Adds the documents that have a term.
 pub(crate) fn mark_term(segment: &Segment, field: u32, bytes: &[u8], set: &mut BitSet)
     requires { length set.old ≡ segment.now.documents }
     ensures { Gains segment.now (has_term field (bytes_eq bytes.now)) set.old set.new }
 {
-    mark_range(
-        segment,
-        field,
-        Edge::Closed(bytes),
-        Edge::Closed(bytes),
-        set,
-    );
+    terms_are_of_documents(segment);
+    let (first, end) = ordinals_of(&segment.terms(), field, bytes);
+    mark_lists(segment, first, end, set);
 }
 
 /// Adds the documents that have the term that a value stands for.

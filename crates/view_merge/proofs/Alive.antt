@@ -27,4 +27,3 @@ blocks_alive columns live roots over dead =
     all_alive (blocks_of columns) live.roots
     (omega (arith, ap length roots, length-map (blocks_of columns) (λ (block : BlockState). block.root), length-map columns.roots flat_root, over.roots))
     (λ k within no. no_dead k ((dead k (omega (arith, within, over.roots))).0 no))
-
