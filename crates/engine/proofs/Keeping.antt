@@ -14,7 +14,7 @@ still {A} layout none empty =
     ap (λ (buffer : List A). layout.segments ++ segment_of layout.made buffer) empty ∙ append-nil layout.segments in
     let made : layout.made + length (segment_of layout.made layout.buffer) ≡ layout.made =
     ap (λ (buffer : List A). layout.made + length (segment_of layout.made buffer)) empty ∙ omega arith in
-    rw none (λ i. record { segments = segments i; buffer = sym empty i; merges = layout.merges; started = layout.started; made = made i; factor = sym none i })
+    rw none (λ i. record { segments = segments i; buffer = sym empty i; merges = layout.merges; started = layout.started; made = made i; factor = None })
 
 -- those that are kept are those of the view
 pub kept_own : (index : IndexState) (ordinals : Option Ordinals) → IfKept index ordinals → IfSome ordinals (AreOrdinals index.entries)

@@ -42,11 +42,11 @@ abbrev pub IfKept : IndexState → Option Ordinals → Type 0
 IfKept index ordinals = IfSome ordinals (AreKeptFor index)
 
 -- what holds of every engine, and of the ordinals that it keeps, if there are any
-pub record IsEngine (kept : EngineState) (ordinals : Option Ordinals) : Type 0 where
+pub record IsEngine (kept : EngineState) (known : Option Ordinals) : Type 0 where
   pub limits : AreLimits kept.limits
   pub objects : kept.index.objects ≡ kept.limits.objects
   pub under : IsUnder kept.mapping kept.index
-  pub ordinals : IfKept kept.index ordinals
+  pub ordinals : IfKept kept.index known
 
 -- what is kept is as it was, or the buffer is sealed
 pub record StaysOrSeals (mapping mapping' : Option Mapping) (index index' : IndexState) : Type 0 where
