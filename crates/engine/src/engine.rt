@@ -224,13 +224,7 @@ impl Engine {
         ensures room { room_of out.old ≤ room_of out.new }
     {
         self.ordinals = None;
-        mapping_line(
-            self.alloc,
-            &mut self.mapping,
-            &mut self.index,
-            body,
-            out,
-        )
+        mapping_line(self.alloc, &mut self.mapping, &mut self.index, body, out)
     }
 
     #[tactic(auto, using(crate::proofs::Answering::refusal_ends, crate::proofs::Asking::unmapped))]
