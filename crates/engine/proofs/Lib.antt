@@ -1,5 +1,5 @@
 -- Blocks stand for trees; replies and want of memory; writes, and the sources of updates; mapping lines; searches; what holds
--- whatever the state; and what is asked for.
+-- whatever the state; ordinals that are kept; and what is asked for.
 pub mod Standing
 pub mod Answering
 pub mod Writing
@@ -10,4 +10,5 @@ pub mod Finding
 pub mod Leaving
 pub mod Ending
 pub mod Pages
+pub mod Keeping
 pub mod Asking

@@ -3,7 +3,7 @@ use Rattle.std.proofs.Common.{◌≡◌, ℕ, List, Option, Some, None, refl, sy
 use Rattle.index_core.specs.Kept.{IndexState, layout_kept}
 use Rattle.layout.specs.Layout.{empty_layout, sealed}
 use Rattle.layout.proofs.Keeps.{sealed_keeps}
-use Rattle.machine.specs.Answer.{answers, first_of, outcome_of, refused_if, refuses}
+use Rattle.machine.specs.Answer.{first_of, outcome_of, refused_if, refuses}
 use Rattle.machine.specs.MappingLine.{first_done, first_mapping, first_refusals, grown_mapping, growing_done, growing_refusals, mapping_by, mapping_step, with_content_mapping}
 use Rattle.machine.specs.State.{State, sealed_state}
 use Rattle.mapping.specs.Growth.{HasFurtherBodies}

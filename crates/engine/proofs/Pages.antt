@@ -1,5 +1,5 @@
 -- A reply that is held to a limit.
-use Rattle.std.proofs.Common.{◌≡◌, ◌<◌, ℕ, Bool, true, false, nat_lt, length, refl, arith}
+use Rattle.std.proofs.Common.{◌≡◌, ◌<◌, true, false, nat_lt, length, refl, arith}
 use Rattle.std.proofs.lemmas.Bool.Decides.{nat_tests}
 use Rattle.reply_text.specs.Text.{line_of}
 use Rattle.reply_text.specs.declared.refusal.Refusal.TheVariants.{ReplyTooLarge}

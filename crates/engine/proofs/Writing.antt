@@ -7,7 +7,7 @@ use Rattle.index_core.specs.Write.{is_refused, live_after}
 use Rattle.index_core.specs.declared.op.WriteOp.TheVariants.{Put}
 use Rattle.layout.specs.Layout.{staying, with_change}
 use Rattle.layout.proofs.Keeps.{change_keeps}
-use Rattle.machine.specs.Answer.{refuses, answers, outcome_of, when, first_of, refused_if}
+use Rattle.machine.specs.Answer.{refuses, outcome_of, when, first_of, refused_if}
 use Rattle.machine.specs.State.{State, IsLaid}
 use Rattle.machine.specs.Write.{added_body, change_or_nothing, changed, changed_state, early_refusals, full, last_number, live_number, live_tree, object_count, put_refusals, put_result, put_source, with_put, write_step}
 use Rattle.machine.specs.declared.limits.Limits.{Limits}

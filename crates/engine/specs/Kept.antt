@@ -1,8 +1,9 @@
 -- What an engine keeps.
-use Rattle.std.specs.Prelude.{◌≡◌, ◌⊎◌, ℕ, Option, Some, None}
+use Rattle.std.specs.Prelude.{◌≡◌, ◌⊎◌, ℕ, Option, Some, None, IfSome}
 use Rattle.std.specs.List.{All}
 use Rattle.flattener.specs.Block.{BlockState}
 use Rattle.index_core.specs.Kept.{IndexState, IndexFits, layout_kept, live_kept}
+use Rattle.join_ordinals.specs.Ordinals.{AreOrdinals, Ordinals}
 use Rattle.layout.specs.Layout.{empty_layout, sealed}
 use Rattle.machine.specs.Limit.{AreLimits}
 use Rattle.machine.specs.declared.limits.Limits.{Limits}
@@ -31,11 +32,21 @@ abbrev pub IsUnder : Option Mapping → IndexState → Type 0
 IsUnder None index = layout_kept index ≡ empty_layout
 IsUnder (Some m) index = IsIndexOf m index
 
--- what holds of every engine
-pub record IsEngine (kept : EngineState) : Type 0 where
+-- Ordinals that serve one search and those behind it are those of the view, of which nothing is left to be sealed: each other
+-- request lets them go.
+pub record AreKeptFor (index : IndexState) (ordinals : Ordinals) : Type 0 where
+  pub own : AreOrdinals index.entries ordinals
+  pub still : sealed (layout_kept index) ≡ layout_kept index
+
+abbrev pub IfKept : IndexState → Option Ordinals → Type 0
+IfKept index ordinals = IfSome ordinals (AreKeptFor index)
+
+-- what holds of every engine, and of the ordinals that it keeps, if there are any
+pub record IsEngine (kept : EngineState) (known : Option Ordinals) : Type 0 where
   pub limits : AreLimits kept.limits
   pub objects : kept.index.objects ≡ kept.limits.objects
   pub under : IsUnder kept.mapping kept.index
+  pub ordinals : IfKept kept.index known
 
 -- what is kept is as it was, or the buffer is sealed
 pub record StaysOrSeals (mapping mapping' : Option Mapping) (index index' : IndexState) : Type 0 where

@@ -8,7 +8,7 @@ ghost use Rattle.line_reader.specs.View.{first_line_of, source_line_of};
 ghost use Rattle.machine.specs.Step.{action_step, asked_step, refusal_formed};
 ghost use Rattle.reply_text.specs.declared.refusal.Refusal.TheVariants.{NoMapping as no_mapping};
 ghost use Rattle.request_form.specs.Asked.{asked_of};
-ghost use Rattle.request_form.specs.Command.{refresh as refreshes, search as searches, write as writes};
+ghost use Rattle.request_form.specs.Command.{map_body as maps, refresh as refreshes, search as searches, write as writes};
 ghost use Rattle.request_form.specs.Formed.{IsFormed};
 ghost use Rattle.request_form.specs.Seen.{action_view, operation_view, write_view};
 ghost use Rattle.search_form.specs.Form.{is_search_body};
@@ -29,6 +29,7 @@ use crate::search::search;
 use crate::write::write_tree;
 use index_core::IndexCore;
 use io_edges::Disk;
+use join_ordinals::JoinOrdinals;
 use line_reader::{FirstLine, SourceLine};
 use machine::Limits;
 use mapping::Mapping;
@@ -62,6 +63,8 @@ pub struct Engine {
     reader: JsonReader,
     mapping: Option<Mapping>,
     index: IndexCore,
+    /// Those of the view, kept from one search to the next.
+    ordinals: Option<JoinOrdinals>,
     calls: u64,
 }
 
@@ -86,7 +89,7 @@ impl Model for Engine {
       mapping = engine.mapping;
       index = engine.index;
       calls = engine.calls;
-    }) };
+    }) engine.ordinals };
 }
 
 impl Engine {
@@ -106,6 +109,7 @@ impl Engine {
             reader: JsonReader::new(alloc),
             mapping: None,
             index: IndexCore::over(alloc, View::empty(alloc), 0, limits.objects)?,
+            ordinals: None,
             calls: 0,
         })
     }
@@ -193,13 +197,7 @@ impl Engine {
         ensures room { room_of out.old ≤ room_of out.new }
     {
         match action {
-            Action::Mapping(body) => mapping_line(
-                self.alloc,
-                &mut self.mapping,
-                &mut self.index,
-                &body,
-                out,
-            ),
+            Action::Mapping(body) => self.map(&body, out),
             Action::Write(it) => self.write(it, out, steps),
             Action::Search(body) => self.search(&body, out, steps),
             Action::Refresh => self.refresh(out),
@@ -214,6 +212,19 @@ impl Engine {
             Action::Commit => refuse(Refusal::BadRequest, out),
             Action::Automerge(_) => refuse(Refusal::BadRequest, out),
         }
+    }
+
+    fn map(&mut self, body: &Json, out: &mut OutText) -> Result<Ended, NoMemory>
+        requires { out.old.bytes ≡ [] }
+        ensures answers { (state : State) → IsFaithful self.old state
+            → Answers state (outcome_of state (action_step self.old.limits (maps (view body.now)) state)) (answered_of result) out.new.bytes self.new.mapping self.new.index }
+        ensures stays { IfNotDone (answered_of result) (StaysOrSeals self.old.mapping self.new.mapping self.old.index self.new.index) }
+        ensures limits { self.new.limits ≡ self.old.limits }
+        ensures calls { self.new.calls ≡ self.old.calls }
+        ensures room { room_of out.old ≤ room_of out.new }
+    {
+        self.ordinals = None;
+        mapping_line(self.alloc, &mut self.mapping, &mut self.index, body, out)
     }
 
     #[tactic(auto, using(crate::proofs::Answering::refusal_ends, crate::proofs::Asking::unmapped))]
@@ -233,6 +244,7 @@ impl Engine {
         ensures calls { self.new.calls ≡ self.old.calls }
         ensures room { room_of out.old ≤ room_of out.new }
     {
+        self.ordinals = None; // a write may change the view
         match &mut self.mapping {
             Some(mapping) => write_tree(self.alloc, mapping, &mut self.index, it, out, steps),
             None => without_mapping(it, out),
@@ -262,6 +274,7 @@ impl Engine {
                 &self.limits,
                 mapping,
                 &mut self.index,
+                &mut self.ordinals,
                 body,
                 out,
                 steps,
@@ -280,6 +293,7 @@ impl Engine {
         ensures calls { self.new.calls ≡ self.old.calls }
         ensures room { room_of out.old ≤ room_of out.new }
     {
+        self.ordinals = None;
         match &self.mapping {
             Some(mapping) => refresh(mapping, &mut self.index, out),
             None => refuse(Refusal::NoMapping, out),

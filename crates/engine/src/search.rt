@@ -1,7 +1,9 @@
 //! Searches.
 
-ghost use Rattle.std.specs.Prelude.{◌≡◌, ◌≤◌, ◌+◌, [], true, Option, Some, OnOk, IfOk};
-ghost use Rattle.index_core.specs.Kept.{IndexFits};
+ghost use Rattle.std.specs.Prelude.{◌≡◌, ◌≤◌, ◌+◌, [], true, Option, Some, OnOk, OnErr, IfOk, IfSome};
+ghost use Rattle.index_core.specs.Kept.{IndexFits, layout_kept};
+ghost use Rattle.join_ordinals.specs.Ordinals.{AreOrdinals};
+ghost use Rattle.layout.specs.Layout.{sealed};
 ghost use Rattle.machine.specs.Answer.{outcome_of};
 ghost use Rattle.machine.specs.Searching.{found_by, refusal_of, search_by, search_step, searched, within};
 ghost use Rattle.machine.specs.State.{State, sealed_state};
@@ -13,7 +15,7 @@ ghost use Rattle.tree_json.specs.Output.{room_of};
 ghost use Rattle.tree_json.specs.View.{view};
 ghost use Rattle.engine.specs.Answers.{Answers, answered_by};
 ghost use Rattle.engine.specs.Faithful.{AreFaithful};
-ghost use Rattle.engine.specs.Kept.{IsIndexOf};
+ghost use Rattle.engine.specs.Kept.{IfKept, IsIndexOf};
 ghost use Rattle.engine.specs.Parts.{Leaves, IsRefusedAs, answered_of};
 ghost use Rattle.engine.specs.Reads.{hits_of, page_reads_of};
 ghost use Rattle.search_page.specs.Searched.{page_reads};
@@ -23,6 +25,7 @@ use crate::entries::entries_stand;
 use crate::no_memory::NoMemory;
 use crate::reply::{Ended, refuse};
 use index_core::IndexCore;
+use join_ordinals::JoinOrdinals;
 use machine::Limits;
 use mapping::Mapping;
 use query_ast::SearchBody;
@@ -41,11 +44,13 @@ pub(crate) fn search<L: Ledger>(
     limits: &Limits,
     mapping: &Mapping,
     index: &mut IndexCore,
+    ordinals: &mut Option<JoinOrdinals>,
     body: &Json,
     out: &mut OutText,
     steps: &mut Steps<L>,
 ) -> Result<Ended, NoMemory>
     requires index { IsIndexOf mapping.now index.old }
+    requires ordinals { IfKept index.old ordinals.old }
     requires form { is_search_body (view body.now) ≡ true }
     requires empty { out.old.bytes ≡ [] }
     ensures answers { (state : State) → AreFaithful (Some mapping.now) index.old state
@@ -53,11 +58,12 @@ pub(crate) fn search<L: Ledger>(
     ensures leaves { Leaves (answered_of result) (Some mapping.now) (Some mapping.now) mapping.now index.old index.new }
     ensures reads { (state : State) → AreFaithful (Some mapping.now) index.old state
         → steps.new ≤ steps.old + hits_of (view body.now) (Some mapping.now) state }
+    ensures ordinals { IfKept index.new ordinals.new }
     ensures room { room_of out.old ≤ room_of out.new }
 {
     match search_form::search(body) {
         Ok(shape) => match resolved(alloc, shape, mapping) {
-            Ok(search) => search_over(alloc, limits, mapping, index, &search, out, steps),
+            Ok(search) => search_over(alloc, limits, mapping, index, ordinals, &search, out, steps),
             Err(why) => refuse_search(why, out),
         },
         Err(ShapeRefusal::BadRequest) => unreachable!(),
@@ -94,25 +100,49 @@ fn search_over<L: Ledger>(
     limits: &Limits,
     mapping: &Mapping,
     index: &mut IndexCore,
+    ordinals: &mut Option<JoinOrdinals>,
     search: &SearchBody,
     out: &mut OutText,
     steps: &mut Steps<L>,
 ) -> Result<Ended, NoMemory>
     requires index { IsIndexOf mapping.now index.old }
+    requires ordinals { IfKept index.old ordinals.old }
     requires resolved { IsSearch mapping.now search.now }
     requires empty { out.old.bytes ≡ [] }
     ensures answers { (state : State) → AreFaithful (Some mapping.now) index.old state
         → Answers state (outcome_of state (search_by limits.now mapping.now search.now (sealed_state state))) (answered_of result) out.new.bytes (Some mapping.now) index.new }
     ensures leaves { Leaves (answered_of result) (Some mapping.now) (Some mapping.now) mapping.now index.old index.new }
     ensures reads { (state : State) → AreFaithful (Some mapping.now) index.old state → steps.new ≤ steps.old + page_reads_of mapping.now search.now (searched search.now.pit state) }
+    ensures ordinals { IfKept index.new ordinals.new }
     ensures room { room_of out.old ≤ room_of out.new }
 {
     if search.pit.is_some() {
         return refuse(Refusal::UnknownPit, out);
     }
-    index.seal(mapping)?;
-    let found = found_by(alloc, mapping, index, search, steps)?;
+    seal(mapping, index, ordinals)?;
+    let found = found_by(alloc, mapping, index, ordinals, search, steps)?;
     write_within(limits, &found, out)
+}
+
+/// Seals the index. Where ordinals are kept it is sealed already.
+fn seal(
+    mapping: &Mapping,
+    index: &mut IndexCore,
+    ordinals: &Option<JoinOrdinals>,
+) -> Result<(), NoMemory>
+    requires fits { IndexFits mapping.now index.old }
+    requires ordinals { IfKept index.old ordinals.now }
+    ensures sealed { OnOk result (layout_kept index.new ≡ sealed (layout_kept index.old)) }
+    ensures same { OnErr result (index.new ≡ index.old) }
+    ensures next { index.new.next ≡ index.old.next }
+    ensures objects { index.new.objects ≡ index.old.objects }
+    ensures fits { IndexFits mapping.now index.new }
+    ensures ordinals { IfKept index.new ordinals.now }
+{
+    if ordinals.is_none() {
+        index.seal(mapping)?;
+    }
+    Ok(())
 }
 
 /// What a search finds in a sealed index.
@@ -120,20 +150,22 @@ fn found_by<L: Ledger>(
     alloc: Global,
     mapping: &Mapping,
     index: &IndexCore,
+    ordinals: &mut Option<JoinOrdinals>,
     search: &SearchBody,
     steps: &mut Steps<L>,
 ) -> Result<Reply, NoMemory>
     requires fits { IndexFits mapping.now index.now }
+    requires ordinals { IfSome ordinals.old (AreOrdinals index.now.entries) }
     requires resolved { IsSearch mapping.now search.now }
     ensures done { IfOk result (λ reply. answered_by reply ≡ Answered.Written) }
     ensures found { (state : State) → AreFaithful (Some mapping.now) index.now state → index.now.buffer ≡ [] → IfOk result (λ reply. reply ≡ found_by mapping.now state.content.live search.now) }
     ensures reads { (state : State) → AreFaithful (Some mapping.now) index.now state → index.now.buffer ≡ [] → steps.new ≤ steps.old + page_reads (hit_page mapping.now state.content.live search.now) }
+    ensures ordinals { IfSome ordinals.new (AreOrdinals index.now.entries) }
 {
     let _scopes = mapping.scope_count();
     let view = index.view();
     entries_stand(view.entries());
-    let mut ordinals = None;
-    let hits = found(alloc, view, mapping, search, &mut ordinals, steps)?;
+    let hits = found(alloc, view, mapping, search, ordinals, steps)?;
     let SearchResult { page, answers } = hits;
     Ok(Reply::Found { page, answers })
 }

@@ -1,7 +1,9 @@
-use Rattle.std.proofs.Common.{◌≡◌, ◌≤◌, ◌+◌, List, map, ap, subst, sym, ◌∙◌}
+use Rattle.std.proofs.Common.{◌≤◌, ◌+◌, List, map, ap, subst, sym, ◌∙◌}
+use Rattle.std.specs.Prelude.{IfSome}
 use Rattle.flattener.specs.Fits.{ViewFits}
 use Rattle.flattener.specs.StandsFor.{ViewStandsFor}
 use Rattle.index_core.specs.Kept.{layout_kept}
+use Rattle.join_ordinals.specs.Ordinals.{AreOrdinals}
 use Rattle.query_ast.specs.Search.{hit_page}
 use Rattle.search_page.specs.Searched.{AreSearched, page_reads}
 use Rattle.segment.specs.Live.{EntryState}
@@ -45,3 +47,12 @@ returns-in_err-hits-clause-reads g c = λ state f buffer.
     (c.entries_stand.ensures m trees c.scope_count-scopes.ensures.is_mapping (ap (map blocks_in) (c.entries.ensures.entries ∙ c.view-view.ensures.view) ∙ blocks_same m index state.layout f.stands)) in
     subst (λ (live : List Tree). c.found.new.steps ≤ c.args.steps.now + page_reads (hit_page m live c.args.search.now)) (live_same m index state f buffer)
     (c.in_err-hits.ensures.reads trees (are_searched m index state f c.view-view.result.now buffer stands))
+
+pub found-requires-clause-ordinals : goal.found-requires-clause-ordinals
+found-requires-clause-ordinals g c = subst (λ (entries : List EntryState). IfSome c.args.ordinals.now (AreOrdinals entries)) (sym c.view-view.ensures.view) c.requires.ordinals
+
+pub returns-clause-ordinals : goal.returns-clause-ordinals
+returns-clause-ordinals g c = subst (λ (entries : List EntryState). IfSome c.found.new.ordinals (AreOrdinals entries)) c.view-view.ensures.view c.in_ok-hits.ensures.ordinals
+
+pub returns-in_err-hits-clause-ordinals : goal.returns-in_err-hits-clause-ordinals
+returns-in_err-hits-clause-ordinals g c = subst (λ (entries : List EntryState). IfSome c.found.new.ordinals (AreOrdinals entries)) c.view-view.ensures.view c.in_err-hits.ensures.ordinals

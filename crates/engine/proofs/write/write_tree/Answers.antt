@@ -1,4 +1,4 @@
-use Rattle.std.proofs.Common.{◌≡◌, ℕ, List, Option, Some, None, ap, option_map, subst, sym, ◌∙◌}
+use Rattle.std.proofs.Common.{ℕ, List, Some, ap, option_map, subst, sym, ◌∙◌}
 use Rattle.index_core.specs.Kept.{block_number, live_block}
 use Rattle.machine.specs.Answer.{Answer, outcome_of}
 use Rattle.machine.specs.Write.{change_or_nothing, live_tree, write_step}
