@@ -151,6 +151,12 @@ automerge_row : session (asks_for (automerge (Some 2)) ∷ three ++ (shows ∷ p
 unfolding block_objects sealed with_change automerge_step
 automerge_row = refl
 
+-- they are so as soon as there is a factor: what is taken out afterwards is dead in the segment that was made
+factor_row : session (three ++ (asks_for (automerge (Some 2)) ∷ take_out a ∷ shows ∷ []))
+    ≡ three_refreshed ++ (told (reply.AutoMerge 2) ∷ told (reply.Layout [] (segment 1 0 2 2 ∷ [])) ∷ [])
+unfolding block_objects sealed with_change automerge_step
+factor_row = refl
+
 -- sixteen merges may be open, of seventeen segments of one tree
 abbrev one_more : ℕ → List Line
 one_more id = put (id ∷ []) ∷ asks_for refresh ∷ []
