@@ -153,15 +153,21 @@ action_alike layout kept limits refresh state hides =
     mapped_alike state.content.mapping (λ m. refresh_step m (sealed_state state)) (λ m. refresh_step m (sealed_state (elsewhere layout kept state)))
     (λ m. (refl, record { content = refl; points = refl }))
 action_alike layout kept limits segments state hides = absurd (true≢false hides)
-action_alike layout kept limits open_pit state hides = refl
-action_alike layout kept limits (close_pit id) state hides = refl
+action_alike layout kept limits open_pit state hides =
+    mapped_alike state.content.mapping (λ m. open_step m (sealed_state state)) (λ m. open_step m (sealed_state (elsewhere layout kept state)))
+    (λ m. open_alike (sealed layout) kept m (sealed_state state))
+action_alike layout kept limits (close_pit id) state hides =
+    mapped_alike state.content.mapping (λ m. close_step id m (sealed_state state)) (λ m. close_step id m (sealed_state (elsewhere layout kept state)))
+    (λ m. close_alike (sealed layout) kept id m (sealed_state state))
 action_alike layout kept limits (force_merge most) state hides = absurd (true≢false hides)
 action_alike layout kept limits (start_merge from count) state hides = absurd (true≢false hides)
 action_alike layout kept limits (advance_merge id roots) state hides = absurd (true≢false hides)
 action_alike layout kept limits (finish_merge id) state hides = absurd (true≢false hides)
 action_alike layout kept limits (abort_merge id) state hides = absurd (true≢false hides)
 action_alike layout kept limits commit state hides = refl
-action_alike layout kept limits (automerge factor) state hides = refl
+action_alike layout kept limits (automerge factor) state hides =
+    mapped_alike state.content.mapping (λ m. automerge_step factor m state) (λ m. automerge_step factor m (elsewhere layout kept state))
+    (λ m. automerge_alike layout kept factor m state)
 
 asked_alike : (layout : Layout Tree) (kept : Kept) (limits : Limits) (asked : Asked) (state : State) → asks_so shows_layout asked ≡ false
     → Alike (asked_step limits asked state) (asked_step limits asked (elsewhere layout kept state))

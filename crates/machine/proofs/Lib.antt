@@ -1,8 +1,9 @@
 -- What stays true of states: the layout keeps the live trees, these stay numbered, points in time keep theirs. Merge commands on
--- layouts of any items. What doesn't depend on the layout.
+-- layouts of any items. What doesn't depend on the layout. Worked runs.
 pub mod Merged
 pub mod Steps
 pub mod Laid
 pub mod Numbered
 pub mod Pointed
 pub mod Beside
+mod Rows

@@ -148,16 +148,23 @@ layout_so P limits (map_body body) state is laid so = absurd (true≢false (sym 
 layout_so P limits (write it) state is laid so = absurd (true≢false (sym is))
 layout_so P limits (search body) state is laid so = absurd (true≢false (sym is))
 layout_so P limits refresh state is laid so = absurd (true≢false (sym is))
-layout_so P limits segments state is laid so = tt
+layout_so P limits segments state is laid so =
+    mapped_so P state.content.mapping (λ m. segments_step limits m (sealed_state state)) (λ m. segments_so P limits m (sealed_state state) (laid.sealed state so))
 layout_so P limits open_pit state is laid so = absurd (true≢false (sym is))
 layout_so P limits (close_pit id) state is laid so = absurd (true≢false (sym is))
-layout_so P limits (force_merge most) state is laid so = tt
-layout_so P limits (start_merge from count) state is laid so = tt
-layout_so P limits (advance_merge id roots) state is laid so = tt
-layout_so P limits (finish_merge id) state is laid so = tt
-layout_so P limits (abort_merge id) state is laid so = tt
+layout_so P limits (force_merge most) state is laid so =
+    mapped_so P state.content.mapping (λ m. merge_step (Force most) m (sealed_state state)) (λ m. command_so P (Force most) m (sealed_state state) laid (laid.sealed state so))
+layout_so P limits (start_merge from count) state is laid so =
+    mapped_so P state.content.mapping (λ m. merge_step (Start from count) m (sealed_state state)) (λ m. command_so P (Start from count) m (sealed_state state) laid (laid.sealed state so))
+layout_so P limits (advance_merge id roots) state is laid so =
+    mapped_so P state.content.mapping (λ m. merge_step (Advance id roots) m (sealed_state state)) (λ m. command_so P (Advance id roots) m (sealed_state state) laid (laid.sealed state so))
+layout_so P limits (finish_merge id) state is laid so =
+    mapped_so P state.content.mapping (λ m. merge_step (Finish id) m (sealed_state state)) (λ m. command_so P (Finish id) m (sealed_state state) laid (laid.sealed state so))
+layout_so P limits (abort_merge id) state is laid so =
+    mapped_so P state.content.mapping (λ m. merge_step (Abort id) m (sealed_state state)) (λ m. command_so P (Abort id) m (sealed_state state) laid (laid.sealed state so))
 layout_so P limits commit state is laid so = absurd (true≢false (sym is))
-layout_so P limits (automerge factor) state is laid so = tt
+layout_so P limits (automerge factor) state is laid so =
+    mapped_so P state.content.mapping (λ m. automerge_step factor m state) (λ m. automerge_so P factor m state laid so)
 
 action_so : (P : State → Type 0) (limits : Limits) (action : Action) (state : State) → Stays P (asks action) → P state → After P (action_step limits action state)
 action_so P limits (map_body body) state stays so = line_so P (asks (map_body body)) body (sealed_state state) stays (stays.laid.sealed state so)
@@ -166,8 +173,10 @@ action_so P limits (search body) state stays so =
     mapped_so P state.content.mapping (λ m. search_step limits body m (sealed_state state)) (λ m. search_so P limits body m (sealed_state state) (stays.laid.sealed state so))
 action_so P limits refresh state stays so = mapped_so P state.content.mapping (λ m. refresh_step m (sealed_state state)) (λ m. stays.laid.sealed state so)
 action_so P limits segments state stays so = layout_so P limits segments state refl stays.laid so
-action_so P limits open_pit state stays so = tt
-action_so P limits (close_pit id) state stays so = tt
+action_so P limits open_pit state stays so =
+    mapped_so P state.content.mapping (λ m. open_step m (sealed_state state)) (λ m. open_so P (asks open_pit) m (sealed_state state) stays refl (stays.laid.sealed state so))
+action_so P limits (close_pit id) state stays so =
+    mapped_so P state.content.mapping (λ m. close_step id m (sealed_state state)) (λ m. close_so P (asks (close_pit id)) id m (sealed_state state) stays refl (stays.laid.sealed state so))
 action_so P limits (force_merge most) state stays so = layout_so P limits (force_merge most) state refl stays.laid so
 action_so P limits (start_merge from count) state stays so = layout_so P limits (start_merge from count) state refl stays.laid so
 action_so P limits (advance_merge id roots) state stays so = layout_so P limits (advance_merge id roots) state refl stays.laid so

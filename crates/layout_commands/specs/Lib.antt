@@ -1,0 +1,2 @@
+-- To be believed: how commands end.
+pub mod Ends
