@@ -1,6 +1,8 @@
--- Every write that is asked for has an id, and its sources are objects; every search that is asked for has a search body.
-use Rattle.std.proofs.Common.{◌≡◌, ◌≤◌, ◌<◌, ℕ, zero, suc, ◌/◌, ◌%◌, ◌==◌, pos, negsuc, true, false, Bool, not, cond, List, [], ◌∷◌, length, codes, decimal, Option, Some, None, is_some, IfSome, option_and_then, option_map, unwrap_or, refl, ap, subst, arith}
+-- Every write that is asked for has an id, and its sources are objects; every search that is asked for has a search body; a merge
+-- at once leaves a segment or more, and factors are from 2 to 10.
+use Rattle.std.proofs.Common.{◌≡◌, ◌≤◌, ◌<◌, ℕ, zero, suc, ◌/◌, ◌%◌, ◌==◌, pos, negsuc, true, false, Bool, not, cond, List, [], ◌∷◌, length, codes, decimal, Option, Some, None, is_some, IfSome, option_and_then, option_map, unwrap_or, refl, sym, ap, subst, nat_le, if◌then◌else◌, arith}
 use Rattle.std.proofs.lemmas.Bool.{and_parts}
+use Rattle.std.proofs.lemmas.Bool.Decides.{nat_tests}
 use Rattle.std.proofs.lemmas.Slice.Eq.{bytes_eq-Decides}
 use Rattle.std.specs.Fmt.{digits, digits_onto, digit_glyph}
 use Rattle.std.specs.Str.{bytes_eq}
@@ -12,12 +14,12 @@ use Rattle.request_form.specs.declared.form.Form.{Form}
 use Rattle.request_form.specs.declared.form.Name.{Name}
 use Rattle.request_form.specs.declared.form.Presence.{Presence}
 use Rattle.request_form.specs.Asked.{Asked, asked_in, asked_by, asked_of, asks, refused, asks_or_bad, sourced, operation_of, update_in, changes_of, is_at_odds, SourceValue, no_value, is_value, value_in, value_of}
-use Rattle.request_form.specs.Command.{Target, Write, Action, Operation, index, create, update, delete, Command, alone, indexes, creates, updates, if_formed, id_by, id_in, target_of, part_of, part_in, command_by, command_under, command_named, command_in, command_of, name_among}
+use Rattle.request_form.specs.Command.{Target, Write, Action, Operation, index, create, update, delete, Command, alone, indexes, creates, updates, if_formed, id_by, id_in, flag_in, number_by, number_or, target_of, part_of, part_in, command_by, command_under, command_named, command_in, command_of, name_among}
 use Rattle.request_form.specs.Command as asked
 use Rattle.request_form.specs.Form.{are_taken, is_taken, has_required, has_lines, members_in, single_of}
-use Rattle.request_form.specs.Formed.{IsFormed, HasSources, IsSourceValue}
+use Rattle.request_form.specs.Formed.{IsFactor, IsFormed, HasSources, IsSourceValue}
 use Rattle.search_form.specs.Form.{is_search_body}
-use Rattle.request_form.specs.Table.{names, is_id, create_lines, write_lines, update_lines}
+use Rattle.request_form.specs.Table.{names, is_between, is_from, is_id, automerge_lines, create_lines, force_merge_lines, write_lines, update_lines}
 
 -- ---- what comes out of an option
 
@@ -87,11 +89,56 @@ create_id ms h =
     let id = member_of ms (codes "_id") in
     id_named id (and_parts (is_some id) true p.0).0 (λ v there. taken_at create_lines ms (codes "_id") v p.1 there)
 
+-- ---- numbers
+
+positive_by : (v : JsonValue) → is_from (pos 1) v ≡ true → 0 < unwrap_or (number_by v) 1
+positive_by null h = absurd (cc)
+positive_by (bool b) h = absurd (cc)
+positive_by (whole (pos n)) h = grind (arith, nat_tests)
+positive_by (whole (negsuc n)) h = absurd (cc)
+positive_by (text s) h = absurd (cc)
+positive_by (list ds) h = absurd (cc)
+positive_by (object ms) h = absurd (cc)
+
+positive_in : (o : Option JsonValue) → ((v : JsonValue) → o ≡ Some v → is_from (pos 1) v ≡ true) → 0 < unwrap_or (option_and_then number_by o) 1
+positive_in None all = omega arith
+positive_in (Some v) all = positive_by v (all v refl)
+
+most_positive : (ms : Members) → has_lines force_merge_lines ms ≡ true → 0 < number_or 1 ms (codes "max_num_segments")
+most_positive ms h =
+    let p = and_parts (has_required force_merge_lines ms) (are_taken force_merge_lines ms) h in
+    positive_in (member_of ms (codes "max_num_segments")) (λ v there. taken_at force_merge_lines ms (codes "max_num_segments") v p.1 there)
+
+factor_by : (v : JsonValue) → is_between (pos 2) (pos 10) v ≡ true → IsFactor (unwrap_or (number_by v) 2)
+factor_by null h = absurd (cc)
+factor_by (bool b) h = absurd (cc)
+factor_by (whole (pos n)) h = let p = and_parts (nat_le 2 n) (nat_le n 10) h in (grind (arith, nat_tests), grind (arith, nat_tests))
+factor_by (whole (negsuc n)) h = absurd (cc)
+factor_by (text s) h = absurd (cc)
+factor_by (list ds) h = absurd (cc)
+factor_by (object ms) h = absurd (cc)
+
+factor_in : (o : Option JsonValue) → ((v : JsonValue) → o ≡ Some v → is_between (pos 2) (pos 10) v ≡ true) → IsFactor (unwrap_or (option_and_then number_by o) 2)
+factor_in None all = (omega arith, omega arith)
+factor_in (Some v) all = factor_by v (all v refl)
+
+factor_if : (on : Bool) (factor : ℕ) → IsFactor factor → IfSome (cond on (Some factor) None) IsFactor
+factor_if true factor is = is
+factor_if false factor is = tt
+
+factor_formed : (ms : Members) → has_lines automerge_lines ms ≡ true → IfSome (if flag_in (member_of ms (codes "on")) then Some (number_or 2 ms (codes "factor")) else None) IsFactor
+factor_formed ms h =
+    let p = and_parts (has_required automerge_lines ms) (are_taken automerge_lines ms) h in
+    factor_if (flag_in (member_of ms (codes "on"))) (number_or 2 ms (codes "factor"))
+    (factor_in (member_of ms (codes "factor")) (λ v there. taken_at automerge_lines ms (codes "factor") v p.1 there))
+
 -- ---- commands
 
 abbrev ActionIsFormed : Action → Type 0
 ActionIsFormed (asked.write it) = IsFormed it
 ActionIsFormed (asked.search body) = is_search_body body ≡ true
+ActionIsFormed (asked.force_merge most) = 0 < most
+ActionIsFormed (asked.automerge factor) = IfSome factor IsFactor
 ActionIsFormed action = Unit {0}
 
 abbrev CommandIsFormed : Command → Type 0
@@ -130,10 +177,10 @@ by_name Name.Refresh ms c e = subst CommandIsFormed (formed_if _ _ c e).1 tt
 by_name Name.Segments ms c e = subst CommandIsFormed (formed_if _ _ c e).1 tt
 by_name Name.OpenPit ms c e = subst CommandIsFormed (formed_if _ _ c e).1 tt
 by_name Name.ClosePit ms c e = subst CommandIsFormed (formed_if _ _ c e).1 tt
-by_name Name.ForceMerge ms c e = subst CommandIsFormed (formed_if _ _ c e).1 tt
+by_name Name.ForceMerge ms c e = let f = formed_if _ _ c e in subst CommandIsFormed f.1 (most_positive ms f.0)
 by_name Name.Merge ms c e = let m = mapped_of alone (part_in (single_of ms)) c e in subst CommandIsFormed m.2 (merge_formed (single_of ms) m.0 m.1)
 by_name Name.Commit ms c e = subst CommandIsFormed (formed_if _ _ c e).1 tt
-by_name Name.Automerge ms c e = subst CommandIsFormed (formed_if _ _ c e).1 tt
+by_name Name.Automerge ms c e = let f = formed_if _ _ c e in subst CommandIsFormed f.1 (factor_formed ms f.0)
 
 under_formed : (ms : Members) (name : Option Name) (c : Command) → command_under ms name ≡ Some c → CommandIsFormed c
 under_formed ms None c e = absurd (cc)
@@ -249,29 +296,42 @@ unfolding asked_of
 asked_formed few too_long source it e = absurd (cc)
 asked_formed few (in_full bytes) source it e = in_formed_line few (reading bytes) source it e
 
--- ---- searches
+-- ---- what is no write
 
-not_written : (o : Option Operation) (target : Target) (body : JsonValue) → asks_or_bad o target ≡ asks (asked.search body) → ⊥
-not_written None target body e = cc
-not_written (Some op) target body e = cc
+abbrev IsNoWrite : Action → Type 0
+IsNoWrite (asked.write it) = ⊥
+IsNoWrite action = Unit {0}
 
-not_sourced : (command : Command) (target : Target) (source : SourceValue) (body : JsonValue) → sourced command target source ≡ asks (asked.search body) → ⊥
-not_sourced command target (no_value why) body e = cc
-not_sourced command target (is_value v) body e = not_written (operation_of command v) target body e
+not_written : (o : Option Operation) (target : Target) (action : Action) → IsNoWrite action → asks_or_bad o target ≡ asks action → ⊥
+not_written None target action none e = cc
+not_written (Some op) target action none e = subst IsNoWrite (sym (ap (action_in action) e)) none
 
-search_by : (c : Option Command) (source : SourceLine) (body : JsonValue) → IfSome c CommandIsFormed → asked_by c source ≡ asks (asked.search body) → is_search_body body ≡ true
-search_by None source body formed e = absurd (cc)
-search_by (Some (alone action)) source body formed e = subst ActionIsFormed (ap (action_in action) e) formed
-search_by (Some (indexes target)) source body formed e = absurd (not_sourced (indexes target) target (value_of source) body e)
-search_by (Some (creates target)) source body formed e = absurd (not_sourced (creates target) target (value_of source) body e)
-search_by (Some (updates target)) source body formed e = absurd (not_sourced (updates target) target (value_of source) body e)
+not_sourced : (command : Command) (target : Target) (source : SourceValue) (action : Action) → IsNoWrite action → sourced command target source ≡ asks action → ⊥
+not_sourced command target (no_value why) action none e = cc
+not_sourced command target (is_value v) action none e = not_written (operation_of command v) target action none e
 
-search_in : (line : Reading) (source : SourceLine) (body : JsonValue) → asked_in line source ≡ asks (asked.search body) → is_search_body body ≡ true
-search_in bad_json source body e = absurd (cc)
-search_in fraction source body e = absurd (cc)
-search_in (value v) source body e = search_by (command_of v) source body (command_formed v (command_of v) refl) e
+alone_by : (c : Option Command) (source : SourceLine) (action : Action) → IsNoWrite action → IfSome c CommandIsFormed → asked_by c source ≡ asks action → ActionIsFormed action
+alone_by None source action none formed e = absurd (cc)
+alone_by (Some (alone own)) source action none formed e = subst ActionIsFormed (ap (action_in own) e) formed
+alone_by (Some (indexes target)) source action none formed e = absurd (not_sourced (indexes target) target (value_of source) action none e)
+alone_by (Some (creates target)) source action none formed e = absurd (not_sourced (creates target) target (value_of source) action none e)
+alone_by (Some (updates target)) source action none formed e = absurd (not_sourced (updates target) target (value_of source) action none e)
+
+alone_in : (line : Reading) (source : SourceLine) (action : Action) → IsNoWrite action → asked_in line source ≡ asks action → ActionIsFormed action
+alone_in bad_json source action none e = absurd (cc)
+alone_in fraction source action none e = absurd (cc)
+alone_in (value v) source action none e = alone_by (command_of v) source action none (command_formed v (command_of v) refl) e
+
+asked_alone : (first : ReadLine) (source : SourceLine) (action : Action) → IsNoWrite action → asked_of first source ≡ asks action → ActionIsFormed action
+unfolding asked_of
+asked_alone too_long source action none e = absurd (cc)
+asked_alone (in_full bytes) source action none e = alone_in (reading bytes) source action none e
 
 pub asked_search : (first : ReadLine) (source : SourceLine) (body : JsonValue) → asked_of first source ≡ asks (asked.search body) → is_search_body body ≡ true
-unfolding asked_of
-asked_search too_long source body e = absurd (cc)
-asked_search (in_full bytes) source body e = search_in (reading bytes) source body e
+asked_search first source body e = asked_alone first source (asked.search body) tt e
+
+pub asked_force : (first : ReadLine) (source : SourceLine) (most : ℕ) → asked_of first source ≡ asks (asked.force_merge most) → 0 < most
+asked_force first source most e = asked_alone first source (asked.force_merge most) tt e
+
+pub asked_factor : (first : ReadLine) (source : SourceLine) (factor : ℕ) → asked_of first source ≡ asks (asked.automerge (Some factor)) → IsFactor factor
+asked_factor first source factor e = asked_alone first source (asked.automerge (Some factor)) tt e

@@ -1,6 +1,6 @@
 -- What holds of every write that is asked for: its id has a byte or more, and its sources are objects that nest no deeper
--- than what is read.
-use Rattle.std.specs.Prelude.{◌≡◌, ◌≤◌, true, length, IfSome}
+-- than what is read. And what holds of every factor by which segments are to be merged.
+use Rattle.std.specs.Prelude.{◌≡◌, ◌≤◌, ℕ, true, length, IfSome}
 use Rattle.tree_json.specs.Levels.{levels, most_levels}
 use Rattle.tree_json.specs.Value.{JsonValue, is_object}
 use Rattle.request_form.specs.Command.{Operation, index, create, update, delete, Write}
@@ -17,3 +17,6 @@ HasSources delete = Unit {0}
 pub record IsFormed (it : Write) : Type 0 where
   pub id : 1 ≤ length it.target.id
   pub sources : HasSources it.operation
+
+abbrev pub IsFactor : ℕ → Type 0
+IsFactor factor = (2 ≤ factor) × (factor ≤ 10)

@@ -1,9 +1,9 @@
 //! Laws of requests, as the contracts of functions that do nothing.
-ghost use Rattle.std.specs.Prelude.{◌≡◌, true};
+ghost use Rattle.std.specs.Prelude.{◌≡◌, ◌<◌, ℕ, true, Some};
 ghost use Rattle.line_reader.specs.Request.{ReadLine, SourceLine};
 ghost use Rattle.request_form.specs.Asked.{asked_of, asks};
-ghost use Rattle.request_form.specs.Command.{Write, search, write};
-ghost use Rattle.request_form.specs.Formed.{IsFormed};
+ghost use Rattle.request_form.specs.Command.{Write, automerge, force_merge, search, write};
+ghost use Rattle.request_form.specs.Formed.{IsFactor, IsFormed};
 ghost use Rattle.search_form.specs.Form.{is_search_body};
 ghost use Rattle.tree_json.specs.Value.{JsonValue};
 
@@ -19,4 +19,10 @@ pub fn writes_are_formed()
 /// A search that is asked for has the form of a search body.
 pub fn searches_are_formed()
     ensures { (first : ReadLine) (source : SourceLine) (body : JsonValue) → asked_of first source ≡ asks (search body) → is_search_body body ≡ true }
+{}
+
+/// A merge at once that is asked for leaves a segment or more, and a factor is from 2 to 10.
+pub fn merges_are_formed()
+    ensures forced { (first : ReadLine) (source : SourceLine) (most : ℕ) → asked_of first source ≡ asks (force_merge most) → 0 < most }
+    ensures factor { (first : ReadLine) (source : SourceLine) (factor : ℕ) → asked_of first source ≡ asks (automerge (Some factor)) → IsFactor factor }
 {}
