@@ -1,5 +1,5 @@
 -- How writes end, by what became of the change.
-use Rattle.std.proofs.Common.{◌≡◌, true, false, ℕ, List, [], ◌∷◌, Option, Some, None, Result, Ok, Err, option_map, unwrap_or, refl, sym, ap, subst, inl, Bool, ◌∙◌}
+use Rattle.std.proofs.Common.{◌≡◌, true, false, ℕ, List, [], ◌∷◌, Option, Some, None, Result, Ok, Err, option_map, unwrap_or, refl, sym, ap, subst, inl, inr, Bool, ◌∙◌}
 use Rattle.std.proofs.lemmas.List.Elements.{All-cons, All-nil}
 use Rattle.std.specs.List.{All}
 use Rattle.flattener.specs.Block.{BlockState, root_of_tree}
@@ -13,6 +13,7 @@ use Rattle.machine.specs.Answer.{first_of, outcome_of}
 use Rattle.machine.specs.State.{State}
 use Rattle.machine.specs.Write.{added_body, put_result, put_source}
 use Rattle.machine.specs.declared.limits.Limits.{Limits}
+use Rattle.mapping.specs.Growth.{HasFurtherBodies}
 use Rattle.mapping.specs.IsMapping.{IsMapping}
 use Rattle.mapping.specs.Mapping.{Mapping}
 use Rattle.reply_text.specs.Text.{reply_text}
@@ -22,10 +23,9 @@ use Rattle.tree_json.specs.Value.{JsonValue}
 use Rattle.tree_objects.specs.Tree.{Tree}
 use Rattle.write_plan.specs.Planned.{IsPlanned, refusals_of}
 use Rattle.write_plan.specs.declared.plan.Plan.{Plan}
-use Rattle.engine.specs.Answers.{Answers}
 use Rattle.engine.specs.Faithful.{AreFaithful}
 use Rattle.engine.specs.Kept.{HasValue, IsIndexOf}
-use Rattle.engine.specs.Parts.{IsChanged, Leaves, answered_of, delete_step, mapping_put}
+use Rattle.engine.specs.Parts.{Ends, Grows, IsChanged, Leaves, answered_of, delete_step, mapping_put}
 use Rattle.engine.specs.declared.engine.Answered.TheVariants as answered
 use Rattle.engine.specs.declared.no_memory.NoMemory as memory
 use Rattle.engine.specs.declared.reply.Ended.{Ended}
@@ -42,15 +42,15 @@ pub put_ends : SameBlocks → (limits : Limits) (m m' : Mapping) (id : List ℕ)
     (result : Result Ended memory.NoMemory) (out out' : List ℕ) → IsMapping m → index.objects ≡ limits.objects → AreFaithful (Some m) index state → IsPlanned m id source index.next plan
     → first_of (refusals_of m id source index.next) ≡ None → IsChanged result (Put plan.block) index index' out out' → m' ≡ mapping_put result m plan.grown
     → out ≡ reply_text (reply.Written id index.next (put_result tree))
-    → Answers state (outcome_of state (put_source limits m id source (added_body m source) tree state)) (answered_of result) out' (Some m') index'
+    → Ends state (outcome_of state (put_source limits m id source (added_body m source) tree state)) (answered_of result) out' (Some m') index'
 put_ends same limits m m' id source plan tree index index' state (Ok Accepted) out out' is most f p first changed grown text =
     put_made same limits m m' id source plan tree index index' state out' is most f p first changed.0 grown (changed.1 ∙ text)
 put_ends same limits m m' id source plan tree index index' state (Ok Refused) out out' is most f p first changed grown text =
-    subst (λ (it : Mapping). Answers state (outcome_of state (put_source limits m id source (added_body m source) tree state)) answered.Refused out' (Some it) index') (sym grown)
-    (subst (λ (at : IndexState). Answers state (outcome_of state (put_source limits m id source (added_body m source) tree state)) answered.Refused out' (Some m) at) (sym changed.same)
+    subst (λ (it : Mapping). Ends state (outcome_of state (put_source limits m id source (added_body m source) tree state)) answered.Refused out' (Some it) index') (sym grown)
+    (subst (λ (at : IndexState). Ends state (outcome_of state (put_source limits m id source (added_body m source) tree state)) answered.Refused out' (Some m) at) (sym changed.same)
     (put_full same limits m id source plan tree index state out' is most f p first changed.full changed.text))
 put_ends same limits m m' id source plan tree index index' state (Err none) out out' is most f p first changed grown text =
-    subst (λ (it : Mapping). Answers state (outcome_of state (put_source limits m id source (added_body m source) tree state)) answered.NoMemory out' (Some it) index') (sym grown)
+    subst (λ (it : Mapping). Ends state (outcome_of state (put_source limits m id source (added_body m source) tree state)) answered.NoMemory out' (Some it) index') (sym grown)
     (lacking_room m index index' state _ out' f changed.next (stays_or_seals (layout_kept index) (layout_kept index') changed.layout))
 
 pub put_leaves : (m m' : Mapping) (id : List ℕ) (source : JsonValue) (plan : Plan) (index index' : IndexState) (result : Result Ended memory.NoMemory) (out out' : List ℕ) → IsMapping m → IsIndexOf m index
@@ -72,15 +72,23 @@ put_leaves m m' id source plan index index' (Err none) out out' is index_of p ch
     subst (λ (it : Mapping). Leaves answered.NoMemory (Some m) (Some it) it index index') (sym grown)
     (leaves_sealed answered.NoMemory m index index' index_of (changed.fits m is index_of.fits) changed.next objects (stays_or_seals (layout_kept index) (layout_kept index') changed.layout))
 
+pub put_grows : (m m' : Mapping) (id : List ℕ) (source : JsonValue) (number : ℕ) (plan : Plan) (result : Result Ended memory.NoMemory) → IsMapping m → IsPlanned m id source number plan
+    → m' ≡ mapping_put result m plan.grown → Grows m m'
+put_grows m m' id source number plan (Ok Accepted) is p grown =
+    let same = sym (grown ∙ p.grown) in
+    inr (record { before = is; after = subst IsMapping same p.later.mapping; further = subst (HasFurtherBodies m) same p.later.further })
+put_grows m m' id source number plan (Ok Refused) is p grown = inl grown
+put_grows m m' id source number plan (Err none) is p grown = inl grown
+
 -- ---- a tree that is taken out
 
 pub take_ends : (limits : Limits) (m : Mapping) (id : List ℕ) (index index' : IndexState) (state : State) (number : ℕ) (result : Result Ended memory.NoMemory) (out out' : List ℕ)
     → index.objects ≡ limits.objects → AreFaithful (Some m) index state → Some number ≡ option_map block_number (live_block id index) → IsChanged result (Take id) index index' out out'
-    → out ≡ reply_text (reply.Written id index.next Deleted) → Answers state (outcome_of state (delete_step limits m id state)) (answered_of result) out' (Some m) index'
+    → out ≡ reply_text (reply.Written id index.next Deleted) → Ends state (outcome_of state (delete_step limits m id state)) (answered_of result) out' (Some m) index'
 take_ends limits m id index index' state number (Ok Accepted) out out' most f some changed text =
     take_made limits m id index index' state number out' most f some changed.0 (changed.1 ∙ text)
 take_ends limits m id index index' state number (Ok Refused) out out' most f some changed text =
-    subst (λ (at : IndexState). Answers state (outcome_of state (delete_step limits m id state)) answered.Refused out' (Some m) at) (sym changed.same)
+    subst (λ (at : IndexState). Ends state (outcome_of state (delete_step limits m id state)) answered.Refused out' (Some m) at) (sym changed.same)
     (take_full limits m id index state number out' most f some changed.full changed.text)
 take_ends limits m id index index' state number (Err none) out out' most f some changed text =
     lacking_room m index index' state _ out' f changed.next (stays_or_seals (layout_kept index) (layout_kept index') changed.layout)

@@ -4,11 +4,11 @@ use Rattle.std.proofs.lemmas.List.{map-append}
 use Rattle.std.specs.List.{AllByRecursion, flat_map}
 use Rattle.flattener.specs.Block.{BlockState}
 use Rattle.flattener.specs.StandsFor.{EntryStandsFor, Marked, ViewStandsFor}
-use Rattle.index_core.specs.Kept.{IndexState, laid, layout_kept, segment_kept}
+use Rattle.index_core.specs.Kept.{IndexState, layout_kept, segment_kept}
 use Rattle.layout.specs.As.{marked_as, segment_as}
 use Rattle.layout.specs.Layout.{Layout, SegmentOf, is_live, item_in, live_in, sealed}
-use Rattle.machine.specs.Answer.{answers, outcome_of, refused_if, refuses}
-use Rattle.machine.specs.Searching.{refusal_of, body_refusal, found_by, search_by, search_over, search_step, searched, within}
+use Rattle.machine.specs.Answer.{outcome_of, refused_if, refuses}
+use Rattle.machine.specs.Searching.{refusal_of, body_refusal, found_by, search_by, search_over, search_step, within}
 use Rattle.machine.specs.State.{State, sealed_state}
 use Rattle.machine.specs.declared.limits.Limits.{Limits}
 use Rattle.mapping.specs.IsMapping.{IsMapping}
@@ -22,7 +22,6 @@ use Rattle.query_eval.specs.Found.{live_trees as found_trees}
 use Rattle.query_parser.specs.Search.{search_of}
 use Rattle.reply_text.specs.Text.{reply_text}
 use Rattle.reply_text.specs.declared.refusal.Refusal.{Refusal}
-use Rattle.reply_text.specs.declared.refusal.Refusal.TheVariants as why
 use Rattle.reply_text.specs.declared.reply.Reply.{Reply}
 use Rattle.reply_text.specs.declared.reply.Reply.TheVariants as reply
 use Rattle.search_walk.specs.Refusal.{first_refusal}
@@ -31,12 +30,11 @@ use Rattle.search_walk.specs.declared.refusal.SearchRefusal.TheVariants as body
 use Rattle.segment.specs.Live.{EntryState}
 use Rattle.segment_builder.specs.Blocks.{block_of_marked, blocks_in}
 use Rattle.tree_json.specs.Value.{JsonValue}
-use Rattle.search_page.specs.Searched.{AreSearched, page_reads}
+use Rattle.search_page.specs.Searched.{AreSearched}
 use Rattle.tree_objects.specs.Tree.{IsLiveList, Tree}
-use Rattle.engine.specs.Answers.{Answers, answered_by, reply_bytes}
-use Rattle.engine.specs.Faithful.{AreFaithful, Indexed, StandsFor, block_in, tree_in}
-use Rattle.engine.specs.Parts.{IsRefusedAs, answered_of}
-use Rattle.engine.specs.Reads.{page_reads_of}
+use Rattle.engine.specs.Answers.{answered_by, reply_bytes}
+use Rattle.engine.specs.Faithful.{AreFaithful, EntriesStandFor, Indexed, block_in, tree_in}
+use Rattle.engine.specs.Parts.{Ends, IsRefusedAs, answered_of}
 use Rattle.engine.specs.declared.no_memory.NoMemory as memory
 use Rattle.engine.specs.declared.reply.Ended.{Ended}
 use Rattle.engine.specs.declared.reply.Ended.TheVariants.{Accepted}
@@ -48,14 +46,14 @@ no_option : {A : Type 0} (o : Option A) → is_some o ≡ false → o ≡ None
 no_option None e = refl
 no_option (Some x) e = absurd (cc)
 
--- ---- the trees that a sealed index stands for
+-- ---- the trees that entries stand for
 
 -- a tree in a segment, by its mark
 abbrev trees_in : (m : Mapping) → SegmentOf (Indexed m) → List (Marked Tree)
 trees_in m segment = map (marked_as (tree_in m)) segment.items
 
-abbrev pub trees_of : (m : Mapping) (kept : Layout BlockState) (layout : Layout Tree) → StandsFor m kept layout → List (List (Marked Tree))
-trees_of m kept layout s = map (trees_in m) s.indexed.segments
+abbrev pub trees_of : (m : Mapping) (entries : List EntryState) (live : List Tree) → EntriesStandFor m entries live → List (List (Marked Tree))
+trees_of m entries live s = map (trees_in m) s.indexed
 
 blocks_by : (m : Mapping) (segments : List (SegmentOf (Indexed m))) → map (λ (s : SegmentOf BlockState). s.items) (map (segment_as (block_in m)) segments) ≡ map (map (block_of_marked m)) (map (trees_in m) segments)
 blocks_by m [] = refl
@@ -63,11 +61,11 @@ blocks_by m (s ∷ segments) =
     λ i. sym (map-map (block_of_marked m) (marked_as (tree_in m)) s.items) i ∷ blocks_by m segments i
 
 -- the blocks of the entries are those of the trees
-pub blocks_same : (m : Mapping) (index : IndexState) (layout : Layout Tree) (s : StandsFor m (layout_kept index) layout) → map blocks_in index.entries ≡ map (map (block_of_marked m)) (trees_of m (layout_kept index) layout s)
-blocks_same m index layout s =
-    sym (map-map (λ (s : SegmentOf BlockState). s.items) segment_kept index.entries)
-    ∙ ap (λ (l : Layout BlockState). map (λ (s : SegmentOf BlockState). s.items) l.segments) s.blocks
-    ∙ blocks_by m s.indexed.segments
+pub blocks_same : (m : Mapping) (entries : List EntryState) (live : List Tree) (s : EntriesStandFor m entries live) → map blocks_in entries ≡ map (map (block_of_marked m)) (trees_of m entries live s)
+blocks_same m entries live s =
+    sym (map-map (λ (s : SegmentOf BlockState). s.items) segment_kept entries)
+    ∙ ap (map (λ (s : SegmentOf BlockState). s.items)) s.blocks
+    ∙ blocks_by m s.indexed
 
 live_by : (m : Mapping) (items : List (Marked (Indexed m))) → map item_in (filter is_live (map (marked_as (tree_in m)) items)) ≡ map (tree_in m) (map item_in (filter is_live items))
 live_by m [] = refl
@@ -83,19 +81,27 @@ live_of m [] = refl
 live_of m (s ∷ segments) =
     (λ i. live_by m s.items i ++ live_of m segments i) ∙ sym (map-append (tree_in m) (live_in s) (flat_map live_in segments))
 
+-- the live ones are those that the entries stand for
+pub live_same : (m : Mapping) (entries : List EntryState) (live : List Tree) (s : EntriesStandFor m entries live) → found_trees (trees_of m entries live s) ≡ live
+live_same m entries live s = live_of m s.indexed ∙ sym s.live_are
+
 no_blocks : (m : Mapping) (its : List (Indexed m)) → map (block_in m) its ≡ [] → its ≡ []
 no_blocks m [] e = refl
 no_blocks m (it ∷ its) e = absurd (cc)
 
--- its live trees are those of the state
-pub live_same : (m : Mapping) (index : IndexState) (state : State) (f : AreFaithful (Some m) index state) → index.buffer ≡ [] → found_trees (trees_of m (layout_kept index) state.layout f.stands) ≡ state.content.live
-live_same m index state f buffer =
+-- the entries of a sealed index stand for the live trees
+pub index_stands : (m : Mapping) (index : IndexState) (state : State) → AreFaithful (Some m) index state → index.buffer ≡ [] → EntriesStandFor m index.entries state.content.live
+index_stands m index state f buffer =
     let its = f.stands.indexed in
     let empty : its.buffer ≡ [] = no_blocks m its.buffer (sym (ap (λ (l : Layout BlockState). l.buffer) f.stands.blocks) ∙ buffer) in
-    live_of m its.segments
-    ∙ ap (map (tree_in m)) (sym (append-nil (flat_map live_in its.segments)) ∙ ap (λ (rest : List (Indexed m)). flat_map live_in its.segments ++ rest) (sym empty))
-    ∙ sym (live_trees m (layout_kept index) state.layout f.stands)
-    ∙ f.laid
+    let segments : flat_map live_in its.segments ++ its.buffer ≡ flat_map live_in its.segments =
+    ap (λ (rest : List (Indexed m)). flat_map live_in its.segments ++ rest) empty ∙ append-nil (flat_map live_in its.segments) in
+    record {
+      indexed = its.segments;
+      blocks = ap (λ (l : Layout BlockState). l.segments) f.stands.blocks;
+      live_are = sym f.laid ∙ live_trees m (layout_kept index) state.layout f.stands ∙ ap (map (tree_in m)) segments;
+      numbered = f.numbered.live;
+    }
 
 -- ---- entry by entry
 
@@ -126,15 +132,12 @@ all_read : (m : Mapping) (its : List (Indexed m)) → AllReadBack (map (tree_in 
 all_read m [] = tt
 all_read m (it ∷ its) = (it.reads, all_read m its)
 
-pub are_searched : (m : Mapping) (index : IndexState) (state : State) (f : AreFaithful (Some m) index state) (view : List EntryState) → index.buffer ≡ [] → ViewStandsFor m view (trees_of m (layout_kept index) state.layout f.stands)
-    → AreSearched m view (trees_of m (layout_kept index) state.layout f.stands)
-are_searched m index state f view buffer stands =
-    let trees = trees_of m (layout_kept index) state.layout f.stands in
-    record {
-      stands = stands;
-      read = subst AllReadBack (sym (live_of m f.stands.indexed.segments)) (all_read m (flat_map live_in f.stands.indexed.segments));
-      numbered = subst IsLiveList (sym (live_same m index state f buffer)) f.numbered.live;
-    }
+pub are_searched : (m : Mapping) (entries : List EntryState) (live : List Tree) (s : EntriesStandFor m entries live) → ViewStandsFor m entries (trees_of m entries live s) → AreSearched m entries (trees_of m entries live s)
+are_searched m entries live s stands = record {
+  stands = stands;
+  read = subst AllReadBack (sym (live_of m s.indexed)) (all_read m (flat_map live_in s.indexed));
+  numbered = subst IsLiveList (sym (live_same m entries live s)) s.numbered;
+}
 
 -- ---- what the machine answers
 
@@ -147,45 +150,20 @@ pub body_passes : (limits : Limits) (body : JsonValue) (m : Mapping) (state : St
 unfolding search_step
 body_passes limits body m state first = ap (λ o. refused_if (body_refusal o) (search_by limits m (search_of m body) (sealed_state state))) first
 
-pub no_pit : (limits : Limits) (m : Mapping) (search : SearchBody) (index : IndexState) (state : State) → AreFaithful (Some m) index state → is_some search.pit ≡ true
-    → search_by limits m search (sealed_state state) ≡ refuses why.UnknownPit
-no_pit limits m search index state f some = ap (λ o. search_over limits m search o (sealed_state state)) (by search.pit some)
-  where
-    by : (pit : Option ℕ) → is_some pit ≡ true → searched pit (sealed_state state) ≡ None
-    by None e = absurd (cc)
-    by (Some id) e = rw f.points refl
-
-over_live : (limits : Limits) (m : Mapping) (search : SearchBody) (state : State) → search.pit ≡ None
-    → search_by limits m search (sealed_state state) ≡ answers (within limits (found_by m state.content.live search)) (sealed_state state)
-over_live limits m search state pit = ap (λ (o : Option ℕ). search_over limits m search (searched o (sealed_state state)) (sealed_state state)) pit
-
--- ---- how much is read
-
-pub reads_live : (m : Mapping) (search : SearchBody) (state : State) → is_some search.pit ≡ false → page_reads_of m search (searched search.pit state) ≡ page_reads (hit_page m state.content.live search)
-reads_live m search state none = ap (λ (o : Option ℕ). page_reads_of m search (searched o state)) (no_option search.pit none)
-
 -- ---- a search of an index that was sealed
 
-sealed_buffer : (entries : List EntryState) (buffer : List BlockState) (made : ℕ) → (sealed (laid entries buffer made)).buffer ≡ []
-unfolding sealed
-sealed_buffer entries buffer made = refl
-
-pub buffer_sealed : (index index' : IndexState) → layout_kept index' ≡ sealed (layout_kept index) → index'.buffer ≡ []
-buffer_sealed index index' e = ap (λ (layout : Layout BlockState). layout.buffer) e ∙ sealed_buffer index.entries index.buffer index.made
-
-its_bytes : (ends : Ended) (out : List ℕ) → reply_bytes (answered_of (Ok ends)) out ≡ out
+pub its_bytes : (ends : Ended) (out : List ℕ) → reply_bytes (answered_of (Ok ends)) out ≡ out
 its_bytes Accepted out = refl
 its_bytes ended.Refused out = refl
 
-pub found_ends : (limits : Limits) (m : Mapping) (search : SearchBody) (index index' : IndexState) (state : State) (given : Reply) (result : Result Ended memory.NoMemory) (out : List ℕ)
-    → AreFaithful (Some m) index state → index'.next ≡ index.next → layout_kept index' ≡ sealed (layout_kept index) → is_some search.pit ≡ false
-    → given ≡ found_by m state.content.live search → IfOk result (λ ends. answered_of (Ok ends) ≡ answered_by (within limits given)) → OnOk result (out ≡ reply_text (within limits given))
-    → Answers state (outcome_of state (search_by limits m search (sealed_state state))) (answered_of result) out (Some m) index'
-found_ends limits m search index index' state given (Ok ends) out f next seals no_pit is told_so text =
-    subst (λ answer. Answers state (outcome_of state answer) (answered_of (Ok ends)) out (Some m) index') (sym (over_live limits m search state (no_option search.pit no_pit)))
-    (told (Some m) index' state (sealed_state state) (answered_of (Ok ends)) (within limits (found_by m state.content.live search)) out (sealed_faithful m index index' state f next seals) (its_bytes ends out)
-    (told_so ∙ ap (λ (it : Reply). answered_by (within limits it)) is) (text ∙ ap (λ (it : Reply). reply_text (within limits it)) is))
-found_ends limits m search index index' state given (Err none) out f next seals no_pit is told_so text =
+pub found_ends : (limits : Limits) (m : Mapping) (search : SearchBody) (index index' : IndexState) (state : State) (live : List Tree) (given : Reply) (result : Result Ended memory.NoMemory) (out : List ℕ)
+    → AreFaithful (Some m) index state → index'.next ≡ index.next → layout_kept index' ≡ sealed (layout_kept index)
+    → given ≡ found_by m live search → IfOk result (λ ends. answered_of (Ok ends) ≡ answered_by (within limits given)) → OnOk result (out ≡ reply_text (within limits given))
+    → Ends state (outcome_of state (search_over limits m search (Some live) (sealed_state state))) (answered_of result) out (Some m) index'
+found_ends limits m search index index' state live given (Ok ends) out f next seals is told_so text =
+    told (Some m) index' state (sealed_state state) (answered_of (Ok ends)) (within limits (found_by m live search)) out (sealed_faithful m index index' state f next seals) refl (its_bytes ends out)
+    (told_so ∙ ap (λ (it : Reply). answered_by (within limits it)) is) (text ∙ ap (λ (it : Reply). reply_text (within limits it)) is)
+found_ends limits m search index index' state live given (Err none) out f next seals is told_so text =
     lacking_sealed m index' state _ out (sealed_faithful m index index' state f next seals)
 
 -- ---- by what the writing of a body's refusal came to
@@ -200,14 +178,14 @@ first_said first body.NoMemory refusal is said = absurd (cc)
 first_said first other refusal is said = ap body_refusal is ∙ said
 
 pub body_ends : (limits : Limits) (json : JsonValue) (m : Mapping) (index : IndexState) (state : State) (given : SearchRefusal) (result : Result Ended memory.NoMemory) (out : List ℕ) → AreFaithful (Some m) index state
-    → FirstIs (first_refusal m json) given → IsRefusedAs (refusal_of given) result out → Answers state (outcome_of state (search_step limits json m (sealed_state state))) (answered_of result) out (Some m) index
+    → FirstIs (first_refusal m json) given → IsRefusedAs (refusal_of given) result out → Ends state (outcome_of state (search_step limits json m (sealed_state state))) (answered_of result) out (Some m) index
 body_ends limits json m index state given result out f first said = by (refusal_of given) refl said
   where
-    at_err : (r : Result Ended memory.NoMemory) → IsErr r → Answers state (outcome_of state (search_step limits json m (sealed_state state))) (answered_of r) out (Some m) index
+    at_err : (r : Result Ended memory.NoMemory) → IsErr r → Ends state (outcome_of state (search_step limits json m (sealed_state state))) (answered_of r) out (Some m) index
     at_err (Ok ends) none = absurd (cc)
     at_err (Err none) is = lacking (Some m) index state _ out f
 
-    by : (why : Option Refusal) → refusal_of given ≡ why → IsRefusedAs why result out → Answers state (outcome_of state (search_step limits json m (sealed_state state))) (answered_of result) out (Some m) index
+    by : (why : Option Refusal) → refusal_of given ≡ why → IsRefusedAs why result out → Ends state (outcome_of state (search_step limits json m (sealed_state state))) (answered_of result) out (Some m) index
     by None e is = at_err result is
     by (Some refusal) e is =
         refusal_ends (Some m) index state (search_step limits json m (sealed_state state)) refusal result out f (body_refused limits json m state refusal (first_said (first_refusal m json) given refusal first e)) is

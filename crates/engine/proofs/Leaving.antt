@@ -13,8 +13,8 @@ use Rattle.mapping.specs.Mapping.{Mapping}
 use Rattle.segment.specs.Live.{EntryState}
 use Rattle.segment_parts.specs.declared.columns.Columns.{Columns}
 use Rattle.engine.specs.Answers.{IfNotDone}
-use Rattle.engine.specs.Kept.{HasValue, IsIndexOf, StaysOrSeals}
-use Rattle.engine.specs.Parts.{Leaves}
+use Rattle.engine.specs.Kept.{HasValue, IsIndexOf}
+use Rattle.engine.specs.Parts.{IndexStays, Leaves}
 use Rattle.engine.specs.declared.engine.Answered.{Answered}
 use Rattle.engine.specs.declared.engine.Answered.TheVariants.{Written, Refused, NoMemory}
 
@@ -37,18 +37,18 @@ if_not_done Written claim is = tt
 if_not_done Refused claim is = is
 if_not_done NoMemory claim is = is
 
-pub stays_same : (mapping : Option Mapping) (index : IndexState) → StaysOrSeals mapping mapping index index
+pub stays_same : (mapping : Option Mapping) (index : IndexState) → IndexStays mapping mapping index index
 stays_same mapping index = record { same = refl; next = refl; layout = inl refl }
 
 pub leaves_same : (answered : Answered) (m : Mapping) (index : IndexState) → IsIndexOf m index → Leaves answered (Some m) (Some m) m index index
-leaves_same answered m index is = record { kept = is; objects = refl; stays = if_not_done answered (StaysOrSeals (Some m) (Some m) index index) (stays_same (Some m) index) }
+leaves_same answered m index is = record { kept = is; objects = refl; stays = if_not_done answered (IndexStays (Some m) (Some m) index index) (stays_same (Some m) index) }
 
 pub leaves_sealed : (answered : Answered) (m : Mapping) (index index' : IndexState) → IsIndexOf m index → IndexFits m index' → index'.next ≡ index.next → index'.objects ≡ index.objects
     → (layout_kept index' ≡ layout_kept index) ⊎ (layout_kept index' ≡ sealed (layout_kept index)) → Leaves answered (Some m) (Some m) m index index'
 leaves_sealed answered m index index' is fits next objects layout = record {
   kept = record { fits = fits; values = values_left (layout_kept index) (layout_kept index') is.values layout };
   objects = objects;
-  stays = if_not_done answered (StaysOrSeals (Some m) (Some m) index index') (record { same = refl; next = next; layout = layout });
+  stays = if_not_done answered (IndexStays (Some m) (Some m) index index') (record { same = refl; next = next; layout = layout });
 }
 
 -- ---- a mapping that has grown

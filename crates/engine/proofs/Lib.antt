@@ -1,7 +1,8 @@
--- Blocks stand for trees; replies and want of memory; writes, and the sources of updates; mapping lines; searches; what holds
--- whatever the state; ordinals that are kept; and what is asked for.
+-- Blocks stand for trees; replies and want of memory; sealing; writes, and the sources of updates; mapping lines; searches; what
+-- holds whatever the state; ordinals that are kept; points in time; merges and rows; and what is asked for.
 pub mod Standing
 pub mod Answering
+pub mod Sealing
 pub mod Writing
 pub mod Taking
 pub mod Updating
@@ -11,4 +12,7 @@ pub mod Leaving
 pub mod Ending
 pub mod Pages
 pub mod Keeping
+pub mod Pointing
+pub mod Opening
+pub mod Merging
 pub mod Asking

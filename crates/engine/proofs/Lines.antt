@@ -14,8 +14,8 @@ use Rattle.reply_text.specs.declared.refusal.Refusal.{Refusal}
 use Rattle.reply_text.specs.declared.reply.Reply.TheVariants as reply
 use Rattle.tree_json.specs.Value.{JsonValue}
 use Rattle.tree_objects.specs.Tree.{Tree}
-use Rattle.engine.specs.Answers.{Answers}
 use Rattle.engine.specs.Faithful.{AreFaithful}
+use Rattle.engine.specs.Parts.{Ends}
 use Rattle.engine.specs.declared.engine.Answered.TheVariants as answered
 use Rattle.engine.proofs.Answering.{accepted, sealed_faithful}
 use Rattle.engine.proofs.Standing.{SameBlocks, grown_stands}
@@ -36,7 +36,7 @@ first_refused body mapping index state why none f first = line_is body None stat
 
 pub first_accepted : (body : JsonValue) (mapping : Option Mapping) (index : IndexState) (state : State) (m : Mapping) (out : List ℕ) → mapping ≡ None → AreFaithful mapping index state
     → layout_kept index ≡ empty_layout → first_of (first_refusals body) ≡ None → m ≡ first_mapping body → out ≡ reply_text reply.Mapped
-    → Answers state (outcome_of state (mapping_step body (sealed_state state))) answered.Written out (Some m) index
+    → Ends state (outcome_of state (mapping_step body (sealed_state state))) answered.Written out (Some m) index
 first_accepted body mapping index state m out none f nothing first is text =
     let after = with_content_mapping (first_mapping body) (sealed_state state) in
     let e = line_is body None state (f.mapped ∙ none) ∙ ap (λ o. refused_if o (first_done body (sealed_state state))) first in
@@ -47,10 +47,9 @@ first_accepted body mapping index state m out none f nothing first is text =
       stands = record { indexed = empty_layout; trees = ap sealed own.stands ∙ empty_sealed; blocks = nothing };
       laid = sealed_keeps state.layout ∙ own.laid;
       numbered = record { live = own.numbered.live; below = own.numbered.below };
-      points = own.points;
       stored = own.stored;
     } in
-    subst (λ answer. Answers state (outcome_of state answer) answered.Written out (Some m) index) (sym e) (accepted (Some m) index state after reply.Mapped out faithful refl text)
+    subst (λ answer. Ends state (outcome_of state answer) answered.Written out (Some m) index) (sym e) (accepted (Some m) index state after reply.Mapped out faithful refl refl text)
 
 -- ---- a further line
 
@@ -60,7 +59,7 @@ further_refused body m index state why f first = line_is body (Some m) state f.m
 
 pub further_accepted : SameBlocks → (body : JsonValue) (m m' : Mapping) (index index' : IndexState) (state : State) (out : List ℕ) → IsMapping m → IsMapping m' → HasFurtherBodies m (grown_mapping m body)
     → AreFaithful (Some m) index state → index'.next ≡ index.next → layout_kept index' ≡ sealed (layout_kept index) → first_of (growing_refusals m body) ≡ None → m' ≡ grown_mapping m body
-    → out ≡ reply_text reply.Mapped → Answers state (outcome_of state (mapping_step body (sealed_state state))) answered.Written out (Some m') index'
+    → out ≡ reply_text reply.Mapped → Ends state (outcome_of state (mapping_step body (sealed_state state))) answered.Written out (Some m') index'
 further_accepted same body m m' index index' state out is is' further f next seals first grown text =
     let after = with_content_mapping (grown_mapping m body) (sealed_state state) in
     let e = line_is body (Some m) state f.mapped ∙ ap (λ o. refused_if o (growing_done m body (sealed_state state))) first in
@@ -71,7 +70,6 @@ further_accepted same body m m' index index' state out is is' further f next sea
       stands = grown_stands same m m' is is' (subst (HasFurtherBodies m) (sym grown) further) (layout_kept index') (sealed state.layout) g.stands;
       laid = g.laid;
       numbered = record { live = f.numbered.live; below = f.numbered.below };
-      points = f.points;
       stored = f.stored;
     } in
-    subst (λ answer. Answers state (outcome_of state answer) answered.Written out (Some m') index') (sym e) (accepted (Some m') index' state after reply.Mapped out faithful refl text)
+    subst (λ answer. Ends state (outcome_of state answer) answered.Written out (Some m') index') (sym e) (accepted (Some m') index' state after reply.Mapped out faithful refl refl text)

@@ -2,21 +2,22 @@
 use Rattle.std.proofs.Common.{◌≡◌, ◌≤◌, ◌+◌, ℕ, Bool, true, false, List, [], ◌∷◌, length, map, Option, Some, None, option_map, refl, sym, ap, ◌∙◌, arith}
 use Rattle.std.proofs.lemmas.List.{length-map}
 use Rattle.std.proofs.lemmas.List.Sums.{sum_by-cons}
-use Rattle.std.specs.List.{find}
+use Rattle.std.specs.List.{find, flat_map}
 use Rattle.flattener.specs.Block.{BlockState, block_of, flats_of_tree, root_of_tree}
 use Rattle.flattener.specs.Flat.{flat_of}
 use Rattle.index_core.specs.Kept.{has_block_id, block_number}
 use Rattle.layout.specs.As.{layout_as, marked_as, segment_as}
-use Rattle.layout.specs.Layout.{Layout, SegmentOf, live_items, sealed, with_change}
-use Rattle.layout.proofs.Images.{live_items_as, sealed_as, change_as}
+use Rattle.layout.specs.Layout.{Layout, SegmentOf, live_in, live_items, sealed, with_change}
+use Rattle.layout.proofs.Images.{live_each, live_items_as, sealed_as, change_as}
 use Rattle.mapping.specs.Growth.{HasFurtherBodies}
 use Rattle.mapping.specs.IsMapping.{IsMapping}
 use Rattle.mapping.specs.Mapping.{Mapping, generation_of}
 use Rattle.machine.specs.Write.{object_count}
+use Rattle.segment.specs.Live.{EntryState}
 use Rattle.segment_builder.specs.Blocks.{block_objects as objects_at, objects_of}
 use Rattle.tree_objects.specs.Object.{block_objects}
 use Rattle.tree_objects.specs.Tree.{Tree, has_id}
-use Rattle.engine.specs.Faithful.{Indexed, StandsFor, block_in, tree_in}
+use Rattle.engine.specs.Faithful.{EntriesStandFor, Indexed, StandsFor, block_in, tree_in}
 
 pub map-map : {A B C : Type 0} (g : B → C) (f : A → B) (xs : List A) → map g (map f xs) ≡ map (λ x. g (f x)) xs
 map-map g f [] = refl
@@ -50,13 +51,29 @@ grow m m2 further it = record {
 abbrev pub SameBlocks : Type 0
 SameBlocks = (m m2 : Mapping) (tree : Tree) → IsMapping m → IsMapping m2 → HasFurtherBodies m m2 → tree.generation ≤ generation_of m → block_of m2 tree ≡ block_of m tree
 
+blocks_grown : SameBlocks → (m m2 : Mapping) → IsMapping m → IsMapping m2 → (further : HasFurtherBodies m m2) → (its : Layout (Indexed m)) → layout_as (block_in m) its ≡ layout_as (block_in m2) (layout_as (grow m m2 further) its)
+blocks_grown same m m2 is is2 further its =
+    sym (λ i. layout_as (λ (it : Indexed m). same m m2 it.tree is is2 further it.given.last i) its) ∙ sym (as_as (block_in m2) (grow m m2 further) its)
+
 pub grown_stands : SameBlocks → (m m2 : Mapping) → IsMapping m → IsMapping m2 → HasFurtherBodies m m2 → (kept : Layout BlockState) (layout : Layout Tree) → StandsFor m kept layout → StandsFor m2 kept layout
 grown_stands same m m2 is is2 further kept layout s = record {
   indexed = layout_as (grow m m2 further) s.indexed;
   trees = s.trees ∙ sym (as_as (tree_in m2) (grow m m2 further) s.indexed);
-  blocks = s.blocks
-      ∙ sym (λ i. layout_as (λ (it : Indexed m). same m m2 it.tree is is2 further it.given.last i) s.indexed)
-      ∙ sym (as_as (block_in m2) (grow m m2 further) s.indexed);
+  blocks = s.blocks ∙ blocks_grown same m m2 is is2 further s.indexed;
+}
+
+-- segments alone
+abbrev in_segments : {A : Type 0} → List (SegmentOf A) → Layout A
+in_segments {A} segments = record { segments = segments; buffer = []; merges = []; started = 0; made = 0; factor = None }
+
+pub grown_entries : SameBlocks → (m m2 : Mapping) → IsMapping m → IsMapping m2 → HasFurtherBodies m m2 → (entries : List EntryState) (live : List Tree) → EntriesStandFor m entries live → EntriesStandFor m2 entries live
+grown_entries same m m2 is is2 further entries live s = record {
+  indexed = map (segment_as (grow m m2 further)) s.indexed;
+  blocks = s.blocks ∙ ap (λ (l : Layout BlockState). l.segments) (blocks_grown same m m2 is is2 further (in_segments s.indexed));
+  live_are = s.live_are
+      ∙ sym (map-map (tree_in m2) (grow m m2 further) (flat_map live_in s.indexed))
+      ∙ sym (ap (map (tree_in m2)) (live_each (grow m m2 further) s.indexed));
+  numbered = s.numbered;
 }
 
 -- ---- sealing and changes
@@ -111,7 +128,7 @@ found_in m id kept layout s =
       block = ap (find (has_block_id id)) (live_blocks m kept layout s) ∙ found.block;
     }
 
-number_same : (m : Mapping) (tree : Tree) → block_number (block_of m tree) ≡ tree.number
+pub number_same : (m : Mapping) (tree : Tree) → block_number (block_of m tree) ≡ tree.number
 unfolding root_of_tree
 number_same m tree = refl
 
@@ -126,7 +143,7 @@ number_found m id trees blocks found =
 
 -- ---- how many objects there are
 
-objects_in : (m : Mapping) (tree : Tree) → length (block_of m tree).flats ≡ length (block_objects m tree)
+pub objects_in : (m : Mapping) (tree : Tree) → length (block_of m tree).flats ≡ length (block_objects m tree)
 unfolding flats_of_tree
 objects_in m tree = length-map (block_objects m tree) (flat_of m)
 

@@ -26,12 +26,11 @@ use Rattle.tree_json.specs.Value.{JsonValue}
 use Rattle.tree_json.specs.declared.value.Json.{Json}
 use Rattle.tree_objects.specs.Tree.{Tree, without}
 use Rattle.write_plan.specs.Update.{IsTextOf, IsUpdated}
-use Rattle.engine.specs.Answers.{Answers}
 use Rattle.engine.specs.Faithful.{AreFaithful, Indexed, block_in, tree_in}
-use Rattle.engine.specs.Parts.{IsMade, delete_step, update_step}
+use Rattle.engine.specs.Parts.{Ends, IsMade, delete_step, update_step}
 use Rattle.engine.specs.declared.engine.Answered.TheVariants as answered
 use Rattle.engine.proofs.Answering.{accepted, refused}
-use Rattle.engine.proofs.Standing.{changed_stands}
+use Rattle.engine.proofs.Standing.{changed_stands, number_same}
 use Rattle.engine.proofs.Writing.{found_live, full_by, objects_after}
 
 -- ---- whether a tree is live
@@ -58,10 +57,6 @@ pub record IsLive (m : Mapping) (id : List ℕ) (index : IndexState) (state : St
   pub block : live_block id index ≡ Some (block_of m it.tree)
   pub same : it.tree.number ≡ number
 
-number_same : (m : Mapping) (tree : Tree) → block_number (block_of m tree) ≡ tree.number
-unfolding root_of_tree
-number_same m tree = refl
-
 number_in : (m : Mapping) (it : Option (Indexed m)) (number : ℕ) → Some number ≡ option_map block_number (option_map (block_in m) it) → (own : Indexed m) × (it ≡ Some own) × (own.tree.number ≡ number)
 number_in m None number e = absurd (cc)
 number_in m (Some own) number e = (own, refl, let same = number_same m own.tree in cc)
@@ -79,10 +74,10 @@ pub nothing_to_take : (limits : Limits) (m : Mapping) (id : List ℕ) (index : I
 nothing_to_take limits m id index state f none = rw (no_tree m id index state f none) refl
 
 pub not_there : (limits : Limits) (m : Mapping) (id : List ℕ) (index : IndexState) (state : State) (out : List ℕ) → AreFaithful (Some m) index state → None ≡ option_map block_number (live_block id index)
-    → out ≡ reply_text (reply.NotFound id) → Answers state (outcome_of state (delete_step limits m id state)) answered.Written out (Some m) index
+    → out ≡ reply_text (reply.NotFound id) → Ends state (outcome_of state (delete_step limits m id state)) answered.Written out (Some m) index
 not_there limits m id index state out f none text =
     let e : delete_step limits m id state ≡ answers (reply.NotFound id) state = rw (no_tree m id index state f none) refl in
-    subst (λ answer. Answers state (outcome_of state answer) answered.Written out (Some m) index) (sym e) (accepted (Some m) index state state (reply.NotFound id) out f refl text)
+    subst (λ answer. Ends state (outcome_of state answer) answered.Written out (Some m) index) (sym e) (accepted (Some m) index state state (reply.NotFound id) out f refl refl text)
 
 taken_step : (limits : Limits) (m : Mapping) (id : List ℕ) (index : IndexState) (state : State) (number : ℕ) → IsLive m id index state number → delete_step limits m id state ≡ take_out limits m id state
 taken_step limits m id index state number live = rw live.tree refl
@@ -99,12 +94,12 @@ take_full_by limits m id index state number b most f live test =
 
 pub take_full : (limits : Limits) (m : Mapping) (id : List ℕ) (index : IndexState) (state : State) (number : ℕ) (out : List ℕ) → index.objects ≡ limits.objects → AreFaithful (Some m) index state
     → Some number ≡ option_map block_number (live_block id index) → is_refused (Take id) index ≡ true → out ≡ reply_text (reply.Refused IndexFull)
-    → Answers state (outcome_of state (delete_step limits m id state)) answered.Refused out (Some m) index
+    → Ends state (outcome_of state (delete_step limits m id state)) answered.Refused out (Some m) index
 take_full limits m id index state number out most f some test text =
     let live = live_of m id index state number f some in
     let e = taken_step limits m id index state number live
     ∙ ap (λ o. refused_if o (changed m id (without id state.content.live) [] Deleted state)) (take_full_by limits m id index state number true most f live test) in
-    subst (λ answer. Answers state (outcome_of state answer) answered.Refused out (Some m) index) (sym e) (refused (Some m) index state IndexFull out f text)
+    subst (λ answer. Ends state (outcome_of state answer) answered.Refused out (Some m) index) (sym e) (refused (Some m) index state IndexFull out f text)
 
 take_faithful : (m : Mapping) (id : List ℕ) (index index' : IndexState) (state : State) (number : ℕ) → AreFaithful (Some m) index state → IsLive m id index state number → IsMade (Take id) index index'
     → AreFaithful (Some m) index' (changed_state m id (without id state.content.live) [] state)
@@ -121,21 +116,20 @@ take_faithful m id index index' state number f live made =
       stands = record { indexed = changed_so.indexed; trees = changed_so.trees; blocks = kept ∙ changed_so.blocks };
       laid = change_laid id [] state f.laid ∙ append-nil (without id state.content.live);
       numbered = record { live = numbered.0; below = numbered.1 };
-      points = f.points;
       stored = f.stored;
     }
 
 pub take_made : (limits : Limits) (m : Mapping) (id : List ℕ) (index index' : IndexState) (state : State) (number : ℕ) (out : List ℕ) → index.objects ≡ limits.objects → AreFaithful (Some m) index state
     → Some number ≡ option_map block_number (live_block id index) → IsMade (Take id) index index' → out ≡ reply_text (reply.Written id index.next Deleted)
-    → Answers state (outcome_of state (delete_step limits m id state)) answered.Written out (Some m) index'
+    → Ends state (outcome_of state (delete_step limits m id state)) answered.Written out (Some m) index'
 take_made limits m id index index' state number out most f some made text =
     let live = live_of m id index state number f some in
     let after = changed_state m id (without id state.content.live) [] state in
     let e = taken_step limits m id index state number live
     ∙ ap (λ o. refused_if o (changed m id (without id state.content.live) [] Deleted state)) (take_full_by limits m id index state number false most f live made.taken) in
     let said : out ≡ reply_text (reply.Written id state.content.next Deleted) = text ∙ ap (λ k. reply_text (reply.Written id k Deleted)) (sym f.next) in
-    subst (λ answer. Answers state (outcome_of state answer) answered.Written out (Some m) index') (sym e)
-    (accepted (Some m) index' state after (reply.Written id state.content.next Deleted) out (take_faithful m id index index' state number f live made) refl said)
+    subst (λ answer. Ends state (outcome_of state answer) answered.Written out (Some m) index') (sym e)
+    (accepted (Some m) index' state after (reply.Written id state.content.next Deleted) out (take_faithful m id index index' state number f live made) refl refl said)
 
 -- ---- updates
 

@@ -19,7 +19,7 @@ use Rattle.engine.specs.Kept.{HasValue}
 
 -- ---- the live source
 
-found_holds : {A : Type 0} (P : A → Type 0) (test : A → Bool) (xs : List A) (x : A) → All P xs → find test xs ≡ Some x → P x
+pub found_holds : {A : Type 0} (P : A → Type 0) (test : A → Bool) (xs : List A) (x : A) → All P xs → find test xs ≡ Some x → P x
 found_holds P test [] x all found = absurd (cc)
 found_holds {A} P test (y ∷ ys) x all found =
     by (test y) (found_holds P test ys x (All-tail P y ys all)) found

@@ -26,9 +26,8 @@ use Rattle.tree_json.specs.Value.{JsonValue}
 use Rattle.tree_objects.specs.Tree.{Tree, without}
 use Rattle.write_plan.specs.Planned.{IsPlanned, mapping_after, refusals_of, tree_of}
 use Rattle.write_plan.specs.declared.plan.Plan.{Plan}
-use Rattle.engine.specs.Answers.{Answers}
 use Rattle.engine.specs.Faithful.{AreFaithful, Indexed, StandsFor, block_in, tree_in}
-use Rattle.engine.specs.Parts.{IsMade}
+use Rattle.engine.specs.Parts.{Ends, IsMade}
 use Rattle.engine.specs.declared.engine.Answered.TheVariants as answered
 use Rattle.engine.proofs.Answering.{accepted, refused}
 use Rattle.engine.proofs.Standing.{IsFound, SameBlocks, changed_stands, found_in, grown_stands, number_found, objects_counted}
@@ -146,13 +145,13 @@ put_refused limits m id source tree index state why f first =
 pub put_full : SameBlocks → (limits : Limits) (m : Mapping) (id : List ℕ) (source : JsonValue) (plan : Plan) (tree : Option Tree) (index : IndexState) (state : State) (out : List ℕ) → IsMapping m
     → index.objects ≡ limits.objects → AreFaithful (Some m) index state → IsPlanned m id source index.next plan → first_of (refusals_of m id source index.next) ≡ None
     → is_refused (Put plan.block) index ≡ true → out ≡ reply_text (reply.Refused IndexFull)
-    → Answers state (outcome_of state (put_source limits m id source (added_body m source) tree state)) answered.Refused out (Some m) index
+    → Ends state (outcome_of state (put_source limits m id source (added_body m source) tree state)) answered.Refused out (Some m) index
 put_full same limits m id source plan tree index state out is most f p first test text =
     let q = planned_next m id source plan index state f p in
     let none : first_of (refusals_of m id source state.content.next) ≡ None = subst (λ n. first_of (refusals_of m id source n) ≡ None) (sym f.next) first in
     let e = put_refusals_are limits m id source tree state (Some IndexFull)
     (first_later (refusals_of m id source state.content.next) _ none ∙ put_full_by same limits m id source plan index state true is most f q test) in
-    subst (λ answer. Answers state (outcome_of state answer) answered.Refused out (Some m) index) (sym e) (refused (Some m) index state IndexFull out f text)
+    subst (λ answer. Ends state (outcome_of state answer) answered.Refused out (Some m) index) (sym e) (refused (Some m) index state IndexFull out f text)
 
 -- the index after a tree was put
 put_faithful : SameBlocks → (m : Mapping) (id : List ℕ) (source : JsonValue) (plan : Plan) (index index' : IndexState) (state : State) → IsMapping m → AreFaithful (Some m) index state
@@ -176,14 +175,13 @@ put_faithful same m id source plan index index' state is f p made =
       stands = record { indexed = changed_so.indexed; trees = changed_so.trees; blocks = kept ∙ changed_so.blocks };
       laid = change_laid id (tree ∷ []) state f.laid;
       numbered = record { live = numbered.0; below = numbered.1 };
-      points = f.points;
       stored = f.stored;
     }
 
 pub put_made : SameBlocks → (limits : Limits) (m m' : Mapping) (id : List ℕ) (source : JsonValue) (plan : Plan) (tree : Option Tree) (index index' : IndexState) (state : State) (out : List ℕ) → IsMapping m
     → index.objects ≡ limits.objects → AreFaithful (Some m) index state → IsPlanned m id source index.next plan → first_of (refusals_of m id source index.next) ≡ None
     → IsMade (Put plan.block) index index' → m' ≡ unwrap_or plan.grown m → out ≡ reply_text (reply.Written id index.next (put_result tree))
-    → Answers state (outcome_of state (put_source limits m id source (added_body m source) tree state)) answered.Written out (Some m') index'
+    → Ends state (outcome_of state (put_source limits m id source (added_body m source) tree state)) answered.Written out (Some m') index'
 put_made same limits m m' id source plan tree index index' state out is most f p first made grown text =
     let n = state.content.next in
     let m2 = mapping_after m source in
@@ -195,5 +193,5 @@ put_made same limits m m' id source plan tree index index' state out is most f p
     let faithful : AreFaithful (Some m') index' after =
     subst (λ (it : Mapping). AreFaithful (Some it) index' after) (sym (grown ∙ q.grown)) (put_faithful same m id source plan index index' state is f q made) in
     let said : out ≡ reply_text (reply.Written id n (put_result tree)) = text ∙ ap (λ k. reply_text (reply.Written id k (put_result tree))) (sym f.next) in
-    subst (λ answer. Answers state (outcome_of state answer) answered.Written out (Some m') index') (sym e)
-    (accepted (Some m') index' state after (reply.Written id n (put_result tree)) out faithful refl said)
+    subst (λ answer. Ends state (outcome_of state answer) answered.Written out (Some m') index') (sym e)
+    (accepted (Some m') index' state after (reply.Written id n (put_result tree)) out faithful refl refl said)

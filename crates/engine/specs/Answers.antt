@@ -1,17 +1,15 @@
 -- How an engine answers a request.
-use Rattle.std.specs.Prelude.{◌≡◌, ◌+◌, ◌≤◌, ℕ, List, Option}
-use Rattle.index_core.specs.Kept.{IndexState}
+use Rattle.std.specs.Prelude.{◌≡◌, ◌+◌, ◌≤◌, ℕ, List}
 use Rattle.line_reader.specs.Request.{Request}
 use Rattle.machine.specs.Answer.{Outcome}
 use Rattle.machine.specs.May.{MayEnd}
 use Rattle.machine.specs.State.{State}
 use Rattle.machine.specs.Step.{step}
 use Rattle.machine.specs.declared.limits.Limits.{Limits}
-use Rattle.mapping.specs.Mapping.{Mapping}
 use Rattle.reply_text.specs.Text.{reply_text}
 use Rattle.reply_text.specs.declared.reply.Reply.{Reply}
 use Rattle.reply_text.specs.declared.reply.Reply.TheVariants as reply
-use Rattle.engine.specs.Faithful.{AreFaithful}
+use Rattle.engine.specs.Faithful.{IsFaithful}
 use Rattle.engine.specs.Kept.{EngineState}
 use Rattle.engine.specs.Reads.{most_reads}
 use Rattle.engine.specs.declared.engine.Answered.{Answered}
@@ -48,17 +46,17 @@ answered_by (reply.Refused why) = Refused
 answered_by reply.OutOfMemory = NoMemory
 
 -- In a state where an outcome is due, a reply that may be given is written, and what is kept is faithful to the state afterwards.
-pub record Answers (before : State) (outcome : Outcome) (answered : Answered) (out : List ℕ) (mapping : Option Mapping) (index : IndexState) : Type 0 where
+pub record Answers (before : State) (outcome : Outcome) (answered : Answered) (out : List ℕ) (engine : EngineState) : Type 0 where
   pub reply : Reply
   pub after : State
   pub may : MayEnd before outcome reply after
-  pub faithful : AreFaithful mapping index after
+  pub faithful : IsFaithful engine after
   pub told : answered ≡ answered_by reply
   pub text : reply_bytes answered out ≡ reply_text reply
 
 -- The request is answered as the machine may, and no more sources are read than the request may read.
 pub record AnswersTo (limits : Limits) (before : State) (request : Request) (answered : Answered) (out : List ℕ) (reads reads' : ℕ) (engine : EngineState) : Type 0 where
-  pub answers : Answers before (step limits before request) answered out engine.mapping engine.index
+  pub answers : Answers before (step limits before request) answered out engine
   pub few : reads' ≤ reads + most_reads before request
 
 -- what holds where a request wasn't done

@@ -1,21 +1,24 @@
 -- What an engine keeps.
-use Rattle.std.specs.Prelude.{◌≡◌, ◌⊎◌, ℕ, Option, Some, None, IfSome}
+use Rattle.std.specs.Prelude.{◌≡◌, ◌≤◌, ◌⊎◌, ℕ, Option, Some, None, IfSome}
 use Rattle.std.specs.List.{All}
 use Rattle.flattener.specs.Block.{BlockState}
+use Rattle.flattener.specs.Fits.{ViewFits}
 use Rattle.index_core.specs.Kept.{IndexState, IndexFits, layout_kept, live_kept}
 use Rattle.join_ordinals.specs.Ordinals.{AreOrdinals, Ordinals}
 use Rattle.layout.specs.Layout.{empty_layout, sealed}
 use Rattle.machine.specs.Limit.{AreLimits}
 use Rattle.machine.specs.declared.limits.Limits.{Limits}
 use Rattle.mapping.specs.Mapping.{Mapping}
+use Rattle.point_in_time.specs.Points.{KeptPoint, KeptPoints, no_points}
 use Rattle.tree_json.specs.Value.{JsonValue}
 use Rattle.write_plan.specs.Update.{IsTextOf}
 
--- the limits, the mapping, where there is one, the index, and how many requests it was handed
+-- the limits, the mapping, where there is one, the index, the points in time, and how many requests it was handed
 pub record EngineState : Type 0 where
   pub limits : Limits
   pub mapping : Option Mapping
   pub index : IndexState
+  pub points : KeptPoints
   pub calls : ℕ
 
 -- the source of a block is the compact text of a value, and is read as that
@@ -32,6 +35,15 @@ abbrev pub IsUnder : Option Mapping → IndexState → Type 0
 IsUnder None index = layout_kept index ≡ empty_layout
 IsUnder (Some m) index = IsIndexOf m index
 
+-- the view of each point in time is one that the mapping can have made
+abbrev pub PointsFit : Mapping → KeptPoints → Type 0
+PointsFit m points = All (λ (point : KeptPoint). ViewFits m point.entries) points.points
+
+-- and without one none is open
+abbrev pub ArePointsUnder : Option Mapping → KeptPoints → Type 0
+ArePointsUnder None points = points ≡ no_points
+ArePointsUnder (Some m) points = PointsFit m points
+
 -- Ordinals that serve one search and those behind it are those of the view, of which nothing is left to be sealed: each other
 -- request lets them go.
 pub record AreKeptFor (index : IndexState) (ordinals : Ordinals) : Type 0 where
@@ -46,10 +58,13 @@ pub record IsEngine (kept : EngineState) (known : Option Ordinals) : Type 0 wher
   pub limits : AreLimits kept.limits
   pub objects : kept.index.objects ≡ kept.limits.objects
   pub under : IsUnder kept.mapping kept.index
+  pub points : ArePointsUnder kept.mapping kept.points
+  pub opened : kept.points.opened ≤ kept.calls
   pub ordinals : IfKept kept.index known
 
 -- what is kept is as it was, or the buffer is sealed
-pub record StaysOrSeals (mapping mapping' : Option Mapping) (index index' : IndexState) : Type 0 where
-  pub same : mapping' ≡ mapping
-  pub next : index'.next ≡ index.next
-  pub layout : (layout_kept index' ≡ layout_kept index) ⊎ (layout_kept index' ≡ sealed (layout_kept index))
+pub record StaysOrSeals (kept kept' : EngineState) : Type 0 where
+  pub same : kept'.mapping ≡ kept.mapping
+  pub points : kept'.points ≡ kept.points
+  pub next : kept'.index.next ≡ kept.index.next
+  pub layout : (layout_kept kept'.index ≡ layout_kept kept.index) ⊎ (layout_kept kept'.index ≡ sealed (layout_kept kept.index))

@@ -1,26 +1,30 @@
 -- How commands end. It serves contracts of private calls alone.
-use Rattle.std.specs.Prelude.{◌≡◌, ◌⊎◌, ℕ, true, false, List, Result, Ok, Err, IsErr, Some, None, Option, unwrap_or}
+use Rattle.std.specs.Prelude.{◌≡◌, ◌⊎◌, ◌<◌, ◌≤◌, ◌^◌, ℕ, true, false, List, Result, Ok, Err, IsErr, Some, None, Option, unwrap_or}
 use Rattle.index_core.specs.Kept.{IndexFits, IndexState, layout_kept}
 use Rattle.index_core.specs.Write.{is_refused, next_after, written}
 use Rattle.index_core.specs.declared.op.WriteOp.{WriteOp}
-use Rattle.layout.specs.Layout.{with_room}
-use Rattle.machine.specs.Answer.{Answer}
+use Rattle.layout.specs.Layout.{sealed, with_room}
+use Rattle.machine.specs.Answer.{Answer, Outcome}
+use Rattle.machine.specs.May.{MayEnd}
 use Rattle.machine.specs.State.{State}
 use Rattle.machine.specs.Write.{change_or_nothing, live_tree}
 use Rattle.machine.specs.declared.limits.Limits.{Limits}
+use Rattle.mapping.specs.Growth.{HasFurtherBodies}
 use Rattle.mapping.specs.IsMapping.{IsMapping}
 use Rattle.mapping.specs.Mapping.{Mapping}
+use Rattle.point_in_time.specs.Points.{KeptPoints}
 use Rattle.reply_text.specs.Text.{reply_text}
 use Rattle.reply_text.specs.declared.refusal.Refusal.{Refusal}
 use Rattle.reply_text.specs.declared.refusal.Refusal.TheVariants.{IndexFull}
 use Rattle.reply_text.specs.declared.reply.Reply.{Reply}
 use Rattle.reply_text.specs.declared.reply.Reply.TheVariants as reply
-use Rattle.request_form.specs.Command.{Changes, Operation, update, delete, Action, Write, search, write}
-use Rattle.request_form.specs.Formed.{IsFormed}
+use Rattle.request_form.specs.Command.{Changes, Operation, update, delete, Action, Write, automerge, force_merge, search, write}
+use Rattle.request_form.specs.Formed.{IsFactor, IsFormed}
 use Rattle.search_form.specs.Form.{is_search_body}
 use Rattle.tree_json.specs.Value.{JsonValue}
-use Rattle.engine.specs.Answers.{IfNotDone}
-use Rattle.engine.specs.Kept.{IsIndexOf, StaysOrSeals}
+use Rattle.engine.specs.Answers.{IfNotDone, answered_by, reply_bytes}
+use Rattle.engine.specs.Faithful.{AreFaithful, PointsStandFor}
+use Rattle.engine.specs.Kept.{EngineState, IsIndexOf}
 use Rattle.engine.specs.declared.engine.Answered.{Answered}
 use Rattle.engine.specs.declared.engine.Answered.TheVariants as answered
 use Rattle.engine.specs.declared.no_memory.NoMemory as memory
@@ -32,11 +36,54 @@ answered_of (Ok Accepted) = answered.Written
 answered_of (Ok Refused) = answered.Refused
 answered_of (Err none) = answered.NoMemory
 
+-- How a command ends that leaves the points in time as they are: a reply that may be given is written, and the mapping and the
+-- index are faithful to the state afterwards.
+pub record Ends (before : State) (outcome : Outcome) (answered : Answered) (out : List ℕ) (mapping : Option Mapping) (index : IndexState) : Type 0 where
+  pub reply : Reply
+  pub after : State
+  pub may : MayEnd before outcome reply after
+  pub faithful : AreFaithful mapping index after
+  pub points : after.points ≡ before.points
+  pub told : answered ≡ answered_by reply
+  pub text : reply_bytes answered out ≡ reply_text reply
+
+-- and one that may change them
+pub record EndsWith (before : State) (outcome : Outcome) (answered : Answered) (out : List ℕ) (mapping : Option Mapping) (index : IndexState) (points : KeptPoints) : Type 0 where
+  pub reply : Reply
+  pub after : State
+  pub may : MayEnd before outcome reply after
+  pub faithful : AreFaithful mapping index after
+  pub stand : PointsStandFor mapping points after.points
+  pub told : answered ≡ answered_by reply
+  pub text : reply_bytes answered out ≡ reply_text reply
+
+-- a mapping has further bodies behind its own
+pub record HasGrown (m m' : Mapping) : Type 0 where
+  pub before : IsMapping m
+  pub after : IsMapping m'
+  pub further : HasFurtherBodies m m'
+
+-- it stays as it is, or grows
+abbrev pub Grows : Mapping → Mapping → Type 0
+Grows m m' = (m' ≡ m) ⊎ HasGrown m m'
+
+-- what becomes of it where there may be none yet
+abbrev pub GrowsFrom : Option Mapping → Option Mapping → Type 0
+GrowsFrom None later = Unit {0}
+GrowsFrom (Some m) None = ⊥
+GrowsFrom (Some m) (Some m') = Grows m m'
+
+-- the mapping and the index are as they were, or the buffer is sealed
+pub record IndexStays (mapping mapping' : Option Mapping) (index index' : IndexState) : Type 0 where
+  pub same : mapping' ≡ mapping
+  pub next : index'.next ≡ index.next
+  pub layout : (layout_kept index' ≡ layout_kept index) ⊎ (layout_kept index' ≡ sealed (layout_kept index))
+
 -- the index stays one of the mapping, and where the command wasn't done all is as it was, or sealed
 pub record Leaves (answered : Answered) (mapping mapping' : Option Mapping) (m' : Mapping) (index index' : IndexState) : Type 0 where
   pub kept : IsIndexOf m' index'
   pub objects : index'.objects ≡ index.objects
-  pub stays : IfNotDone answered (StaysOrSeals mapping mapping' index index')
+  pub stays : IfNotDone answered (IndexStays mapping mapping' index index')
 
 -- a refusal was written, or there was no memory
 abbrev pub IsRefusal : Refusal → Result Ended memory.NoMemory → List ℕ → Type 0
@@ -96,7 +143,14 @@ abbrev pub IsRefusedAs : Option Refusal → Result Ended memory.NoMemory → Lis
 IsRefusedAs None result out = IsErr result
 IsRefusedAs (Some refusal) result out = IsRefusal refusal result out
 
+-- fewer points in time were opened than requests were handed, of which there are not too many
+pub record IsCounted (kept : EngineState) : Type 0 where
+  pub opened : kept.points.opened < kept.calls
+  pub calls : kept.calls ≤ 2 ^ 50
+
 -- what holds of everything that is asked for
 pub record IsActionFormed (action : Action) : Type 0 where
   pub writes : (it : Write) → action ≡ write it → IsFormed it
   pub searches : (body : JsonValue) → action ≡ search body → is_search_body body ≡ true
+  pub forces : (most : ℕ) → action ≡ force_merge most → 0 < most
+  pub factors : (factor : ℕ) → action ≡ automerge (Some factor) → IsFactor factor

@@ -1,15 +1,18 @@
 //! The engine: one request, one reply.
 
-ghost use Rattle.std.specs.Prelude.{◌≡◌, ◌≤◌, ◌<◌, ◌+◌, ◌^◌, [], true, None, IfOk};
-ghost use Rattle.machine.specs.Answer.{outcome_of};
+ghost use Rattle.std.specs.Prelude.{◌≡◌, ◌≤◌, ◌<◌, ◌+◌, ◌^◌, [], true, None, Option, IfOk, IfSome};
+ghost use Rattle.layout_commands.specs.Ends.{IsFormed as IsMergeFormed};
+ghost use Rattle.machine.specs.Answer.{mapped, outcome_of, sealing};
 ghost use Rattle.machine.specs.Limit.{AreLimits};
+ghost use Rattle.machine.specs.Merging.{merge_step};
 ghost use Rattle.machine.specs.State.{State};
+ghost use Rattle.point_in_time.specs.Points.{no_points};
 ghost use Rattle.line_reader.specs.View.{first_line_of, source_line_of};
 ghost use Rattle.machine.specs.Step.{action_step, asked_step, refusal_formed};
 ghost use Rattle.reply_text.specs.declared.refusal.Refusal.TheVariants.{NoMapping as no_mapping};
 ghost use Rattle.request_form.specs.Asked.{asked_of};
-ghost use Rattle.request_form.specs.Command.{map_body as maps, refresh as refreshes, search as searches, write as writes};
-ghost use Rattle.request_form.specs.Formed.{IsFormed};
+ghost use Rattle.request_form.specs.Command.{automerge as merges_by, close_pit as closes, map_body as maps, open_pit as opens, refresh as refreshes, search as searches, segments as shows_segments, write as writes};
+ghost use Rattle.request_form.specs.Formed.{IsFactor, IsFormed};
 ghost use Rattle.request_form.specs.Seen.{action_view, operation_view, write_view};
 ghost use Rattle.search_form.specs.Form.{is_search_body};
 ghost use Rattle.tree_json.specs.Output.{room_of};
@@ -17,25 +20,30 @@ ghost use Rattle.tree_json.specs.View.{view};
 ghost use Rattle.engine.specs.Answers.{Answers, AnswersTo, IfNotDone};
 ghost use Rattle.engine.specs.Faithful.{IsFaithful};
 ghost use Rattle.engine.specs.Kept.{StaysOrSeals};
-ghost use Rattle.engine.specs.Parts.{IsActionFormed, IsRefusal, answered_of};
+ghost use Rattle.engine.specs.Parts.{IsActionFormed, IsCounted, IsRefusal, answered_of};
 ghost use Rattle.engine.specs.Reads.{hits_of, reads_asked, reads_by, reads_of};
 ghost use Rattle.engine.specs.View.{request_of};
 
 use crate::mapping_line::mapping_line;
 use crate::no_memory::NoMemory;
+use crate::points::{close_pit, open_pit};
 use crate::refresh::refresh;
 use crate::reply::{Ended, refuse};
 use crate::search::search;
+use crate::segments::{merge_by_factor, merge_segments, show_segments};
 use crate::write::write_tree;
+use flattener::further_bodies_leave_blocks;
 use index_core::IndexCore;
 use io_edges::Disk;
 use join_ordinals::JoinOrdinals;
 use line_reader::{FirstLine, SourceLine};
-use machine::Limits;
+use machine::{Limits, MergeCommand};
 use mapping::Mapping;
+use point_in_time::PointsInTime;
 use reply_text::Refusal;
 use request_form::{
-    Action, FormRefusal, NoAction, Write, asked, searches_are_formed, writes_are_formed,
+    Action, FormRefusal, NoAction, Write, asked, merges_are_formed, searches_are_formed,
+    writes_are_formed,
 };
 use segment_view::View;
 use source_steps::Steps;
@@ -63,6 +71,7 @@ pub struct Engine {
     reader: JsonReader,
     mapping: Option<Mapping>,
     index: IndexCore,
+    points: PointsInTime,
     /// Those of the view, kept from one search to the next.
     ordinals: Option<JoinOrdinals>,
     calls: u64,
@@ -81,6 +90,7 @@ impl Model for Engine {
       limits = engine.limits;
       mapping = engine.mapping;
       index = engine.index;
+      points = engine.points;
       calls = engine.calls;
     } };
 
@@ -88,6 +98,7 @@ impl Model for Engine {
       limits = engine.limits;
       mapping = engine.mapping;
       index = engine.index;
+      points = engine.points;
       calls = engine.calls;
     }) engine.ordinals };
 }
@@ -99,7 +110,8 @@ impl Engine {
         ensures { IfOk result (λ engine. engine ≡ record {
           limits = limits.now;
           mapping = None;
-          index = record { entries = []; buffer = []; made = 0; next = 0; objects = limits.now.objects };
+          index = record { entries = []; buffer = []; made = 0; next = 0; objects = limits.now.objects; merges = []; started = 0; factor = None };
+          points = no_points;
           calls = 0;
         }) }
     {
@@ -109,6 +121,7 @@ impl Engine {
             reader: JsonReader::new(alloc),
             mapping: None,
             index: IndexCore::over(alloc, View::empty(alloc), 0, limits.objects)?,
+            points: PointsInTime::none(alloc),
             ordinals: None,
             calls: 0,
         })
@@ -134,7 +147,7 @@ impl Engine {
         ensures answers { (state : State) → IsFaithful self.old state →
             AnswersTo self.old.limits state (request_of first.entry second.entry) result out.new.bytes steps.old steps.new self.new }
         ensures nothing { result ≡ Answered.NoMemory → out.new.bytes ≡ [] }
-        ensures stays { IfNotDone result (StaysOrSeals self.old.mapping self.new.mapping self.old.index self.new.index) }
+        ensures stays { IfNotDone result (StaysOrSeals self.old self.new) }
         ensures limits { self.new.limits ≡ self.old.limits }
         ensures calls { self.new.calls ≡ self.old.calls + 1 }
         ensures room { room_of out.old ≤ room_of out.new }
@@ -152,7 +165,7 @@ impl Engine {
     }
 
     /// Writes the reply to a request. Where there is no memory, a part of one may stand in `out`.
-    #[tactic(auto, using(crate::proofs::Answering::refusal_ends, crate::proofs::Answering::lacking))]
+    #[tactic(auto, using(crate::proofs::Asking::refusal_answer, crate::proofs::Asking::lacking_answer))]
     fn reply<L: Ledger>(
         &mut self,
         first: FirstLine<'_>,
@@ -160,17 +173,19 @@ impl Engine {
         out: &mut OutText,
         steps: &mut Steps<L>,
     ) -> Result<Ended, NoMemory>
-        requires { out.old.bytes ≡ [] }
+        requires counted { IsCounted self.old }
+        requires empty { out.old.bytes ≡ [] }
         ensures answers { (state : State) → IsFaithful self.old state
-            → Answers state (outcome_of state (asked_step self.old.limits (asked_of (first_line_of first.entry) (source_line_of second.entry)) state)) (answered_of result) out.new.bytes self.new.mapping self.new.index }
+            → Answers state (outcome_of state (asked_step self.old.limits (asked_of (first_line_of first.entry) (source_line_of second.entry)) state)) (answered_of result) out.new.bytes self.new }
         ensures few { (state : State) → IsFaithful self.old state → steps.new ≤ steps.old + reads_asked state (asked_of (first_line_of first.entry) (source_line_of second.entry)) }
-        ensures stays { IfNotDone (answered_of result) (StaysOrSeals self.old.mapping self.new.mapping self.old.index self.new.index) }
+        ensures stays { IfNotDone (answered_of result) (StaysOrSeals self.old self.new) }
         ensures limits { self.new.limits ≡ self.old.limits }
         ensures calls { self.new.calls ≡ self.old.calls }
         ensures room { room_of out.old ≤ room_of out.new }
     {
         writes_are_formed();
         searches_are_formed();
+        merges_are_formed();
         match asked(self.alloc, &mut self.reader, first, second) {
             Ok(action) => self.perform(action, out, steps),
             Err(NoAction::Refused(why)) => refuse(refusal_formed(why), out),
@@ -179,7 +194,7 @@ impl Engine {
     }
 
     /// Does what is asked for, and writes the reply.
-    #[tactic(auto, using(crate::proofs::Answering::refusal_ends))]
+    #[tactic(auto, using(crate::proofs::Asking::refusal_answer))]
     fn perform<L: Ledger>(
         &mut self,
         action: Action,
@@ -187,11 +202,12 @@ impl Engine {
         steps: &mut Steps<L>,
     ) -> Result<Ended, NoMemory>
         requires formed { IsActionFormed (action_view action) }
+        requires counted { IsCounted self.old }
         requires empty { out.old.bytes ≡ [] }
         ensures answers { (state : State) → IsFaithful self.old state
-            → Answers state (outcome_of state (action_step self.old.limits (action_view action) state)) (answered_of result) out.new.bytes self.new.mapping self.new.index }
+            → Answers state (outcome_of state (action_step self.old.limits (action_view action) state)) (answered_of result) out.new.bytes self.new }
         ensures few { (state : State) → IsFaithful self.old state → steps.new ≤ steps.old + reads_by state (action_view action) }
-        ensures stays { IfNotDone (answered_of result) (StaysOrSeals self.old.mapping self.new.mapping self.old.index self.new.index) }
+        ensures stays { IfNotDone (answered_of result) (StaysOrSeals self.old self.new) }
         ensures limits { self.new.limits ≡ self.old.limits }
         ensures calls { self.new.calls ≡ self.old.calls }
         ensures room { room_of out.old ≤ room_of out.new }
@@ -201,33 +217,38 @@ impl Engine {
             Action::Write(it) => self.write(it, out, steps),
             Action::Search(body) => self.search(&body, out, steps),
             Action::Refresh => self.refresh(out),
-            Action::Segments => refuse(Refusal::BadRequest, out),
-            Action::OpenPit => refuse(Refusal::BadRequest, out),
-            Action::ClosePit(_) => refuse(Refusal::BadRequest, out),
-            Action::ForceMerge(_) => refuse(Refusal::BadRequest, out),
-            Action::StartMerge { .. } => refuse(Refusal::BadRequest, out),
-            Action::AdvanceMerge { .. } => refuse(Refusal::BadRequest, out),
-            Action::FinishMerge(_) => refuse(Refusal::BadRequest, out),
-            Action::AbortMerge(_) => refuse(Refusal::BadRequest, out),
+            Action::Segments => self.segments(out),
+            Action::OpenPit => self.open_pit(out),
+            Action::ClosePit(id) => self.close_pit(id, out),
+            Action::ForceMerge(most) => self.merge(MergeCommand::Force { most }, out),
+            Action::StartMerge { from, count } => {
+                self.merge(MergeCommand::Start { from, count }, out)
+            }
+            Action::AdvanceMerge { id, roots } => {
+                self.merge(MergeCommand::Advance { id, roots }, out)
+            }
+            Action::FinishMerge(id) => self.merge(MergeCommand::Finish { id }, out),
+            Action::AbortMerge(id) => self.merge(MergeCommand::Abort { id }, out),
             Action::Commit => refuse(Refusal::BadRequest, out),
-            Action::Automerge(_) => refuse(Refusal::BadRequest, out),
+            Action::Automerge(factor) => self.automerge(factor, out),
         }
     }
 
     fn map(&mut self, body: &Json, out: &mut OutText) -> Result<Ended, NoMemory>
         requires { out.old.bytes ≡ [] }
         ensures answers { (state : State) → IsFaithful self.old state
-            → Answers state (outcome_of state (action_step self.old.limits (maps (view body.now)) state)) (answered_of result) out.new.bytes self.new.mapping self.new.index }
-        ensures stays { IfNotDone (answered_of result) (StaysOrSeals self.old.mapping self.new.mapping self.old.index self.new.index) }
+            → Answers state (outcome_of state (action_step self.old.limits (maps (view body.now)) state)) (answered_of result) out.new.bytes self.new }
+        ensures stays { IfNotDone (answered_of result) (StaysOrSeals self.old self.new) }
         ensures limits { self.new.limits ≡ self.old.limits }
         ensures calls { self.new.calls ≡ self.old.calls }
         ensures room { room_of out.old ≤ room_of out.new }
     {
+        further_bodies_leave_blocks();
         self.ordinals = None;
         mapping_line(self.alloc, &mut self.mapping, &mut self.index, body, out)
     }
 
-    #[tactic(auto, using(crate::proofs::Answering::refusal_ends, crate::proofs::Asking::unmapped))]
+    #[tactic(auto, using(crate::proofs::Asking::refusal_answer, crate::proofs::Asking::unmapped))]
     fn write<L: Ledger>(
         &mut self,
         it: Write,
@@ -237,13 +258,14 @@ impl Engine {
         requires formed { IsFormed (write_view it) }
         requires empty { out.old.bytes ≡ [] }
         ensures answers { (state : State) → IsFaithful self.old state
-            → Answers state (outcome_of state (action_step self.old.limits (writes (write_view it)) state)) (answered_of result) out.new.bytes self.new.mapping self.new.index }
+            → Answers state (outcome_of state (action_step self.old.limits (writes (write_view it)) state)) (answered_of result) out.new.bytes self.new }
         ensures few { steps.new ≤ steps.old + reads_of (operation_view it.operation) }
-        ensures stays { IfNotDone (answered_of result) (StaysOrSeals self.old.mapping self.new.mapping self.old.index self.new.index) }
+        ensures stays { IfNotDone (answered_of result) (StaysOrSeals self.old self.new) }
         ensures limits { self.new.limits ≡ self.old.limits }
         ensures calls { self.new.calls ≡ self.old.calls }
         ensures room { room_of out.old ≤ room_of out.new }
     {
+        further_bodies_leave_blocks();
         self.ordinals = None; // a write may change the view
         match &mut self.mapping {
             Some(mapping) => write_tree(self.alloc, mapping, &mut self.index, it, out, steps),
@@ -251,7 +273,7 @@ impl Engine {
         }
     }
 
-    #[tactic(auto, using(crate::proofs::Answering::refusal_ends, crate::proofs::Asking::unmapped_sealed))]
+    #[tactic(auto, using(crate::proofs::Asking::refusal_answer, crate::proofs::Asking::unmapped_sealed))]
     fn search<L: Ledger>(
         &mut self,
         body: &Json,
@@ -261,9 +283,9 @@ impl Engine {
         requires form { is_search_body (view body.now) ≡ true }
         requires empty { out.old.bytes ≡ [] }
         ensures answers { (state : State) → IsFaithful self.old state
-            → Answers state (outcome_of state (action_step self.old.limits (searches (view body.now)) state)) (answered_of result) out.new.bytes self.new.mapping self.new.index }
+            → Answers state (outcome_of state (action_step self.old.limits (searches (view body.now)) state)) (answered_of result) out.new.bytes self.new }
         ensures few { (state : State) → IsFaithful self.old state → steps.new ≤ steps.old + hits_of (view body.now) state.content.mapping state }
-        ensures stays { IfNotDone (answered_of result) (StaysOrSeals self.old.mapping self.new.mapping self.old.index self.new.index) }
+        ensures stays { IfNotDone (answered_of result) (StaysOrSeals self.old self.new) }
         ensures limits { self.new.limits ≡ self.old.limits }
         ensures calls { self.new.calls ≡ self.old.calls }
         ensures room { room_of out.old ≤ room_of out.new }
@@ -275,6 +297,7 @@ impl Engine {
                 mapping,
                 &mut self.index,
                 &mut self.ordinals,
+                &self.points,
                 body,
                 out,
                 steps,
@@ -283,12 +306,12 @@ impl Engine {
         }
     }
 
-    #[tactic(auto, using(crate::proofs::Answering::refusal_ends, crate::proofs::Asking::unmapped_sealed))]
+    #[tactic(auto, using(crate::proofs::Asking::refusal_answer, crate::proofs::Asking::unmapped_sealed))]
     fn refresh(&mut self, out: &mut OutText) -> Result<Ended, NoMemory>
         requires { out.old.bytes ≡ [] }
         ensures answers { (state : State) → IsFaithful self.old state
-            → Answers state (outcome_of state (action_step self.old.limits refreshes state)) (answered_of result) out.new.bytes self.new.mapping self.new.index }
-        ensures stays { IfNotDone (answered_of result) (StaysOrSeals self.old.mapping self.new.mapping self.old.index self.new.index) }
+            → Answers state (outcome_of state (action_step self.old.limits refreshes state)) (answered_of result) out.new.bytes self.new }
+        ensures stays { IfNotDone (answered_of result) (StaysOrSeals self.old self.new) }
         ensures limits { self.new.limits ≡ self.old.limits }
         ensures calls { self.new.calls ≡ self.old.calls }
         ensures room { room_of out.old ≤ room_of out.new }
@@ -296,6 +319,96 @@ impl Engine {
         self.ordinals = None;
         match &self.mapping {
             Some(mapping) => refresh(mapping, &mut self.index, out),
+            None => refuse(Refusal::NoMapping, out),
+        }
+    }
+
+    #[tactic(auto, using(crate::proofs::Asking::refusal_answer, crate::proofs::Asking::unmapped_sealed))]
+    fn segments(&mut self, out: &mut OutText) -> Result<Ended, NoMemory>
+        requires { out.old.bytes ≡ [] }
+        ensures answers { (state : State) → IsFaithful self.old state
+            → Answers state (outcome_of state (action_step self.old.limits shows_segments state)) (answered_of result) out.new.bytes self.new }
+        ensures stays { IfNotDone (answered_of result) (StaysOrSeals self.old self.new) }
+        ensures limits { self.new.limits ≡ self.old.limits }
+        ensures calls { self.new.calls ≡ self.old.calls }
+        ensures room { room_of out.old ≤ room_of out.new }
+    {
+        self.ordinals = None;
+        match &self.mapping {
+            Some(mapping) => {
+                show_segments(self.alloc, &self.limits, mapping, &mut self.index, out)
+            }
+            None => refuse(Refusal::NoMapping, out),
+        }
+    }
+
+    #[tactic(auto, using(crate::proofs::Asking::refusal_answer, crate::proofs::Asking::unmapped_sealed))]
+    fn open_pit(&mut self, out: &mut OutText) -> Result<Ended, NoMemory>
+        requires counted { IsCounted self.old }
+        requires empty { out.old.bytes ≡ [] }
+        ensures answers { (state : State) → IsFaithful self.old state
+            → Answers state (outcome_of state (action_step self.old.limits opens state)) (answered_of result) out.new.bytes self.new }
+        ensures stays { IfNotDone (answered_of result) (StaysOrSeals self.old self.new) }
+        ensures limits { self.new.limits ≡ self.old.limits }
+        ensures calls { self.new.calls ≡ self.old.calls }
+        ensures room { room_of out.old ≤ room_of out.new }
+    {
+        self.ordinals = None;
+        match &self.mapping {
+            Some(mapping) => open_pit(mapping, &mut self.index, &mut self.points, out),
+            None => refuse(Refusal::NoMapping, out),
+        }
+    }
+
+    #[tactic(auto, using(crate::proofs::Asking::refusal_answer, crate::proofs::Asking::unmapped_sealed))]
+    fn close_pit(&mut self, id: u64, out: &mut OutText) -> Result<Ended, NoMemory>
+        requires { out.old.bytes ≡ [] }
+        ensures answers { (state : State) → IsFaithful self.old state
+            → Answers state (outcome_of state (action_step self.old.limits (closes id) state)) (answered_of result) out.new.bytes self.new }
+        ensures stays { IfNotDone (answered_of result) (StaysOrSeals self.old self.new) }
+        ensures limits { self.new.limits ≡ self.old.limits }
+        ensures calls { self.new.calls ≡ self.old.calls }
+        ensures room { room_of out.old ≤ room_of out.new }
+    {
+        self.ordinals = None;
+        match &self.mapping {
+            Some(mapping) => close_pit(mapping, &mut self.index, &mut self.points, id, out),
+            None => refuse(Refusal::NoMapping, out),
+        }
+    }
+
+    #[tactic(auto, using(crate::proofs::Asking::refusal_answer, crate::proofs::Asking::unmapped_sealed))]
+    fn merge(&mut self, command: MergeCommand, out: &mut OutText) -> Result<Ended, NoMemory>
+        requires formed { IsMergeFormed command }
+        requires empty { out.old.bytes ≡ [] }
+        ensures answers { (state : State) → IsFaithful self.old state
+            → Answers state (outcome_of state (sealing (mapped (merge_step command)) state)) (answered_of result) out.new.bytes self.new }
+        ensures stays { IfNotDone (answered_of result) (StaysOrSeals self.old self.new) }
+        ensures limits { self.new.limits ≡ self.old.limits }
+        ensures calls { self.new.calls ≡ self.old.calls }
+        ensures room { room_of out.old ≤ room_of out.new }
+    {
+        self.ordinals = None;
+        match &self.mapping {
+            Some(mapping) => merge_segments(mapping, &mut self.index, command, out),
+            None => refuse(Refusal::NoMapping, out),
+        }
+    }
+
+    #[tactic(auto, using(crate::proofs::Asking::refusal_answer, crate::proofs::Asking::unmapped))]
+    fn automerge(&mut self, factor: Option<u64>, out: &mut OutText) -> Result<Ended, NoMemory>
+        requires factor { IfSome factor IsFactor }
+        requires empty { out.old.bytes ≡ [] }
+        ensures answers { (state : State) → IsFaithful self.old state
+            → Answers state (outcome_of state (action_step self.old.limits (merges_by factor) state)) (answered_of result) out.new.bytes self.new }
+        ensures stays { IfNotDone (answered_of result) (StaysOrSeals self.old self.new) }
+        ensures limits { self.new.limits ≡ self.old.limits }
+        ensures calls { self.new.calls ≡ self.old.calls }
+        ensures room { room_of out.old ≤ room_of out.new }
+    {
+        self.ordinals = None;
+        match &self.mapping {
+            Some(mapping) => merge_by_factor(mapping, &mut self.index, factor, out),
             None => refuse(Refusal::NoMapping, out),
         }
     }

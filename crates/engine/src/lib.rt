@@ -11,9 +11,11 @@ mod engine;
 mod entries;
 mod mapping_line;
 mod no_memory;
+mod points;
 mod refresh;
 mod reply;
 mod search;
+mod segments;
 mod write;
 
 pub use engine::{Answered, Engine};

@@ -8,10 +8,10 @@ ghost use Rattle.tree_json.specs.View.{view};
 ghost use Rattle.machine.specs.Answer.{outcome_of};
 ghost use Rattle.machine.specs.MappingLine.{mapping_step};
 ghost use Rattle.machine.specs.State.{State, sealed_state};
-ghost use Rattle.engine.specs.Answers.{Answers, IfNotDone};
+ghost use Rattle.engine.specs.Answers.{IfNotDone};
 ghost use Rattle.engine.specs.Faithful.{AreFaithful};
-ghost use Rattle.engine.specs.Kept.{IsIndexOf, IsUnder, StaysOrSeals};
-ghost use Rattle.engine.specs.Parts.{Leaves, answered_of};
+ghost use Rattle.engine.specs.Kept.{IsIndexOf, IsUnder};
+ghost use Rattle.engine.specs.Parts.{Ends, Grows, GrowsFrom, IndexStays, Leaves, answered_of};
 
 use crate::no_memory::NoMemory;
 use crate::reply::{Ended, refuse, write};
@@ -34,10 +34,11 @@ pub(crate) fn mapping_line(
     requires under { IsUnder mapping.old index.old }
     requires empty { out.old.bytes ≡ [] }
     ensures answers { (state : State) → AreFaithful mapping.old index.old state
-        → Answers state (outcome_of state (mapping_step (view body.now) (sealed_state state))) (answered_of result) out.new.bytes mapping.new index.new }
+        → Ends state (outcome_of state (mapping_step (view body.now) (sealed_state state))) (answered_of result) out.new.bytes mapping.new index.new }
     ensures under { IsUnder mapping.new index.new }
+    ensures grows { GrowsFrom mapping.old mapping.new }
     ensures objects { index.new.objects ≡ index.old.objects }
-    ensures stays { IfNotDone (answered_of result) (StaysOrSeals mapping.old mapping.new index.old index.new) }
+    ensures stays { IfNotDone (answered_of result) (IndexStays mapping.old mapping.new index.old index.new) }
     ensures room { room_of out.old ≤ room_of out.new }
 {
     match mapping {
@@ -59,7 +60,7 @@ fn first_line(
     requires nothing { layout_kept index.now ≡ empty_layout }
     requires empty { out.old.bytes ≡ [] }
     ensures answers { (state : State) → AreFaithful mapping.old index.now state
-        → Answers state (outcome_of state (mapping_step (view body.now) (sealed_state state))) (answered_of result) out.new.bytes mapping.new index.now }
+        → Ends state (outcome_of state (mapping_step (view body.now) (sealed_state state))) (answered_of result) out.new.bytes mapping.new index.now }
     ensures under { IsUnder mapping.new index.now }
     ensures stays { IfNotDone (answered_of result) (mapping.new ≡ None) }
     ensures room { room_of out.old ≤ room_of out.new }
@@ -87,8 +88,9 @@ fn further_line(
     requires index { IsIndexOf mapping.old index.old }
     requires empty { out.old.bytes ≡ [] }
     ensures answers { (state : State) → AreFaithful (Some mapping.old) index.old state
-        → Answers state (outcome_of state (mapping_step (view body.now) (sealed_state state))) (answered_of result) out.new.bytes (Some mapping.new) index.new }
+        → Ends state (outcome_of state (mapping_step (view body.now) (sealed_state state))) (answered_of result) out.new.bytes (Some mapping.new) index.new }
     ensures leaves { Leaves (answered_of result) (Some mapping.old) (Some mapping.new) mapping.new index.old index.new }
+    ensures grows { Grows mapping.old mapping.new }
     ensures room { room_of out.old ≤ room_of out.new }
 {
     further_bodies_leave_blocks();

@@ -5,10 +5,9 @@ ghost use Rattle.tree_json.specs.Output.{room_of};
 ghost use Rattle.machine.specs.Answer.{outcome_of};
 ghost use Rattle.machine.specs.State.{State, sealed_state};
 ghost use Rattle.machine.specs.Step.{refresh_step};
-ghost use Rattle.engine.specs.Answers.{Answers};
 ghost use Rattle.engine.specs.Faithful.{AreFaithful};
 ghost use Rattle.engine.specs.Kept.{IsIndexOf};
-ghost use Rattle.engine.specs.Parts.{Leaves, answered_of};
+ghost use Rattle.engine.specs.Parts.{Ends, Leaves, answered_of};
 
 use crate::no_memory::NoMemory;
 use crate::reply::{Ended, write};
@@ -27,7 +26,7 @@ pub(crate) fn refresh(
     requires index { IsIndexOf mapping.now index.old }
     requires empty { out.old.bytes ≡ [] }
     ensures answers { (state : State) → AreFaithful (Some mapping.now) index.old state
-        → Answers state (outcome_of state (refresh_step mapping.now (sealed_state state))) (answered_of result) out.new.bytes (Some mapping.now) index.new }
+        → Ends state (outcome_of state (refresh_step mapping.now (sealed_state state))) (answered_of result) out.new.bytes (Some mapping.now) index.new }
     ensures leaves { Leaves (answered_of result) (Some mapping.now) (Some mapping.now) mapping.now index.old index.new }
     ensures room { room_of out.old ≤ room_of out.new }
 {

@@ -1,12 +1,18 @@
 //! Replies, as they are written.
 
-ghost use Rattle.std.specs.Prelude.{◌≡◌, ◌≤◌, ◌++◌, [], OnOk};
-ghost use Rattle.reply_text.specs.Text.{reply_text};
+ghost use Rattle.std.specs.Prelude.{◌≡◌, ◌≤◌, ◌+◌, ◌++◌, [], length, IfOk, OnOk};
+ghost use Rattle.layout_commands.specs.declared.TheConstants.{LONGEST_LINE};
+ghost use Rattle.machine.specs.Searching.{within};
+ghost use Rattle.reply_text.specs.Text.{line_of, reply_text};
 ghost use Rattle.tree_json.specs.Output.{room_of};
-ghost use Rattle.engine.specs.Parts.{IsAcceptance, IsRefusal};
+ghost use Rattle.engine.specs.Answers.{answered_by};
+ghost use Rattle.engine.specs.Parts.{IsAcceptance, IsRefusal, answered_of};
 
+use crate::engine::Answered;
 use crate::no_memory::NoMemory;
-use reply_text::{Refusal, Reply, text};
+use layout_commands::LONGEST_LINE;
+use machine::Limits;
+use reply_text::{Refusal, Reply, TextRefusal, text};
 use tree_json::OutText;
 
 /// How a command ended whose reply was written.
@@ -47,4 +53,48 @@ pub(crate) fn accept(reply: &Reply, out: &mut OutText) -> Result<Ended, NoMemory
 {
     write(reply, out)?;
     Ok(Ended::Accepted)
+}
+
+/// Makes room for a reply to a merge command, to `automerge` or of a point in time.
+pub(crate) fn make_room(out: &mut OutText) -> Result<(), NoMemory>
+    ensures same { out.new.bytes ≡ out.old.bytes }
+    ensures spare { OnOk result (LONGEST_LINE + 1 ≤ out.new.spare) }
+    ensures room { room_of out.old ≤ room_of out.new }
+{
+    Ok(out.reserve(LONGEST_LINE as u64 + 1)?)
+}
+
+/// Writes a reply for which there is room.
+#[tactic(auto, using(crate::proofs::Pages::short_fits))]
+pub(crate) fn tell(reply: &Reply, out: &mut OutText) -> Ended
+    requires short { length (line_of reply.now) ≤ LONGEST_LINE }
+    requires spare { LONGEST_LINE + 1 ≤ out.old.spare }
+    ensures accepted { result ≡ Ended.Accepted }
+    ensures text { out.new.bytes ≡ out.old.bytes ++ reply_text reply.now }
+    ensures room { room_of out.old ≤ room_of out.new }
+{
+    match text(reply, LONGEST_LINE as u64, out) {
+        Ok(()) => Ended::Accepted,
+        Err(_) => unreachable!(),
+    }
+}
+
+/// Writes a reply, or that its line is longer than the limit.
+#[tactic(auto, using(crate::proofs::Pages::within_fits, crate::proofs::Pages::within_not))]
+pub(crate) fn write_within(
+    limits: &Limits,
+    reply: &Reply,
+    out: &mut OutText,
+) -> Result<Ended, NoMemory>
+    requires empty { out.old.bytes ≡ [] }
+    requires done { answered_by reply.now ≡ Answered.Written }
+    ensures text { OnOk result (out.new.bytes ≡ reply_text (within limits.now reply.now)) }
+    ensures told { IfOk result (λ ended. answered_of (Ok ended) ≡ answered_by (within limits.now reply.now)) }
+    ensures room { room_of out.old ≤ room_of out.new }
+{
+    match text(reply, limits.reply_bytes, out) {
+        Ok(()) => Ok(Ended::Accepted),
+        Err(TextRefusal::TooLarge) => refuse(Refusal::ReplyTooLarge, out),
+        Err(TextRefusal::NoMemory) => Err(NoMemory),
+    }
 }

@@ -1,38 +1,41 @@
 //! Searches.
 
-ghost use Rattle.std.specs.Prelude.{◌≡◌, ◌≤◌, ◌+◌, [], true, Option, Some, OnOk, OnErr, IfOk, IfSome};
+ghost use Rattle.std.specs.Prelude.{◌≡◌, ◌≤◌, ◌+◌, [], true, List, Option, Some, OnOk, OnErr, IfOk, IfSome};
+ghost use Rattle.flattener.specs.Fits.{ViewFits};
 ghost use Rattle.index_core.specs.Kept.{IndexFits, layout_kept};
 ghost use Rattle.join_ordinals.specs.Ordinals.{AreOrdinals};
 ghost use Rattle.layout.specs.Layout.{sealed};
 ghost use Rattle.machine.specs.Answer.{outcome_of};
-ghost use Rattle.machine.specs.Searching.{found_by, refusal_of, search_by, search_step, searched, within};
+ghost use Rattle.machine.specs.Searching.{found_by, refusal_of, search_by, search_over, search_step, searched};
 ghost use Rattle.machine.specs.State.{State, sealed_state};
 ghost use Rattle.query_ast.specs.Resolved.{IsSearch};
 ghost use Rattle.query_ast.specs.Search.{hit_page};
-ghost use Rattle.reply_text.specs.Text.{reply_text};
 ghost use Rattle.search_form.specs.Form.{is_search_body};
 ghost use Rattle.tree_json.specs.Output.{room_of};
 ghost use Rattle.tree_json.specs.View.{view};
-ghost use Rattle.engine.specs.Answers.{Answers, answered_by};
-ghost use Rattle.engine.specs.Faithful.{AreFaithful};
-ghost use Rattle.engine.specs.Kept.{IfKept, IsIndexOf};
-ghost use Rattle.engine.specs.Parts.{Leaves, IsRefusedAs, answered_of};
+ghost use Rattle.engine.specs.Answers.{answered_by};
+ghost use Rattle.engine.specs.Faithful.{AreFaithful, EntriesStandFor, PointsStandFor};
+ghost use Rattle.engine.specs.Kept.{IfKept, IsIndexOf, PointsFit};
+ghost use Rattle.engine.specs.Parts.{Ends, IsRefusedAs, Leaves, answered_of};
 ghost use Rattle.engine.specs.Reads.{hits_of, page_reads_of};
 ghost use Rattle.search_page.specs.Searched.{page_reads};
+ghost use Rattle.tree_objects.specs.Tree.{Tree};
 
 use crate::engine::Answered;
 use crate::entries::entries_stand;
 use crate::no_memory::NoMemory;
-use crate::reply::{Ended, refuse};
+use crate::reply::{Ended, refuse, write_within};
 use index_core::IndexCore;
 use join_ordinals::JoinOrdinals;
 use machine::Limits;
 use mapping::Mapping;
+use point_in_time::PointsInTime;
 use query_ast::SearchBody;
 use query_parser::{SearchRefusal, resolved};
-use reply_text::{Refusal, Reply, TextRefusal, text};
+use reply_text::{Refusal, Reply};
 use search_form::ShapeRefusal;
 use search_page::{SearchResult, found};
+use segment_view::View;
 use source_steps::Steps;
 use std::alloc::Global;
 use std::sync::ledger::Ledger;
@@ -45,25 +48,29 @@ pub(crate) fn search<L: Ledger>(
     mapping: &Mapping,
     index: &mut IndexCore,
     ordinals: &mut Option<JoinOrdinals>,
+    points: &PointsInTime,
     body: &Json,
     out: &mut OutText,
     steps: &mut Steps<L>,
 ) -> Result<Ended, NoMemory>
     requires index { IsIndexOf mapping.now index.old }
     requires ordinals { IfKept index.old ordinals.old }
+    requires points { PointsFit mapping.now points.now }
     requires form { is_search_body (view body.now) ≡ true }
     requires empty { out.old.bytes ≡ [] }
-    ensures answers { (state : State) → AreFaithful (Some mapping.now) index.old state
-        → Answers state (outcome_of state (search_step limits.now (view body.now) mapping.now (sealed_state state))) (answered_of result) out.new.bytes (Some mapping.now) index.new }
+    ensures answers { (state : State) → AreFaithful (Some mapping.now) index.old state → PointsStandFor (Some mapping.now) points.now state.points
+        → Ends state (outcome_of state (search_step limits.now (view body.now) mapping.now (sealed_state state))) (answered_of result) out.new.bytes (Some mapping.now) index.new }
     ensures leaves { Leaves (answered_of result) (Some mapping.now) (Some mapping.now) mapping.now index.old index.new }
-    ensures reads { (state : State) → AreFaithful (Some mapping.now) index.old state
+    ensures reads { (state : State) → AreFaithful (Some mapping.now) index.old state → PointsStandFor (Some mapping.now) points.now state.points
         → steps.new ≤ steps.old + hits_of (view body.now) (Some mapping.now) state }
     ensures ordinals { IfKept index.new ordinals.new }
     ensures room { room_of out.old ≤ room_of out.new }
 {
     match search_form::search(body) {
         Ok(shape) => match resolved(alloc, shape, mapping) {
-            Ok(search) => search_over(alloc, limits, mapping, index, ordinals, &search, out, steps),
+            Ok(search) => search_over(
+                alloc, limits, mapping, index, ordinals, points, &search, out, steps,
+            ),
             Err(why) => refuse_search(why, out),
         },
         Err(ShapeRefusal::BadRequest) => unreachable!(),
@@ -93,9 +100,46 @@ fn refuse_search(why: SearchRefusal, out: &mut OutText) -> Result<Ended, NoMemor
     }
 }
 
-/// Answers a search whose body isn't refused.
-#[tactic(auto, using(crate::proofs::Answering::left, crate::proofs::Answering::same_faithful))]
+/// Answers a search whose body isn't refused, over what is live or over a point in time.
+#[tactic(auto, using(crate::proofs::Answering::refusal_ends))]
 fn search_over<L: Ledger>(
+    alloc: Global,
+    limits: &Limits,
+    mapping: &Mapping,
+    index: &mut IndexCore,
+    ordinals: &mut Option<JoinOrdinals>,
+    points: &PointsInTime,
+    search: &SearchBody,
+    out: &mut OutText,
+    steps: &mut Steps<L>,
+) -> Result<Ended, NoMemory>
+    requires index { IsIndexOf mapping.now index.old }
+    requires ordinals { IfKept index.old ordinals.old }
+    requires points { PointsFit mapping.now points.now }
+    requires resolved { IsSearch mapping.now search.now }
+    requires empty { out.old.bytes ≡ [] }
+    ensures answers { (state : State) → AreFaithful (Some mapping.now) index.old state → PointsStandFor (Some mapping.now) points.now state.points
+        → Ends state (outcome_of state (search_by limits.now mapping.now search.now (sealed_state state))) (answered_of result) out.new.bytes (Some mapping.now) index.new }
+    ensures leaves { Leaves (answered_of result) (Some mapping.now) (Some mapping.now) mapping.now index.old index.new }
+    ensures reads { (state : State) → AreFaithful (Some mapping.now) index.old state → PointsStandFor (Some mapping.now) points.now state.points
+        → steps.new ≤ steps.old + page_reads_of mapping.now search.now (searched search.now.pit state) }
+    ensures ordinals { IfKept index.new ordinals.new }
+    ensures room { room_of out.old ≤ room_of out.new }
+{
+    match search.pit {
+        None => search_live(alloc, limits, mapping, index, ordinals, search, out, steps),
+        Some(id) => match points.view(id) {
+            Some(view) => search_view(
+                alloc, limits, mapping, index, ordinals, view, search, out, steps,
+            ),
+            None => refuse(Refusal::UnknownPit, out),
+        },
+    }
+}
+
+/// Answers a search over what is live.
+#[tactic(auto, using(crate::proofs::Answering::left, crate::proofs::Answering::same_faithful))]
+fn search_live<L: Ledger>(
     alloc: Global,
     limits: &Limits,
     mapping: &Mapping,
@@ -110,17 +154,44 @@ fn search_over<L: Ledger>(
     requires resolved { IsSearch mapping.now search.now }
     requires empty { out.old.bytes ≡ [] }
     ensures answers { (state : State) → AreFaithful (Some mapping.now) index.old state
-        → Answers state (outcome_of state (search_by limits.now mapping.now search.now (sealed_state state))) (answered_of result) out.new.bytes (Some mapping.now) index.new }
+        → Ends state (outcome_of state (search_over limits.now mapping.now search.now (Some state.content.live) (sealed_state state))) (answered_of result) out.new.bytes (Some mapping.now) index.new }
     ensures leaves { Leaves (answered_of result) (Some mapping.now) (Some mapping.now) mapping.now index.old index.new }
-    ensures reads { (state : State) → AreFaithful (Some mapping.now) index.old state → steps.new ≤ steps.old + page_reads_of mapping.now search.now (searched search.now.pit state) }
+    ensures reads { (state : State) → AreFaithful (Some mapping.now) index.old state → steps.new ≤ steps.old + page_reads (hit_page mapping.now state.content.live search.now) }
     ensures ordinals { IfKept index.new ordinals.new }
     ensures room { room_of out.old ≤ room_of out.new }
 {
-    if search.pit.is_some() {
-        return refuse(Refusal::UnknownPit, out);
-    }
     seal(mapping, index, ordinals)?;
-    let found = found_by(alloc, mapping, index, ordinals, search, steps)?;
+    let found = found_live(alloc, mapping, index, ordinals, search, steps)?;
+    write_within(limits, &found, out)
+}
+
+/// Answers a search over the view of a point in time.
+#[tactic(auto, using(crate::proofs::Answering::left, crate::proofs::Answering::same_faithful))]
+fn search_view<L: Ledger>(
+    alloc: Global,
+    limits: &Limits,
+    mapping: &Mapping,
+    index: &mut IndexCore,
+    ordinals: &Option<JoinOrdinals>,
+    view: &View,
+    search: &SearchBody,
+    out: &mut OutText,
+    steps: &mut Steps<L>,
+) -> Result<Ended, NoMemory>
+    requires index { IsIndexOf mapping.now index.old }
+    requires ordinals { IfKept index.old ordinals.now }
+    requires view { ViewFits mapping.now view.now }
+    requires resolved { IsSearch mapping.now search.now }
+    requires empty { out.old.bytes ≡ [] }
+    ensures answers { (state : State) (live : List Tree) → AreFaithful (Some mapping.now) index.old state → EntriesStandFor mapping.now view.now live
+        → Ends state (outcome_of state (search_over limits.now mapping.now search.now (Some live) (sealed_state state))) (answered_of result) out.new.bytes (Some mapping.now) index.new }
+    ensures leaves { Leaves (answered_of result) (Some mapping.now) (Some mapping.now) mapping.now index.old index.new }
+    ensures reads { (live : List Tree) → EntriesStandFor mapping.now view.now live → steps.new ≤ steps.old + page_reads (hit_page mapping.now live search.now) }
+    ensures ordinals { IfKept index.new ordinals.now }
+    ensures room { room_of out.old ≤ room_of out.new }
+{
+    seal(mapping, index, ordinals)?;
+    let found = found_in(alloc, mapping, view, &mut None, search, steps)?;
     write_within(limits, &found, out)
 }
 
@@ -145,8 +216,9 @@ fn seal(
     Ok(())
 }
 
-/// What a search finds in a sealed index.
-fn found_by<L: Ledger>(
+/// What a search finds in a sealed index. Its ordinals are kept where no factor is set, by which sealing it once more might
+/// merge segments.
+fn found_live<L: Ledger>(
     alloc: Global,
     mapping: &Mapping,
     index: &IndexCore,
@@ -155,33 +227,42 @@ fn found_by<L: Ledger>(
     steps: &mut Steps<L>,
 ) -> Result<Reply, NoMemory>
     requires fits { IndexFits mapping.now index.now }
-    requires ordinals { IfSome ordinals.old (AreOrdinals index.now.entries) }
+    requires sealed { index.now.buffer ≡ [] }
+    requires ordinals { IfKept index.now ordinals.old }
     requires resolved { IsSearch mapping.now search.now }
     ensures done { IfOk result (λ reply. answered_by reply ≡ Answered.Written) }
-    ensures found { (state : State) → AreFaithful (Some mapping.now) index.now state → index.now.buffer ≡ [] → IfOk result (λ reply. reply ≡ found_by mapping.now state.content.live search.now) }
-    ensures reads { (state : State) → AreFaithful (Some mapping.now) index.now state → index.now.buffer ≡ [] → steps.new ≤ steps.old + page_reads (hit_page mapping.now state.content.live search.now) }
-    ensures ordinals { IfSome ordinals.new (AreOrdinals index.now.entries) }
+    ensures found { (state : State) → AreFaithful (Some mapping.now) index.now state → IfOk result (λ reply. reply ≡ found_by mapping.now state.content.live search.now) }
+    ensures reads { (state : State) → AreFaithful (Some mapping.now) index.now state → steps.new ≤ steps.old + page_reads (hit_page mapping.now state.content.live search.now) }
+    ensures ordinals { IfKept index.now ordinals.new }
+{
+    let view = index.view();
+    if index.factor() == 0 {
+        found_in(alloc, mapping, view, ordinals, search, steps)
+    } else {
+        found_in(alloc, mapping, view, &mut None, search, steps)
+    }
+}
+
+/// What a search finds in a view.
+fn found_in<L: Ledger>(
+    alloc: Global,
+    mapping: &Mapping,
+    view: &View,
+    ordinals: &mut Option<JoinOrdinals>,
+    search: &SearchBody,
+    steps: &mut Steps<L>,
+) -> Result<Reply, NoMemory>
+    requires fits { ViewFits mapping.now view.now }
+    requires ordinals { IfSome ordinals.old (AreOrdinals view.now) }
+    requires resolved { IsSearch mapping.now search.now }
+    ensures done { IfOk result (λ reply. answered_by reply ≡ Answered.Written) }
+    ensures found { (live : List Tree) → EntriesStandFor mapping.now view.now live → IfOk result (λ reply. reply ≡ found_by mapping.now live search.now) }
+    ensures reads { (live : List Tree) → EntriesStandFor mapping.now view.now live → steps.new ≤ steps.old + page_reads (hit_page mapping.now live search.now) }
+    ensures ordinals { IfSome ordinals.new (AreOrdinals view.now) }
 {
     let _scopes = mapping.scope_count();
-    let view = index.view();
     entries_stand(view.entries());
     let hits = found(alloc, view, mapping, search, ordinals, steps)?;
     let SearchResult { page, answers } = hits;
     Ok(Reply::Found { page, answers })
-}
-
-/// Writes a reply, or that its line is longer than the limit.
-#[tactic(auto, using(crate::proofs::Pages::within_fits, crate::proofs::Pages::within_not))]
-fn write_within(limits: &Limits, reply: &Reply, out: &mut OutText) -> Result<Ended, NoMemory>
-    requires empty { out.old.bytes ≡ [] }
-    requires done { answered_by reply.now ≡ Answered.Written }
-    ensures text { OnOk result (out.new.bytes ≡ reply_text (within limits.now reply.now)) }
-    ensures told { IfOk result (λ ended. answered_of (Ok ended) ≡ answered_by (within limits.now reply.now)) }
-    ensures room { room_of out.old ≤ room_of out.new }
-{
-    match text(reply, limits.reply_bytes, out) {
-        Ok(()) => Ok(Ended::Accepted),
-        Err(TextRefusal::TooLarge) => refuse(Refusal::ReplyTooLarge, out),
-        Err(TextRefusal::NoMemory) => Err(NoMemory),
-    }
 }

@@ -20,10 +20,9 @@ ghost use Rattle.tree_json.specs.View.{view};
 ghost use Rattle.tree_objects.specs.Tree.{Tree};
 ghost use Rattle.write_plan.specs.Planned.{IsPlanned};
 ghost use Rattle.write_plan.specs.Update.{IsTextOf, IsUpdated};
-ghost use Rattle.engine.specs.Answers.{Answers};
 ghost use Rattle.engine.specs.Faithful.{AreFaithful};
 ghost use Rattle.engine.specs.Kept.{HasValue, IsIndexOf};
-ghost use Rattle.engine.specs.Parts.{IsChanged, Leaves, answered_of, delete_step, mapping_put, update_step};
+ghost use Rattle.engine.specs.Parts.{Ends, Grows, IsChanged, Leaves, answered_of, delete_step, mapping_put, update_step};
 ghost use Rattle.engine.specs.Reads.{reads_of};
 
 use crate::change::change;
@@ -54,8 +53,9 @@ pub(crate) fn write_tree<L: Ledger>(
     requires formed { IsFormed (write_view it) }
     requires empty { out.old.bytes ≡ [] }
     ensures answers { (limits : Limits) (state : State) → index.old.objects ≡ limits.objects → AreFaithful (Some mapping.old) index.old state
-        → Answers state (outcome_of state (write_step limits mapping.old (write_view it) state)) (answered_of result) out.new.bytes (Some mapping.new) index.new }
+        → Ends state (outcome_of state (write_step limits mapping.old (write_view it) state)) (answered_of result) out.new.bytes (Some mapping.new) index.new }
     ensures leaves { Leaves (answered_of result) (Some mapping.old) (Some mapping.new) mapping.new index.old index.new }
+    ensures grows { Grows mapping.old mapping.new }
     ensures reads { steps.new ≤ steps.old + reads_of (operation_view it.operation) }
     ensures room { room_of out.old ≤ room_of out.new }
 {
@@ -90,8 +90,9 @@ fn put(
     requires live { live ≡ option_map block_number (live_block id index.old) }
     requires empty { out.old.bytes ≡ [] }
     ensures answers { (limits : Limits) (state : State) (tree : Option Tree) → index.old.objects ≡ limits.objects → AreFaithful (Some mapping.old) index.old state → live_number tree ≡ live
-        → Answers state (outcome_of state (put_source limits mapping.old id (view source.now) (added_body mapping.old (view source.now)) tree state)) (answered_of result) out.new.bytes (Some mapping.new) index.new }
+        → Ends state (outcome_of state (put_source limits mapping.old id (view source.now) (added_body mapping.old (view source.now)) tree state)) (answered_of result) out.new.bytes (Some mapping.new) index.new }
     ensures leaves { Leaves (answered_of result) (Some mapping.old) (Some mapping.new) mapping.new index.old index.new }
+    ensures grows { Grows mapping.old mapping.new }
     ensures room { room_of out.old ≤ room_of out.new }
 {
     further_bodies_leave_blocks();
@@ -161,8 +162,9 @@ fn update<L: Ledger>(
     requires live { live ≡ option_map block_number (live_block id index.old) }
     requires empty { out.old.bytes ≡ [] }
     ensures answers { (limits : Limits) (state : State) → index.old.objects ≡ limits.objects → AreFaithful (Some mapping.old) index.old state
-        → Answers state (outcome_of state (update_step limits mapping.old id (changes_view changes) state)) (answered_of result) out.new.bytes (Some mapping.new) index.new }
+        → Ends state (outcome_of state (update_step limits mapping.old id (changes_view changes) state)) (answered_of result) out.new.bytes (Some mapping.new) index.new }
     ensures leaves { Leaves (answered_of result) (Some mapping.old) (Some mapping.new) mapping.new index.old index.new }
+    ensures grows { Grows mapping.old mapping.new }
     ensures reads { steps.new ≤ steps.old + 1 }
     ensures room { room_of out.old ≤ room_of out.new }
 {
@@ -212,7 +214,7 @@ fn delete(
     requires live { live ≡ option_map block_number (live_block id index.old) }
     requires empty { out.old.bytes ≡ [] }
     ensures answers { (limits : Limits) (state : State) → index.old.objects ≡ limits.objects → AreFaithful (Some mapping.now) index.old state
-        → Answers state (outcome_of state (delete_step limits mapping.now id state)) (answered_of result) out.new.bytes (Some mapping.now) index.new }
+        → Ends state (outcome_of state (delete_step limits mapping.now id state)) (answered_of result) out.new.bytes (Some mapping.now) index.new }
     ensures leaves { Leaves (answered_of result) (Some mapping.now) (Some mapping.now) mapping.now index.old index.new }
     ensures room { room_of out.old ≤ room_of out.new }
 {

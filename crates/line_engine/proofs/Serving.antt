@@ -65,7 +65,7 @@ pub served_next : (limits : Limits) (start : State) (left l l' taken t t' : Opti
     asked.first ≡ request.first → asked.source ≡ request.source → AnswersTo engine.limits (last_state start served.turns) asked answered out reads reads' engine' → Appends t t' (reply_bytes answered out) →
     engine'.limits ≡ engine.limits → Served limits start left l' taken t' input' engine'
 served_next limits start left l l' taken t t' input input' engine engine' request asked answered out reads reads' served gives first source answered_so writes same =
-    let answers : Answers (last_state start served.turns) (step limits (last_state start served.turns) asked) answered out engine'.mapping engine'.index =
+    let answers : Answers (last_state start served.turns) (step limits (last_state start served.turns) asked) answered out engine' =
     (subst (λ (given : Limits). AnswersTo given (last_state start served.turns) asked answered out reads reads' engine') served.within answered_so).answers in
     let turn : Turn = record { request = request; reply = answers.reply; after = answers.after } in
     let may : MayStep limits (last_state start served.turns) request answers.reply answers.after = may_alike limits (last_state start served.turns) answers.after asked request answers.reply first source answers.may in
@@ -98,7 +98,7 @@ pub served_part : (limits : Limits) (start : State) (left l l' taken t t' : Opti
     asked.first ≡ request.first → asked.source ≡ request.source → AnswersTo engine.limits (last_state start served.turns) asked answered out reads reads' engine' → TakesPart t t' (reply_bytes answered out) →
     Serves WriteFault limits start left l' taken t'
 served_part limits start left l l' taken t t' input input' engine engine' request asked answered out reads reads' served gives first source answered_so takes =
-    let answers : Answers (last_state start served.turns) (step limits (last_state start served.turns) asked) answered out engine'.mapping engine'.index =
+    let answers : Answers (last_state start served.turns) (step limits (last_state start served.turns) asked) answered out engine' =
     (subst (λ (given : Limits). AnswersTo given (last_state start served.turns) asked answered out reads reads' engine') served.within answered_so).answers in
     let turn : Turn = record { request = request; reply = answers.reply; after = answers.after } in
     let may : MayStep limits (last_state start served.turns) request answers.reply answers.after = may_alike limits (last_state start served.turns) answers.after asked request answers.reply first source answers.may in
@@ -126,15 +126,10 @@ served_start limits left taken input engine given new = record {
   turns = [];
   given = given;
   chain = tt;
-  stands = subst (λ (kept : EngineState). IsFaithful kept empty_state) (sym new) (record {
-    mapped = refl;
-    next = refl;
-    stands = refl;
-    laid = refl;
-    numbered = record { live = tt; below = tt };
-    points = refl;
-    stored = refl;
-  });
+  stands = subst (λ (kept : EngineState). IsFaithful kept empty_state) (sym new) (
+    record { mapped = refl; next = refl; stands = refl; laid = refl; numbered = record { live = tt; below = tt }; stored = refl },
+    (refl, refl),
+  );
   written = appends_none taken;
   within = ap (λ (it : EngineState). it.limits) new;
 }

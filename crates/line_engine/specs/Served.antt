@@ -5,6 +5,7 @@ use Rattle.line_reader.specs.Given.{HasGiven}
 use Rattle.line_reader.specs.Seen.{InputState}
 use Rattle.engine.specs.Faithful.{IsFaithful}
 use Rattle.engine.specs.Kept.{EngineState}
+use Rattle.point_in_time.specs.Points.{no_points}
 use Rattle.machine.specs.State.{State}
 use Rattle.machine.specs.declared.limits.Limits.{Limits}
 use Rattle.line_engine.specs.Run.{Turn, IsChain, last_state, requests_of, text_of}
@@ -14,7 +15,8 @@ abbrev pub new_engine : Limits → EngineState
 new_engine limits = record {
   limits = limits;
   mapping = None;
-  index = record { entries = []; buffer = []; made = 0; next = 0; objects = limits.objects };
+  index = record { entries = []; buffer = []; made = 0; next = 0; objects = limits.objects; merges = []; started = 0; factor = None };
+  points = no_points;
   calls = 0;
 }
 

@@ -1,4 +1,4 @@
-use Rattle.std.proofs.Common.{◌++◌, ℕ, List, Err, Some, ap, refl, subst, sym, ◌∙◌}
+use Rattle.std.proofs.Common.{◌++◌, ℕ, List, Err, Some, ap, inr, refl, subst, sym, ◌∙◌}
 use Rattle.machine.specs.MappingLine.{mapping_step}
 use Rattle.machine.specs.State.{sealed_state}
 use Rattle.mapping.specs.Growth.{HasFurtherBodies}
@@ -22,6 +22,13 @@ returns-in_ok-seal-in-Ok-clause-leaves c =
     c.scope_count-scopes.ensures.is_mapping c.scope_count-scopes-in-Ok.ensures.is_mapping
     (subst (HasFurtherBodies c.args.mapping.now) (sym (c.settle.ensures ∙ c.in-Ok.ensures.mapping)) (c.in-Ok.ensures.later refl))
     c.requires.index c.in_ok-seal-in-Ok.ensures.fits c.in_ok-seal-in-Ok.ensures.objects c.in_ok-seal-in-Ok.ensures.sealed
+
+pub returns-in_ok-seal-in-Ok-clause-grows : goal.returns-in_ok-seal-in-Ok-clause-grows
+returns-in_ok-seal-in-Ok-clause-grows c = inr (record {
+  before = c.scope_count-scopes.ensures.is_mapping;
+  after = c.scope_count-scopes-in-Ok.ensures.is_mapping;
+  further = subst (HasFurtherBodies c.args.mapping.now) (sym (c.settle.ensures ∙ c.in-Ok.ensures.mapping)) (c.in-Ok.ensures.later refl);
+})
 
 pub returns-in-Err-Refused-clause-answers : goal.returns-in-Err-Refused-clause-answers
 returns-in-Err-Refused-clause-answers c = λ state f.

@@ -8,7 +8,7 @@ use Rattle.write_plan.specs.Planned.{IsPlanned, refusals_of}
 use Rattle.reply_text.specs.declared.refusal.Refusal.{Refusal}
 use Rattle.engine.specs.Parts.{IsRefusal}
 use Rattle.engine.proofs.Answering.{refusal_ends}
-use Rattle.engine.proofs.Ending.{planned_next_to, put_ends, put_leaves}
+use Rattle.engine.proofs.Ending.{planned_next_to, put_ends, put_grows, put_leaves}
 use Rattle.engine.proofs.Writing.{put_refused}
 use Rattle.engine.proofs.write.put.Goals as goal
 
@@ -38,6 +38,11 @@ returns-in-Ok-clause-leaves c =
     c.put_planned.new.out.bytes c.scope_count-scopes.ensures.is_mapping c.requires.index
     (subst (λ (n : ℕ). IsPlanned c.args.mapping.now c.as_slice.result.now (view c.args.source.now) n c.in-Ok.plan) c.next.ensures.next c.in-Ok.ensures.planned) c.put_planned.ensures.changed
     c.put_planned.ensures.mapping c.put_planned.ensures.fits c.put_planned.ensures.objects
+
+pub returns-in-Ok-clause-grows : goal.returns-in-Ok-clause-grows
+returns-in-Ok-clause-grows c =
+    put_grows c.args.mapping.now c.put_planned.new.mapping c.as_slice.result.now (view c.args.source.now) c.next.result c.in-Ok.plan c.put_planned.result c.scope_count-scopes.ensures.is_mapping
+    c.in-Ok.ensures.planned c.put_planned.ensures.mapping
 
 pub returns-in-Err-Refused-clause-answers : goal.returns-in-Err-Refused-clause-answers
 returns-in-Err-Refused-clause-answers c = λ limits state tree most f number.

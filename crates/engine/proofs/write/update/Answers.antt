@@ -11,8 +11,7 @@ use Rattle.request_form.specs.Seen.{changes_view}
 use Rattle.tree_json.specs.Value.{JsonValue}
 use Rattle.tree_json.specs.View.{view}
 use Rattle.write_plan.specs.Update.{IsUpdated}
-use Rattle.engine.specs.Answers.{Answers}
-use Rattle.engine.specs.Parts.{IsAcceptance, answered_of, update_step}
+use Rattle.engine.specs.Parts.{Ends, IsAcceptance, answered_of, update_step}
 use Rattle.engine.proofs.Answering.{acceptance_ends, if_lacking, lacking}
 use Rattle.engine.proofs.Taking.{live_changed, live_of, updated_anew, updated_live, updated_noop}
 use Rattle.engine.proofs.Updating.{some_block, source_anew}
@@ -29,7 +28,7 @@ pub returns-in-None-clause-answers : goal.returns-in-None-clause-answers
 returns-in-None-clause-answers g c = λ limits state most f.
     let e = updated_anew limits c.args.mapping.now c.args.id (changes_view c.args.changes) c.args.index.now state f (sym c.in-None.is ∙ c.requires.live)
     ∙ ap (λ (source : JsonValue). put_source limits c.args.mapping.now c.args.id source (added_body c.args.mapping.now source) None state) (sym c.put_anew.ensures) in
-    subst (λ (answer : Answer). Answers state (outcome_of state answer) (answered_of c.put.result) c.put.new.out.bytes (Some c.put.new.mapping) c.put.new.index) (sym e)
+    subst (λ (answer : Answer). Ends state (outcome_of state answer) (answered_of c.put.result) c.put.new.out.bytes (Some c.put.new.mapping) c.put.new.index) (sym e)
     (c.put.ensures.answers limits state None most f (sym c.in-None.is))
 
 pub returns-in_err-source-in-Some-clause-answers : goal.returns-in_err-source-in-Some-clause-answers
@@ -44,7 +43,7 @@ returns-in-Some-2-clause-answers g c = λ limits state most f.
     let changed = subst (IsUpdated (view c.args.changes.doc) live.it.tree.source) c.in-Some-2.is
     (live_changed m c.args.id c.as_slice.result.now c.args.index.now state c.in-Some.number (view c.args.changes.doc) c.in_ok-source-in-Some.field-0 live c.as_slice.ensures.bytes c.in_ok-source-in-Some.ensures.updated) in
     let e = updated_live limits m c.args.id (changes_view c.args.changes) c.args.index.now state c.in-Some.number (view c.in-Some-2.source) live changed.0 changed.1 in
-    subst (λ (answer : Answer). Answers state (outcome_of state answer) (answered_of c.put-in-Some-2.result) c.put-in-Some-2.new.out.bytes (Some c.put-in-Some-2.new.mapping) c.put-in-Some-2.new.index) (sym e)
+    subst (λ (answer : Answer). Ends state (outcome_of state answer) (answered_of c.put-in-Some-2.result) c.put-in-Some-2.new.out.bytes (Some c.put-in-Some-2.new.mapping) c.put-in-Some-2.new.index) (sym e)
     (c.put-in-Some-2.ensures.answers limits state (Some live.it.tree) most f (ap Some live.same))
 
 pub returns-clause-answers : goal.returns-clause-answers

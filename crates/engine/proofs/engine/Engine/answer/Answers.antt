@@ -16,4 +16,4 @@ returns-in-Ok-Refused-clause-answers g c = λ state f.
 pub returns-in-Err-clause-answers : goal.returns-in-Err-clause-answers
 returns-in-Err-clause-answers g c = λ state f.
     answers_to _ c.args.self.now c.reply.new.self state (request_of c.args.first c.args.second) NoMemory c.clear.new.self.bytes c.args.steps.now c.reply.new.steps c.self.view_is f
-    (λ f'. cleared state _ c.reply.new.out.bytes c.clear.new.self.bytes c.reply.new.self.mapping c.reply.new.self.index (c.in-Err.ensures.answers state f')) (c.in-Err.ensures.few state)
+    (λ f'. cleared state _ c.reply.new.out.bytes c.clear.new.self.bytes c.reply.new.self (c.in-Err.ensures.answers state f')) (c.in-Err.ensures.few state)

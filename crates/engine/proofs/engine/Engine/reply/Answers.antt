@@ -7,4 +7,6 @@ pub perform-requires-clause-formed : goal.perform-requires-clause-formed
 perform-requires-clause-formed g c = record {
   writes = λ it e. c.writes_are_formed.ensures (first_line_of c.args.first) (source_line_of c.args.second) it (c.in-Ok.ensures.ok ∙ ap asks e);
   searches = λ body e. c.searches_are_formed.ensures (first_line_of c.args.first) (source_line_of c.args.second) body (c.in-Ok.ensures.ok ∙ ap asks e);
+  forces = λ most e. c.merges_are_formed.ensures.forced (first_line_of c.args.first) (source_line_of c.args.second) most (c.in-Ok.ensures.ok ∙ ap asks e);
+  factors = λ factor e. c.merges_are_formed.ensures.factor (first_line_of c.args.first) (source_line_of c.args.second) factor (c.in-Ok.ensures.ok ∙ ap asks e);
 }

@@ -1,0 +1,25 @@
+use Rattle.std.proofs.Common.{inr}
+use Rattle.engine.specs.Parts.{answered_of}
+use Rattle.engine.proofs.Answering.{left_sealed}
+use Rattle.engine.proofs.Finding.{found_ends}
+use Rattle.engine.proofs.Leaving.{leaves_sealed}
+use Rattle.engine.proofs.search.search_view.Goals as goal
+
+pub returns-in_err-found-clause-answers : goal.returns-in_err-found-clause-answers
+returns-in_err-found-clause-answers g c = λ state live f stand.
+    left_sealed _ c.args.mapping.now c.args.index.now c.seal.new.index state _ c.args.out.now.bytes c.from_residual-in_err-found.result c.from_residual-in_err-found.ensures.1 f c.in_ok-seal.ensures.next c.in_ok-seal.ensures.sealed
+
+pub returns-in_err-found-clause-leaves : goal.returns-in_err-found-clause-leaves
+returns-in_err-found-clause-leaves g c =
+    leaves_sealed (answered_of c.from_residual-in_err-found.result) c.args.mapping.now c.args.index.now c.seal.new.index c.requires.index c.in_ok-seal.ensures.fits c.in_ok-seal.ensures.next
+    c.in_ok-seal.ensures.objects (inr c.in_ok-seal.ensures.sealed)
+
+pub returns-clause-answers : goal.returns-clause-answers
+returns-clause-answers g c = λ state live f stand.
+    found_ends c.args.limits.now c.args.mapping.now c.args.search.now c.args.index.now c.seal.new.index state live c.in_ok-found.found c.write_within.result c.write_within.new.out.bytes f
+    c.in_ok-seal.ensures.next c.in_ok-seal.ensures.sealed (c.in_ok-found.ensures.found live stand) c.write_within.ensures.told c.write_within.ensures.text
+
+pub returns-clause-leaves : goal.returns-clause-leaves
+returns-clause-leaves g c =
+    leaves_sealed (answered_of c.write_within.result) c.args.mapping.now c.args.index.now c.seal.new.index c.requires.index c.in_ok-seal.ensures.fits c.in_ok-seal.ensures.next c.in_ok-seal.ensures.objects
+    (inr c.in_ok-seal.ensures.sealed)
