@@ -1,6 +1,6 @@
 -- What is asked for elsewhere than of the layout is answered alike wherever trees stand, and what is asked of the layout leaves
 -- all else as it was.
-use Rattle.std.proofs.Common.{◌≡◌, ℕ, Bool, true, false, not, cond, nat_le, List, [], ◌∷◌, length, filter, Option, Some, None, refl, sym, ap, subst, ◌∙◌}
+use Rattle.std.proofs.Common.{◌≡◌, ℕ, Bool, true, false, not, cond, nat_le, List, [], ◌∷◌, length, Option, Some, None, refl, sym, ap, subst, ◌∙◌}
 use Rattle.std.proofs.lemmas.Bool.{true≢false}
 use Rattle.layout.specs.Layout.{Layout, sealed}
 use Rattle.line_reader.specs.Request.{Request}

@@ -1,5 +1,5 @@
 -- What stays true of the states of the machine, whatever is asked for.
-use Rattle.std.proofs.Common.{◌≡◌, ℕ, Bool, true, false, not, nat_le, List, [], ◌∷◌, length, Option, Some, None, refl, sym}
+use Rattle.std.proofs.Common.{◌≡◌, ℕ, true, not, nat_le, List, [], ◌∷◌, length, Option, Some, None, refl, sym}
 use Rattle.std.proofs.lemmas.Bool.{true≢false}
 use Rattle.layout.specs.Layout.{Layout, live_items}
 use Rattle.layout.specs.Merges.{with_factor}

@@ -1,12 +1,11 @@
 -- What doesn't depend on how trees are laid out: which requests ask of the layout, states that agree but for it and for what is
 -- stored, and the replies of a run.
-use Rattle.std.specs.Prelude.{◌≡◌, ◌≤◌, ℕ, Bool, true, false, not, if◌then◌else◌, List, [], ◌∷◌, filter}
+use Rattle.std.specs.Prelude.{◌≡◌, ◌≤◌, Bool, true, false, not, if◌then◌else◌, List, [], ◌∷◌, filter}
 use Rattle.std.specs.List.{AllByRecursion}
 use Rattle.line_reader.specs.Request.{Request}
 use Rattle.reply_text.specs.declared.reply.Reply.{Reply}
 use Rattle.request_form.specs.Asked.{Asked, refused, asks, asked_of}
 use Rattle.request_form.specs.Command.{Action, map_body, write, search, refresh, segments, open_pit, close_pit, force_merge, start_merge, advance_merge, finish_merge, abort_merge, commit, automerge}
-use Rattle.machine.specs.Answer.{Outcome}
 use Rattle.machine.specs.State.{PointInTime, PointsInTime, State}
 use Rattle.machine.specs.Step.{step}
 use Rattle.machine.specs.declared.limits.Limits.{Limits}
