@@ -1,4 +1,4 @@
-use Rattle.std.proofs.Common.{◌≡◌, ◌<◌, ◌≤◌, ℕ, Bool, false, List, [], length, replicate, ap, ◌∙◌, arith}
+use Rattle.std.proofs.Common.{◌<◌, ℕ, Bool, false, List, [], length, replicate, ap, ◌∙◌, arith}
 use Rattle.query_eval.proofs.Scopes.{none_is, set_at}
 use Rattle.query_eval.proofs.nests.scope_set.Goals as goal
 

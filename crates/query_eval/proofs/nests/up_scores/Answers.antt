@@ -1,4 +1,4 @@
-use Rattle.std.proofs.Common.{[], refl, sym, ap, ◌∙◌, length}
+use Rattle.std.proofs.Common.{refl}
 use Rattle.score_math.specs.Scores.{mode_of}
 use Rattle.query_eval.proofs.Scopes.{up_is}
 use Rattle.query_eval.proofs.nests.up_scores.Goals as goal

@@ -1,4 +1,4 @@
-use Rattle.std.proofs.Common.{◌≡◌, ◌<◌, ◌≤◌, ◌+◌, ℕ, List, [], Option, Some, None, length, map, refl, sym, ap, subst, ◌∙◌, arith}
+use Rattle.std.proofs.Common.{◌≡◌, [], Some, None, length, map, sym, ap, subst, ◌∙◌, arith}
 use Rattle.block_bits.specs.Flags.{is_marked}
 use Rattle.block_bits.specs.Places.{next_place}
 use Rattle.block_join.specs.Scores.{Begun, padded}

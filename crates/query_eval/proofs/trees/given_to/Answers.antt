@@ -1,6 +1,5 @@
-use Rattle.std.proofs.Common.{◌≡◌, ◌<◌, ◌≤◌, length, sym, subst, ◌∙◌}
-use Rattle.query_eval.specs.Sides.{TallyOf, scores_of}
-use Rattle.query_eval.proofs.Telling.{given_none, given_nothing, given_off, given_past}
+use Rattle.std.proofs.Common.{◌<◌, ◌≤◌, length, sym, subst, ◌∙◌}
+use Rattle.query_eval.proofs.Telling.{given_none, given_off, given_past}
 use Rattle.query_eval.proofs.trees.given_to.Goals as goal
 
 pub returns-then-root-roots-clause-given : goal.returns-then-root-roots-clause-given

@@ -1,4 +1,4 @@
-use Rattle.std.proofs.Common.{◌≡◌, ◌<◌, ◌≤◌, Bool, List, ℕ, Option, length, map, take, sym, ap, subst, ◌∙◌, arith}
+use Rattle.std.proofs.Common.{◌<◌, Bool, List, length, map, sym, ap, subst, ◌∙◌, arith}
 use Rattle.segment_parts.specs.declared.columns.Columns.{Columns}
 use Rattle.query_eval.specs.Sides.{AreTallies, answer_for, at_roots, keys_at, told_by}
 use Rattle.query_eval.specs.declared.tally.Tally.{Tally}

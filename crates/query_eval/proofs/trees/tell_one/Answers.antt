@@ -1,4 +1,4 @@
-use Rattle.std.proofs.Common.{◌≡◌, ◌<◌, length, sym, subst}
+use Rattle.std.proofs.Common.{◌<◌, length, sym, subst}
 use Rattle.query_eval.specs.Sides.{TallyOf, scores_of}
 use Rattle.query_eval.proofs.Telling.{tallies_more}
 use Rattle.query_eval.proofs.trees.tell_one.Goals as goal
