@@ -7,3 +7,8 @@ pub mod Rooted
 pub mod Changed
 pub mod Steps
 pub mod Listed
+pub mod Numbered
+pub mod Gathering
+pub mod Marked
+pub mod Refs
+pub mod Few

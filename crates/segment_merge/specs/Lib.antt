@@ -2,4 +2,7 @@
 -- `segment_builder`.
 pub mod Spread
 pub mod Merged
+pub mod Lists
 pub mod Numbering
+pub mod Scoped
+pub mod TermRefs

@@ -11,14 +11,18 @@ mod agreed;
 mod blocks;
 mod bytes;
 mod documents;
+mod head;
 mod keywords;
 mod marks;
 mod merge;
+mod new_ordinals;
 mod numbering;
 mod numbers;
+mod put_roots;
 mod refusal;
 mod roots;
 mod scopes;
+mod terms;
 mod texts;
 mod words;
 
