@@ -12,3 +12,5 @@ pub mod Gathering
 pub mod Marked
 pub mod Refs
 pub mod Few
+pub mod Noted
+pub mod Nested

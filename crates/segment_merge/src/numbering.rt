@@ -117,7 +117,7 @@ fn numbers_of(alloc: Global, base: u32, live: &BitSet) -> Result<Vec<u32>, NoMem
 /// The number that the next live document gets, given the one that this would get.
 fn behind_document(live: &BitSet, doc: u32, own: u32) -> u32
     requires within { doc < length live.now }
-    requires fits { own + 1 < 2 ^ 32 }
+    requires fits { cond (slice_index_or live.now doc false) (own + 1) own < 2 ^ 32 }
     ensures { result ≡ cond (slice_index_or live.now doc false) (own + 1) own }
 {
     if live.has(doc) { own + 1 } else { own }
