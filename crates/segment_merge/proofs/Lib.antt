@@ -14,3 +14,5 @@ pub mod Refs
 pub mod Few
 pub mod Noted
 pub mod Nested
+pub mod Items
+pub mod Posted

@@ -18,7 +18,7 @@ use Rattle.segment_merge.proofs.Refs.{AreMembers, Group, IsRef, Ref, all_are, gr
 
 -- ---- rooms stay
 
-rooms_with : (news : List (List ℕ)) (place ordinal new : ℕ) → rooms_of (with_ordinal news place ordinal new) ≡ rooms_of news
+pub rooms_with : (news : List (List ℕ)) (place ordinal new : ℕ) → rooms_of (with_ordinal news place ordinal new) ≡ rooms_of news
 rooms_with [] place ordinal new = refl
 rooms_with (own ∷ news) zero ordinal new = ap (λ n. n ∷ rooms_of news) (length-set own ordinal new)
 rooms_with (own ∷ news) (suc place) ordinal new = ap (λ (rooms : List ℕ). length own ∷ rooms) (rooms_with news place ordinal new)

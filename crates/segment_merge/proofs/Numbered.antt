@@ -54,6 +54,6 @@ live_more entries at d h = ap live_count_of (drop_more entries at d h) ∙ sum_b
 
 pub number_is : (part : PartState) (doc number : ℕ) (is : Bool) → is ≡ true → is ≡ get_or part.entry.live.docs doc false → doc < length part.entry.live.docs → number ≡ get_or (numbers_from part.base part.entry.live.docs) doc 0
     → Some number ≡ new_number part doc
-number_is part doc number is yes flag inside read =
-    let live : get_or part.entry.live.docs doc false ≡ true = sym flag ∙ yes in
+number_is part doc number is on flag inside read =
+    let live : get_or part.entry.live.docs doc false ≡ true = sym flag ∙ on in
     rw live (ap Some (read ∙ numbers_at part.base part.entry.live.docs doc inside))

@@ -1,5 +1,5 @@
 -- References to terms: what they stand for, and which they are.
-use Rattle.std.proofs.Common.{◌≡◌, ℕ, zero, suc, ◌+◌, ◌<◌, ◌^◌, Bool, true, false, cond, nat_lt, List, [], ◌∷◌, ◌++◌, length, map, get_or, drop, slice_get, Some, replicate, refl, sym, ap, subst, ◌∙◌, arith, map-append}
+use Rattle.std.proofs.Common.{◌≡◌, ℕ, zero, suc, ◌+◌, ◌<◌, ◌^◌, Bool, true, false, cond, nat_lt, List, [], ◌∷◌, ◌++◌, length, map, get_or, drop, slice_get, Some, replicate, refl, sym, ap, subst, ◌∙◌, append_assoc, arith, map-append}
 use Rattle.std.specs.List.{AllByRecursion, filter, flat_map}
 use Rattle.std.specs.Ordering.{eq_by_cmp, is_eq, nat_cmp}
 use Rattle.std.specs.Cmp.Lexicographic.{slice_cmp}
@@ -148,3 +148,13 @@ groups_of_refs parts refs (group ∷ groups) are gather = (
   subst (λ (places : List TermPlace). AllByRecursion (λ (place : TermPlace). IsRef parts (group.0, place)) places) (sym gather.0) (members_of parts group.0 refs are),
   groups_of_refs parts refs groups are gather.1,
 )
+
+-- ---- one reference more, as it is lent
+
+pub refs_more : (part : PartState) (place ordinal : ℕ) (terms : List (ℕ × List ℕ)) (term : ℕ × List ℕ) (old new all : List Ref) → slice_get terms ordinal ≡ Some term
+    → new ≡ old ++ (term, record { part = part; place = place; ordinal = ordinal }) ∷ [] → old ++ terms_from part place ordinal (drop ordinal terms) ≡ all
+    → new ++ terms_from part place (ordinal + 1) (drop (ordinal + 1) terms) ≡ all
+refs_more part place ordinal terms term old new all is pushed was =
+    let own : Ref = (term, record { part = part; place = place; ordinal = ordinal }) in
+    let rest : List Ref = terms_from part place (ordinal + 1) (drop (ordinal + 1) terms) in
+    ap (λ (refs : List Ref). refs ++ rest) pushed ∙ append_assoc old (own ∷ []) rest ∙ ap (λ (refs : List Ref). old ++ refs) (sym (terms_left part place ordinal terms term is)) ∙ was
