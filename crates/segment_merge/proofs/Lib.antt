@@ -16,3 +16,4 @@ pub mod Noted
 pub mod Nested
 pub mod Items
 pub mod Posted
+pub mod Termed
