@@ -7,3 +7,4 @@ pub mod Rooted
 pub mod Changed
 pub mod Steps
 pub mod Listed
+pub mod Gathering
