@@ -14,6 +14,7 @@ mod documents;
 mod keywords;
 mod marks;
 mod merge;
+mod numbering;
 mod numbers;
 mod refusal;
 mod roots;
