@@ -3,3 +3,4 @@
 pub mod Spread
 pub mod Merged
 pub mod Numbering
+pub mod Pieces
