@@ -8,3 +8,4 @@ pub mod Changed
 pub mod Steps
 pub mod Listed
 pub mod Gathering
+pub mod Pieced

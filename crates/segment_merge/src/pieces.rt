@@ -44,7 +44,7 @@ impl<'a, T: MergedValue> Piece<'a, T> {
     /// The column of a part. Takes no memory.
     fn of(part: &'a Part<'a>, ordinals: &'a [u64], column: Column<'a, T>) -> Piece<'a, T>
         requires { AreWithin part.now.entry.columns.documents column }
-        ensures { result ≡ live_rows (T.renewed ordinals.now) part.now column }
+        ensures { result ≡ live_rows (T.renewed ordinals.now) part.now column.entry }
     {
         let rows = live_rows(part, &column);
         Piece {
@@ -179,7 +179,7 @@ fn add_piece<'a, T: MergedValue>(
     piece: Piece<'a, T>,
     pieces: &mut Vec<(u32, Piece<'a, T>)>,
 ) -> Result<(), NoMemory>
-    ensures { OnOk result (pieces.new.items ≡ pieces.old.items ++ filter has_some ((field, piece) ∷ [])) }
+    ensures { OnOk result (pieces.new.items ≡ pieces.old.items ++ filter has_some ((field, piece.entry) ∷ [])) }
 {
     if piece.len() > 0 {
         pieces.push((field, piece))?;
