@@ -1,5 +1,5 @@
 -- References put together by key, and each then replaced by what it stands for: what they stand for, gathered by key.
-use Rattle.std.proofs.Common.{◌≡◌, ◌<◌, Bool, true, false, ◌||◌, List, [], ◌∷◌, ◌++◌, length, map, refl, sym, ap, ◌∙◌, append-nil, arith, nat_lt}
+use Rattle.std.proofs.Common.{◌≡◌, ◌<◌, Bool, true, false, ◌||◌, List, [], ◌∷◌, ◌++◌, length, map, refl, sym, ap, subst, ◌∙◌, append-nil, arith, nat_lt, length-append}
 use Rattle.std.specs.Cmp.{IsTotalOrder}
 use Rattle.std.specs.List.{AllByRecursion, filter, flat_map, list_any}
 use Rattle.std.specs.List.Sorted.{IsStrictlySortedBy}
@@ -9,10 +9,12 @@ use Rattle.std.specs.declared.cmp.Ordering.TheVariants.{Less}
 use Rattle.std.proofs.lemmas.Cmp.{eq_by_cmp_equiv}
 use Rattle.std.proofs.lemmas.Bool.{ltb-true}
 use Rattle.std.proofs.lemmas.Grind.{flat_map-append}
+use Rattle.std.proofs.lemmas.List.{length-map, map-append}
 use Rattle.std.proofs.lemmas.Map.Keys.{sorted_head, sorted_tail}
 use Rattle.segment.specs.Flat.{has_some}
 use Rattle.segment_builder.specs.Groups.{of_key, in_groups, keys, AreGroups}
 use Rattle.segment_merge.specs.Merged.{IsGathered}
+use Rattle.segment_merge.specs.Pieces.{whole}
 
 -- cases of a test, with its equation
 pub split : {C : Type 0} (t : Bool) → (t ≡ true → C) → (t ≡ false → C) → C
@@ -139,4 +141,85 @@ module _ {K : Type 0} (cmp : K → K → Ordering) (o : IsTotalOrder cmp) where
       ordered = record { ascending = up_some groups are.ordered.ascending; some = all_some (map whole_of groups) };
       same = λ key.
       in_some key (map whole_of groups) ∙ in_wholes key groups ∙ ap (flat_map expand) (gathered_at refs groups are key) ∙ sym (in_parts key refs);
+    }
+
+  -- ---- lists that are put together as they are, those without anything left out before
+
+  module _ {P : Type 0} where
+    in_lists : (key : K) (parts : List (K × List P)) → flat_map (λ list. list) (of_key cmp key (filter has_some parts)) ≡ in_groups cmp key parts
+    in_lists key [] = refl
+    in_lists key (part ∷ parts) =
+        split (has_some part)
+        (λ some. rw some (
+        split (eq_by_cmp cmp key part.0)
+        (λ is. rw (is, in_lists key parts) refl)
+        (λ isnt. rw isnt (in_lists key parts))))
+        (λ none. rw (none, some_or_none part.1 none) (
+        split (eq_by_cmp cmp key part.0)
+        (λ is. rw is (in_lists key parts))
+        (λ isnt. rw isnt (in_lists key parts))))
+
+    lists_some : (key : K) (parts : List (K × List P)) → AllByRecursion (λ list. 0 < length list) (of_key cmp key (filter has_some parts))
+    lists_some key [] = tt
+    lists_some key (part ∷ parts) =
+        split (has_some part)
+        (λ some. rw some (
+        split (eq_by_cmp cmp key part.0)
+        (λ is. rw is (ltb-true 0 (length part.1) some, lists_some key parts))
+        (λ isnt. rw isnt (lists_some key parts))))
+        (λ none. rw none (lists_some key parts))
+
+    some_joined : (lists : List (List P)) → 0 < length lists → AllByRecursion (λ list. 0 < length list) lists → 0 < length (flat_map (λ list. list) lists)
+    some_joined [] some all = absurd (omega (arith, some))
+    some_joined (list ∷ lists) some all = omega (arith, all.0, length-append list (flat_map (λ list. list) lists))
+
+    wholes_some : (parts : List (K × List P)) (groups : List (K × List (List P))) → AllByRecursion (λ (group : K × List (List P)). 0 < length group.1) groups
+        → AllByRecursion (λ (group : K × List (List P)). group.1 ≡ of_key cmp group.0 (filter has_some parts)) groups → AllByRecursion (λ (group : K × List P). 0 < length group.1) (map whole groups)
+    wholes_some parts [] some gather = tt
+    wholes_some parts (group ∷ groups) some gather = (
+      some_joined group.1 some.0 (subst (AllByRecursion (λ list. 0 < length list)) (sym gather.0) (lists_some group.0 parts)),
+      wholes_some parts groups some.1 gather.1,
+    )
+
+    whole_keys : (groups : List (K × List (List P))) → keys (map whole groups) ≡ keys groups
+    whole_keys [] = refl
+    whole_keys (group ∷ groups) = ap (λ rest. group.0 ∷ rest) (whole_keys groups)
+
+    pub are_whole : (parts : List (K × List P)) (groups : List (K × List (List P))) → AreGroups cmp (filter has_some parts) groups → IsGathered cmp parts (map whole groups)
+    are_whole parts groups are = record {
+      ordered = record {
+        ascending = subst (IsStrictlySortedBy cmp) (sym (whole_keys groups)) are.ordered.ascending;
+        some = wholes_some parts groups are.ordered.some are.gather;
+      };
+      same = λ key. in_wholes (λ list. list) key groups ∙ ap (flat_map (λ list. list)) (gathered_at (filter has_some parts) groups are key) ∙ in_lists key parts;
+    }
+
+  -- ---- what is gathered, seen as something else
+
+  module _ {P Q : Type 0} (f : P → Q) where
+    abbrev pub seen_as : K × List P → K × List Q
+    seen_as group = (group.0, map f group.1)
+
+    in_seen : (key : K) (groups : List (K × List P)) → in_groups cmp key (map seen_as groups) ≡ map f (in_groups cmp key groups)
+    in_seen key [] = refl
+    in_seen key (group ∷ groups) =
+        split (eq_by_cmp cmp key group.0)
+        (λ is. rw (is, in_seen key groups) (sym (map-append f group.1 (in_groups cmp key groups))))
+        (λ isnt. rw isnt (in_seen key groups))
+
+    seen_keys : (groups : List (K × List P)) → keys (map seen_as groups) ≡ keys groups
+    seen_keys [] = refl
+    seen_keys (group ∷ groups) = ap (λ rest. group.0 ∷ rest) (seen_keys groups)
+
+    seen_some : (groups : List (K × List P)) → AllByRecursion (λ (group : K × List P). 0 < length group.1) groups → AllByRecursion (λ (group : K × List Q). 0 < length group.1) (map seen_as groups)
+    seen_some [] all = tt
+    seen_some (group ∷ groups) all = (omega (arith, all.0, length-map group.1 f), seen_some groups all.1)
+
+    pub gathered_as : (parts groups : List (K × List P)) → IsGathered cmp parts groups → IsGathered cmp (map seen_as parts) (map seen_as groups)
+    gathered_as parts groups are = record {
+      ordered = record {
+        ascending = subst (IsStrictlySortedBy cmp) (sym (seen_keys groups)) are.ordered.ascending;
+        some = seen_some groups are.ordered.some;
+      };
+      same = λ key. in_seen key groups ∙ ap (map f) (are.same key) ∙ sym (in_seen key parts);
     }

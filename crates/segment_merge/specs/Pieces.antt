@@ -76,7 +76,7 @@ abbrev pub joined : {X : Type 0} → List (List X) → List X
 joined lists = flat_map (λ list. list) lists
 
 -- the lists of a group as one
-abbrev pub whole : {X : Type 0} → ℕ × List (List X) → ℕ × List X
+abbrev pub whole : {K X : Type 0} → K × List (List X) → K × List X
 whole group = (group.0, joined group.1)
 
 -- lists of numbers as vectors keep them
