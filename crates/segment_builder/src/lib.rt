@@ -10,7 +10,7 @@ mod assemble;
 mod entries;
 mod find;
 mod fit;
-mod grouped;
+mod grouping;
 mod law;
 mod numbers;
 mod ordinals;
@@ -22,7 +22,9 @@ mod scopes;
 mod terms;
 
 pub use assemble::{built, made_of};
+pub use grouping::grouped;
 pub use law::{
     blocks_are_whole, blocks_stand_for_trees, deaths_mark_blocks, fitting_segments_are_blocks,
 };
 pub use refusal::NoMemory;
+pub use scopes::scope_sets;

@@ -32,7 +32,7 @@ module _ {K : Type 0} (cmp : K → K → Ordering) (o : IsTotalOrder cmp) where
 
   -- ---- groups at a key
 
-  none_behind : {P : Type 0} (key first : K) (groups : List (K × List P)) → eq_by_cmp cmp key first ≡ true → AllByRecursion (λ k. cmp first k ≡ Less) (keys groups) → in_groups cmp key groups ≡ []
+  pub none_behind : {P : Type 0} (key first : K) (groups : List (K × List P)) → eq_by_cmp cmp key first ≡ true → AllByRecursion (λ k. cmp first k ≡ Less) (keys groups) → in_groups cmp key groups ≡ []
   none_behind key first [] is behind = refl
   none_behind key first (group ∷ groups) is behind =
       let apart : eq_by_cmp cmp key group.0 ≡ false = (eq_by_cmp_equiv o).congr key first group.0 is ∙ less_apart first group.0 behind.0 in
@@ -93,7 +93,7 @@ module _ {K : Type 0} (cmp : K → K → Ordering) (o : IsTotalOrder cmp) where
         (λ is. rw (is, in_wholes key groups) (sym (flat_map-append expand group.1 (in_groups cmp key groups))))
         (λ isnt. rw isnt (in_wholes key groups))
 
-    in_parts : (key : K) (refs : List (K × R)) → in_groups cmp key (map part_of refs) ≡ flat_map expand (of_key cmp key refs)
+    pub in_parts : (key : K) (refs : List (K × R)) → in_groups cmp key (map part_of refs) ≡ flat_map expand (of_key cmp key refs)
     in_parts key [] = refl
     in_parts key (ref ∷ refs) =
         split (eq_by_cmp cmp key ref.0)

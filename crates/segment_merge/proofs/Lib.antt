@@ -9,3 +9,7 @@ pub mod Steps
 pub mod Listed
 pub mod Gathering
 pub mod Pieced
+pub mod Numbered
+pub mod Marked
+pub mod Refs
+pub mod Few

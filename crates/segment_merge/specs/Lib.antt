@@ -2,5 +2,8 @@
 -- `segment_builder`.
 pub mod Spread
 pub mod Merged
+pub mod Lists
 pub mod Numbering
 pub mod Pieces
+pub mod Scoped
+pub mod TermRefs

@@ -1,5 +1,5 @@
 -- The parts that a merge puts together: entries, each with the number of live documents in entries before it.
-use Rattle.std.specs.Prelude.{◌≡◌, ℕ, ◌+◌, Bool, false, cond, List, [], ◌∷◌, slice_index_or, Option, Some, None}
+use Rattle.std.specs.Prelude.{◌≡◌, ℕ, ◌+◌, Bool, false, cond, List, [], ◌∷◌, slice_index_or, sum_by, Option, Some, None}
 use Rattle.segment.specs.Live.{EntryState}
 use Rattle.segment_merge.specs.Merged.{live_count, renumbered}
 
@@ -20,3 +20,7 @@ new_number part doc = cond (slice_index_or part.entry.live.docs doc false) (Some
 abbrev pub numbers_from : ℕ → List Bool → List ℕ
 numbers_from next [] = []
 numbers_from next (flag ∷ flags) = next ∷ numbers_from (cond flag (next + 1) next) flags
+
+-- how many documents of parts are live
+abbrev pub live_in : List PartState → ℕ
+live_in parts = sum_by (λ (part : PartState). live_count part.entry) parts

@@ -1,6 +1,6 @@
 use Rattle.std.proofs.Common.{◌∙◌}
 use Rattle.segment_builder.proofs.InOrder.{are_groups}
-use Rattle.segment_builder.proofs.grouped.grouped.Goals as goal
+use Rattle.segment_builder.proofs.grouping.grouped.Goals as goal
 
 pub returns : goal.returns
 returns g c =

@@ -2,7 +2,7 @@ use Rattle.std.proofs.Common.{rules}
 use Rattle.std.proofs.lemmas.List.Sorted.{answers_always, ranks_by}
 use Rattle.segment_builder.proofs.InOrder.{risen}
 use Rattle.segment_builder.proofs.Keys.{stable_key}
-use Rattle.segment_builder.proofs.grouped.sort.Goals as goal
+use Rattle.segment_builder.proofs.grouping.sort.Goals as goal
 
 pub returns-clause-same : goal.returns-clause-same
 returns-clause-same g c =

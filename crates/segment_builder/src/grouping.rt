@@ -10,7 +10,7 @@ use crate::NoMemory;
 use std::alloc::Global;
 
 /// What entries carry, put together by key, by ascending key and in the order of the entries.
-pub(crate) fn grouped<K: Ord + Drop, P: Drop>(
+pub fn grouped<K: Ord + Drop, P: Drop>(
     alloc: Global,
     mut entries: Vec<(K, P)>,
 ) -> Result<Vec<(K, Vec<P>)>, NoMemory>

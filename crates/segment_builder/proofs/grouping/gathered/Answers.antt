@@ -1,7 +1,7 @@
 use Rattle.std.proofs.Common.{rules, refl}
 use Rattle.segment_builder.proofs.InOrder.{behind_on, rising_on, behind_here, behind_none, none_ordered}
 use Rattle.segment_builder.proofs.Keys.{gathers_on}
-use Rattle.segment_builder.proofs.grouped.gathered.Goals as goal
+use Rattle.segment_builder.proofs.grouping.gathered.Goals as goal
 
 pub entries-init : goal.entries-init
 entries-init g c = (

@@ -1,7 +1,7 @@
 use Rattle.std.proofs.Common.{refl, ◌∙◌}
 use Rattle.segment_builder.proofs.InOrder.{begun_groups, begun_up_to}
 use Rattle.segment_builder.proofs.Keys.{begun_in}
-use Rattle.segment_builder.proofs.grouped.begin.Goals as goal
+use Rattle.segment_builder.proofs.grouping.begin.Goals as goal
 
 pub returns-clause-gather : goal.returns-clause-gather
 returns-clause-gather g c = λ any.

@@ -2,7 +2,7 @@ use Rattle.std.proofs.Common.{rules, ◌≡◌, true, false}
 use Rattle.std.specs.Ordering.{eq_by_cmp}
 use Rattle.segment_builder.proofs.InOrder.{before_in, went_on_groups, went_on_up_to}
 use Rattle.segment_builder.proofs.Keys.{went_on_in}
-use Rattle.segment_builder.proofs.grouped.put.Goals as goal
+use Rattle.segment_builder.proofs.grouping.put.Goals as goal
 
 pub begin-requires-clause-before : goal.begin-requires-clause-before
 begin-requires-clause-before g c =

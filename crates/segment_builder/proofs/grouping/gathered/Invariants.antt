@@ -2,7 +2,7 @@ use Rattle.std.proofs.Common.{◌≡◌, ◌++◌}
 use Rattle.std.specs.Vec.Iter.{into_iter_items}
 use Rattle.segment_builder.specs.Groups.{of_key, in_groups, groups_seen, AreOrdered, AreRising}
 use Rattle.segment_builder.proofs.InOrder.{AreBehind}
-use Rattle.segment_builder.proofs.grouped.gathered.Given as goal
+use Rattle.segment_builder.proofs.grouping.gathered.Given as goal
 
 abbrev pub invariant-entries : goal.invariant-entries
 invariant-entries g l =
