@@ -126,6 +126,15 @@ columns_more {X} renew part columns at field rows now new all column put was =
 
 -- ---- parts
 
+pub of_first : (lists : List (List ℕ)) (at : ℕ) (list : List ℕ) → list ≡ slice_index_or lists at [] → list ≡ first_list (drop at lists)
+of_first lists at list is = is ∙ first_of lists at
+  where
+    first_of : (lists : List (List ℕ)) (at : ℕ) → slice_index_or lists at [] ≡ first_list (drop at lists)
+    first_of [] zero = refl
+    first_of [] (suc at) = refl
+    first_of (own ∷ lists) zero = refl
+    first_of (own ∷ lists) (suc at) = first_of lists at
+
 pub parts_more : {X : Type 0} (columns : Columns → List (ℕ × List (ℕ × List X))) (renew : List ℕ → X → X) (parts : List PartState) (lists : List (List ℕ)) (at : ℕ) (part : PartState) (list : List ℕ) (now new all : List (ℕ × List (ℕ × List X)))
     → at < length parts → part ≡ get_or parts at part → list ≡ first_list (drop at lists) → new ≡ now ++ filter has_some (columns_in (renew list) part (columns part.entry.columns))
     → now ++ filter has_some (columns_of_parts columns renew (drop at parts) (drop at lists)) ≡ all → new ++ filter has_some (columns_of_parts columns renew (drop (at + 1) parts) (drop (at + 1) lists)) ≡ all

@@ -1,5 +1,5 @@
 -- The rows of columns as a merge writes them, part by part: those of live documents, with their new numbers.
-use Rattle.std.specs.Prelude.{◌≡◌, ℕ, ℤ, true, false, List, [], ◌∷◌, ◌++◌, map, drop, slice_get, slice_index_or, Contains, Option, Vec}
+use Rattle.std.specs.Prelude.{◌≡◌, ℕ, ℤ, true, false, List, [], ◌∷◌, ◌++◌, map, drop, slice_get, slice_index_or, Contains, Option}
 use Rattle.std.specs.List.{flat_map}
 use Rattle.postings.specs.Postings.{documents}
 use Rattle.segment_parts.specs.Lists.{postings_of, terms_of}
@@ -44,7 +44,7 @@ live_rows renew part rows = with_values renew (kept part.base part.entry.live.do
 abbrev pub columns_in : {X : Type 0} → (X → X) → PartState → List (ℕ × List (ℕ × List X)) → List (ℕ × List (ℕ × List X))
 columns_in {X} renew part columns = map (λ (column : ℕ × List (ℕ × List X)). (column.0, live_rows renew part column.1)) columns
 
--- the first of lists, and those behind it
+-- the first of lists
 abbrev pub first_list : List (List ℕ) → List ℕ
 first_list lists = slice_index_or lists 0 []
 
@@ -78,7 +78,3 @@ joined lists = flat_map (λ list. list) lists
 -- the lists of a group as one
 abbrev pub whole : {K X : Type 0} → K × List (List X) → K × List X
 whole group = (group.0, joined group.1)
-
--- lists of numbers as vectors keep them
-abbrev pub lists_seen : {A : Type 0} → List (Vec ℕ A) → List (List ℕ)
-lists_seen {A} lists = map (λ (list : Vec ℕ A). list.items) lists

@@ -26,6 +26,7 @@ mod roots;
 mod scopes;
 mod terms;
 mod texts;
+mod value_columns;
 mod words;
 
 pub use merge::merged;

@@ -1,15 +1,16 @@
 //! The columns of parts, each with the rows that a merge writes of it.
 
-ghost use Rattle.std.specs.Prelude.{◌≡◌, ◌++◌, ◌∷◌, [], drop, length, map, IfOk, OnOk};
+ghost use Rattle.std.specs.Prelude.{◌≡◌, ◌++◌, ◌∷◌, [], length, map, IfOk, OnOk};
 ghost use Rattle.std.specs.List.{filter, flat_map};
 ghost use Rattle.doc_values.specs.Text.{entry_text};
 ghost use Rattle.segment.specs.Flat.{has_some};
 ghost use Rattle.segment_parts.specs.Agree.{AreWithin};
 ghost use Rattle.segment_merge.specs.Merged.{kept};
-ghost use Rattle.segment_merge.specs.Pieces.{columns_in, columns_of_parts, first_list, lists_seen, live_rows};
+ghost use Rattle.segment_merge.specs.Pieces.{columns_in, columns_of_parts, live_rows};
 
 use crate::NoMemory;
 use crate::merged_value::MergedValue;
+use crate::new_ordinals::NewOrdinals;
 use crate::numbering::Part;
 use doc_values::{Column, Values};
 use part_text::put_u32;
@@ -136,25 +137,15 @@ fn put_values<T: MergedValue>(
 pub(crate) fn pieces_of<'a, T: MergedValue>(
     alloc: Global,
     parts: &'a [Part<'a>],
-    ordinals: &'a [Vec<u64>],
+    news: &'a NewOrdinals,
 ) -> Result<Vec<(u32, Piece<'a, T>)>, NoMemory>
-    ensures { IfOk result (λ pieces. pieces.items ≡ filter has_some (columns_of_parts T.columns T.renewed parts.now (lists_seen ordinals.now))) }
+    ensures { IfOk result (λ pieces. pieces.items ≡ filter has_some (columns_of_parts T.columns T.renewed parts.now news.now)) }
 {
     let mut pieces = Vec::new(alloc);
     'parts: for at in 0..parts.len() {
-        add_pieces(&parts[at], list_at(ordinals, at), &mut pieces)?;
+        add_pieces(&parts[at], news.of_part(at), &mut pieces)?;
     }
     Ok(pieces)
-}
-
-/// The list at a place, or an empty one behind the last.
-fn list_at(lists: &[Vec<u64>], at: usize) -> &[u64]
-    ensures { result.now ≡ first_list (drop at (lists_seen lists.now)) }
-{
-    match lists.get(at) {
-        Some(list) => list.as_slice(),
-        None => &[],
-    }
 }
 
 /// Adds the columns of a part that have rows of live documents.
