@@ -1,5 +1,5 @@
 -- References put together by key, and each then replaced by what it stands for: what they stand for, gathered by key.
-use Rattle.std.proofs.Common.{◌≡◌, ◌<◌, Bool, true, false, ◌||◌, List, [], ◌∷◌, ◌++◌, length, map, refl, sym, ap, subst, ◌∙◌, append-nil, arith, nat_lt, length-append}
+use Rattle.std.proofs.Common.{◌≡◌, ◌<◌, Bool, true, false, ◌||◌, List, [], ◌∷◌, ◌++◌, length, map, refl, sym, ap, subst, ◌∙◌, append_assoc, append-nil, arith, nat_lt, length-append}
 use Rattle.std.specs.Cmp.{IsTotalOrder}
 use Rattle.std.specs.List.{AllByRecursion, filter, flat_map, list_any}
 use Rattle.std.specs.List.Sorted.{IsStrictlySortedBy}
@@ -7,7 +7,7 @@ use Rattle.std.specs.Ordering.{eq_by_cmp}
 use Rattle.std.specs.declared.cmp.Ordering.{Ordering}
 use Rattle.std.specs.declared.cmp.Ordering.TheVariants.{Less}
 use Rattle.std.proofs.lemmas.Cmp.{eq_by_cmp_equiv}
-use Rattle.std.proofs.lemmas.Bool.{ltb-true}
+use Rattle.std.proofs.lemmas.Bool.{lt-ltb, ltb-true}
 use Rattle.std.proofs.lemmas.Grind.{flat_map-append}
 use Rattle.std.proofs.lemmas.List.{length-map, map-append}
 use Rattle.std.proofs.lemmas.Map.Keys.{sorted_head, sorted_tail}
@@ -24,7 +24,7 @@ split false left right = right refl
 -- no list is without elements and with some
 some_or_none : {X : Type 0} (xs : List X) → nat_lt 0 (length xs) ≡ false → xs ≡ []
 some_or_none [] none = refl
-some_or_none (x ∷ xs) none = absurd (cc (none))
+some_or_none (x ∷ xs) none = absurd (let some : nat_lt 0 (length (x ∷ xs)) ≡ true = lt-ltb 0 (length (x ∷ xs)) (omega arith) in let no : true ≡ false = sym some ∙ none in cc (no))
 
 module _ {K : Type 0} (cmp : K → K → Ordering) (o : IsTotalOrder cmp) where
   less_apart : (x y : K) → cmp x y ≡ Less → eq_by_cmp cmp x y ≡ false
@@ -57,7 +57,7 @@ module _ {K : Type 0} (cmp : K → K → Ordering) (o : IsTotalOrder cmp) where
 
   no_group : {P : Type 0} (key : K) (groups : List (K × List P)) → list_any (λ (group : K × List P). eq_by_cmp cmp key group.0) groups ≡ false → in_groups cmp key groups ≡ []
   no_group key [] none = refl
-  no_group key (group ∷ groups) none =
+  no_group {P} key (group ∷ groups) none =
       split (eq_by_cmp cmp key group.0)
       (λ is. absurd (let found : (true || list_any (λ (other : K × List P). eq_by_cmp cmp key other.0) groups) ≡ false = rw is at none in cc (found)))
       (λ isnt. rw isnt (no_group key groups (rw isnt at none)))
@@ -223,3 +223,35 @@ module _ {K : Type 0} (cmp : K → K → Ordering) (o : IsTotalOrder cmp) where
       };
       same = λ key. in_seen key groups ∙ ap (map f) (are.same key) ∙ sym (in_seen key parts);
     }
+
+  -- ---- what a group holds
+
+  pub groups_append : {P : Type 0} (key : K) (groups others : List (K × List P)) → in_groups cmp key (groups ++ others) ≡ in_groups cmp key groups ++ in_groups cmp key others
+  groups_append key [] others = refl
+  groups_append key (group ∷ groups) others =
+      split (eq_by_cmp cmp key group.0)
+      (λ is. rw (is, groups_append key groups others) (sym (append_assoc group.1 (in_groups cmp key groups) (in_groups cmp key others))))
+      (λ isnt. rw (isnt, groups_append key groups others) refl)
+
+  less_back : (x y : K) → cmp x y ≡ Less → eq_by_cmp cmp y x ≡ false
+  less_back x y less = (eq_by_cmp_equiv o).symm y x ∙ less_apart x y less
+
+  lift_own : {P : Type 0} (first : K × List P) (all groups : List (K × List P)) → AllByRecursion (λ k. cmp first.0 k ≡ Less) (keys groups)
+      → AllByRecursion (λ (group : K × List P). group.1 ≡ in_groups cmp group.0 all) groups → AllByRecursion (λ (group : K × List P). group.1 ≡ in_groups cmp group.0 (first ∷ all)) groups
+  lift_own first all [] behind own = tt
+  lift_own first all (group ∷ groups) behind own = (rw (less_back first.0 group.0 behind.0) own.0, lift_own first all groups behind.1 own.1)
+
+  own_groups : {P : Type 0} (groups : List (K × List P)) → IsStrictlySortedBy cmp (keys groups) → AllByRecursion (λ (group : K × List P). group.1 ≡ in_groups cmp group.0 groups) groups
+  own_groups [] up = tt
+  own_groups (group ∷ groups) up =
+      let behind = sorted_head cmp group.0 (keys groups) up in
+      let here = (eq_by_cmp_equiv o).refl group.0 in
+      (rw (here, none_behind group.0 group.0 groups here behind) (sym (append-nil group.1)), lift_own group groups groups behind (own_groups groups (sorted_tail cmp group.0 (keys groups) up)))
+
+  all_same : {P : Type 0} (parts all groups : List (K × List P)) → ((key : K) → in_groups cmp key all ≡ in_groups cmp key parts) → AllByRecursion (λ (group : K × List P). group.1 ≡ in_groups cmp group.0 all) groups
+      → AllByRecursion (λ (group : K × List P). group.1 ≡ in_groups cmp group.0 parts) groups
+  all_same parts all [] same own = tt
+  all_same parts all (group ∷ groups) same own = (own.0 ∙ same group.0, all_same parts all groups same own.1)
+
+  pub own_gathered : {P : Type 0} (parts groups : List (K × List P)) → IsGathered cmp parts groups → AllByRecursion (λ (group : K × List P). group.1 ≡ in_groups cmp group.0 parts) groups
+  own_gathered parts groups are = all_same parts groups groups are.same (own_groups groups are.ordered.ascending)

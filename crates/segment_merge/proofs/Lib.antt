@@ -9,6 +9,8 @@ pub mod Steps
 pub mod Listed
 pub mod Gathering
 pub mod Pieced
+pub mod Renewed
+pub mod Placed
 pub mod Numbered
 pub mod Marked
 pub mod Refs

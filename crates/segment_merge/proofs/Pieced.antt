@@ -1,18 +1,20 @@
 -- One step of a walk over the rows, columns and parts that a merge writes again.
-use Rattle.std.proofs.Common.{◌≡◌, ℕ, zero, suc, ◌+◌, ◌<◌, Bool, true, false, cond, List, [], ◌∷◌, ◌++◌, length, map, get_or, slice_get, drop, Option, Some, None, refl, sym, ap, subst, ◌∙◌, append_assoc, append-nil, arith}
+use Rattle.std.proofs.Common.{◌≡◌, ℕ, zero, suc, ◌+◌, ◌<◌, Bool, true, false, cond, List, [], ◌∷◌, ◌++◌, length, map, get_or, slice_get, drop, Option, Some, None, refl, sym, ap, subst, ◌∙◌, append_assoc, append-nil, arith, Vec}
 use Rattle.std.specs.Prelude.{slice_index, slice_index_or}
 use Rattle.std.specs.Option.{is_some}
 use Rattle.std.specs.List.{All, filter, flat_map}
-use Rattle.std.proofs.lemmas.List.{drop_more, drop-drop}
+use Rattle.std.proofs.lemmas.Grind.{flat_map-append}
+use Rattle.std.proofs.lemmas.List.{drop_more, drop-drop, length-map}
 use Rattle.std.proofs.lemmas.List.Elements.{filter-append}
 use Rattle.std.proofs.lemmas.Option.{get_or_from_slice_get, slice_get_within}
 use Rattle.doc_values.specs.Values.{documents}
 use Rattle.segment.specs.Flat.{has_some}
+use Rattle.segment_builder.specs.Groups.{groups_seen}
 use Rattle.segment_parts.specs.Agree.{AreWithin}
 use Rattle.segment_parts.specs.declared.columns.Columns.{Columns}
 use Rattle.segment_merge.specs.Merged.{kept, renumbered}
 use Rattle.segment_merge.specs.Numbering.{PartState, new_number}
-use Rattle.segment_merge.specs.Pieces.{columns_in, columns_of_parts, first_list, live_rows}
+use Rattle.segment_merge.specs.Pieces.{columns_in, columns_of_parts, first_list, joined, live_rows, whole}
 
 -- the first of what is left
 pub left_at : {X : Type 0} (xs : List X) (at : ℕ) (x : X) → slice_get xs at ≡ Some x → drop at xs ≡ x ∷ drop (at + 1) xs
@@ -151,3 +153,41 @@ parts_more {X} columns renew parts lists at part list now new all below is own p
     ∙ ap (λ (l : List ℕ). now ++ filter has_some (columns_in (renew l) part (columns part.entry.columns) ++ columns_of_parts columns renew (drop (at + 1) parts) (drop 1 (drop at lists)))) own
     ∙ ap (λ (ps : List PartState). now ++ filter has_some (columns_of_parts columns renew ps (drop at lists))) (sym here)
     ∙ was
+
+-- ---- lists and groups that are written one behind the other
+
+pub lists_more : {Y : Type 0} (text : Y → List ℕ) (lists : List (List Y)) (at : ℕ) (list : List Y) (now new all : List ℕ) → at < length lists → list ≡ get_or lists at list → new ≡ now ++ flat_map text list
+    → now ++ flat_map text (joined (drop at lists)) ≡ all → new ++ flat_map text (joined (drop (at + 1) lists)) ≡ all
+lists_more {Y} text lists at list now new all below is put was =
+    let rest : List Y = joined (drop (at + 1) lists) in
+    let here : drop at lists ≡ list ∷ drop (at + 1) lists = drop_more lists at list below ∙ ap (λ l. l ∷ drop (at + 1) lists) (sym is) in
+    ap (λ (xs : List ℕ). xs ++ flat_map text rest) put
+    ∙ append_assoc now (flat_map text list) (flat_map text rest)
+    ∙ ap (λ (xs : List ℕ). now ++ xs) (sym (flat_map-append text list rest))
+    ∙ ap (λ (ls : List (List Y)). now ++ flat_map text (joined ls)) (sym here)
+    ∙ was
+
+pub groups_more : {K X A : Type 0} (text : K × List X → List ℕ) (groups : List (K × Vec (List X) A)) (at : ℕ) (group : K × Vec (List X) A) (own : List (List X)) (now new all : List ℕ)
+    → at < length groups → group ≡ get_or groups at group → own ≡ group.1.items → new ≡ now ++ text (group.0, joined own)
+    → now ++ flat_map text (map whole (groups_seen (drop at groups))) ≡ all → new ++ flat_map text (map whole (groups_seen (drop (at + 1) groups))) ≡ all
+groups_more {K} {X} {A} text groups at group own now new all below is lists put was =
+    let rest : List ℕ = flat_map text (map whole (groups_seen (drop (at + 1) groups))) in
+    let here : drop at groups ≡ group ∷ drop (at + 1) groups = drop_more groups at group below ∙ ap (λ g. g ∷ drop (at + 1) groups) (sym is) in
+    ap (λ (xs : List ℕ). xs ++ rest) put
+    ∙ append_assoc now (text (group.0, joined own)) rest
+    ∙ ap (λ (ls : List (List X)). now ++ (text (group.0, joined ls) ++ rest)) lists
+    ∙ ap (λ (gs : List (K × Vec (List X) A)). now ++ flat_map text (map whole (groups_seen gs))) (sym here)
+    ∙ was
+
+-- a counted list of groups
+pub groups_counted : {K X A : Type 0} (number : ℕ → List ℕ) (text : K × List X → List ℕ) (groups all : List (K × Vec (List X) A)) (count : ℕ) (old mid new : List ℕ)
+    → count ≡ length groups → mid ≡ old ++ number count → all ≡ groups → new ≡ mid ++ flat_map text (map whole (groups_seen all))
+    → new ≡ old ++ (number (length (map whole (groups_seen groups))) ++ flat_map text (map whole (groups_seen groups)))
+groups_counted {K} {X} {A} number text groups all count old mid new counted first same put =
+    let long : length (map whole (groups_seen groups)) ≡ count =
+    length-map (groups_seen groups) whole ∙ length-map groups (λ (group : K × Vec (List X) A). (group.0, group.1.items)) ∙ sym counted in
+    put
+    ∙ ap (λ (gs : List (K × Vec (List X) A)). mid ++ flat_map text (map whole (groups_seen gs))) same
+    ∙ ap (λ (xs : List ℕ). xs ++ flat_map text (map whole (groups_seen groups))) first
+    ∙ append_assoc old (number count) (flat_map text (map whole (groups_seen groups)))
+    ∙ ap (λ n. old ++ (number n ++ flat_map text (map whole (groups_seen groups)))) (sym long)

@@ -10,6 +10,7 @@
 mod agreed;
 mod blocks;
 mod bytes;
+mod counts;
 mod documents;
 mod head;
 mod keywords;
@@ -25,6 +26,7 @@ mod refusal;
 mod roots;
 mod scopes;
 mod terms;
+mod text_columns;
 mod texts;
 mod value_columns;
 mod words;

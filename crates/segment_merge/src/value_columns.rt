@@ -1,19 +1,20 @@
 //! The columns of values of a merged segment, written: numbers, and ordinals of terms.
 
-ghost use Rattle.std.specs.Prelude.{◌≡◌, ℕ, ℤ, List, Option, ◌+◌, ◌++◌, length, map, IfOk, OnOk};
-ghost use Rattle.std.specs.List.{All, flat_map};
+ghost use Rattle.std.specs.Prelude.{◌≡◌, ℕ, ℤ, List, ◌++◌, length, map, IfOk, OnOk};
+ghost use Rattle.std.specs.List.{flat_map};
 ghost use Rattle.std.specs.Ordering.{nat_cmp};
 ghost use Rattle.doc_values.specs.Text.{column_text, entry_text};
 ghost use Rattle.part_text.specs.Text.{counted_text, u32_text};
 ghost use Rattle.segment_builder.specs.Columns.{column_terms};
 ghost use Rattle.segment_builder.specs.Groups.{groups_seen};
-ghost use Rattle.segment_parts.specs.Agree.{AreColumns};
 ghost use Rattle.segment_parts.specs.Text.{numbers_text, ordinals_text};
 ghost use Rattle.segment_merge.specs.Merged.{IsGathered};
 ghost use Rattle.segment_merge.specs.Pieces.{columns_of_parts, from_parts, joined, part_keywords, part_numbers, whole};
 ghost use Rattle.segment_merge.specs.TermRefs.{AreNew};
 
 use crate::NoMemory;
+use crate::agreed::parts_agree;
+use crate::counts::{count_of, sum_of};
 use crate::merged_value::MergedValue;
 use crate::new_ordinals::NewOrdinals;
 use crate::numbering::Part;
@@ -54,15 +55,6 @@ pub(crate) fn put_ordinals(
     Ok(())
 }
 
-/// Says that the columns of each part agree. Does nothing.
-fn parts_agree(parts: &[Part])
-    ensures { All (λ part. AreColumns part.entry.columns) parts.now }
-{
-    'parts: for part in parts {
-        let _documents = part.segment().docs();
-    }
-}
-
 /// Appends columns of values of parts, put together by field, behind their number.
 fn put_columns<T: MergedValue>(
     alloc: Global,
@@ -78,16 +70,6 @@ fn put_columns<T: MergedValue>(
     put_u32(into, count_of(groups.len())?)?;
     put_groups(groups.as_slice(), into)?;
     Ok(())
-}
-
-/// A number of things as it is written, in four bytes. Memory for more than fit there isn't looked for.
-fn count_of(count: usize) -> Result<u32, NoMemory>
-    ensures { IfOk result (λ same. same ≡ count) }
-{
-    match u32::try_from(count) {
-        Ok(same) => Ok(same),
-        Err(_) => Err(NoMemory),
-    }
 }
 
 /// Appends the columns of groups of pieces.
@@ -126,16 +108,6 @@ fn row_count<T: MergedValue>(pieces: &[Piece<T>]) -> Result<u32, NoMemory>
         count = sum_of(count, piece.len())?;
     }
     Ok(count)
-}
-
-/// Two numbers of rows together, as they are written, in four bytes. Memory for more than fit there isn't looked for.
-fn sum_of(one: u32, other: u32) -> Result<u32, NoMemory>
-    ensures { IfOk result (λ sum. sum ≡ one + other) }
-{
-    match one.checked_add(other) {
-        Some(sum) => Ok(sum),
-        None => Err(NoMemory),
-    }
 }
 
 /// Appends the rows of pieces.
