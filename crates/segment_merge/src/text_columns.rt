@@ -116,7 +116,7 @@ fn add_text(
     places: Places,
     texts: &mut Vec<(u32, Places)>,
 ) -> Result<(), NoMemory>
-    ensures { OnOk result (texts.new.items ≡ texts.old.items ++ filter has_some ((field, places.entry) ∷ [])) }
+    ensures { OnOk result (texts.new.items ≡ texts.old.items ++ filter has_some ((field, places) ∷ [])) }
 {
     if places.len() > 0 {
         texts.push((field, places))?;
