@@ -15,3 +15,7 @@ pub mod Numbered
 pub mod Marked
 pub mod Refs
 pub mod Few
+pub mod Noted
+pub mod Nested
+pub mod Items
+pub mod Posted

@@ -1,5 +1,5 @@
 -- The new numbers of documents, and entries as parts.
-use Rattle.std.proofs.Common.{◌≡◌, ℕ, zero, suc, ◌+◌, ◌<◌, Bool, true, false, cond, List, [], ◌∷◌, ◌++◌, length, map, get_or, drop, take, refl, sym, ap, ◌∙◌, arith}
+use Rattle.std.proofs.Common.{◌≡◌, ℕ, zero, suc, ◌+◌, ◌<◌, Bool, true, false, cond, List, [], ◌∷◌, ◌++◌, length, map, get_or, drop, take, Some, refl, sym, ap, ◌∙◌, arith}
 use Rattle.std.specs.List.{count_by, flat_map, sum_by}
 use Rattle.std.proofs.lemmas.List.{drop_more}
 use Rattle.std.proofs.lemmas.List.Sums.{sum_by-cons}
@@ -49,3 +49,11 @@ live_in_parts base (entry ∷ entries) =
 
 pub live_more : (entries : List EntryState) (at : ℕ) (d : EntryState) → at < length entries → live_count_of (drop at entries) ≡ live_count (get_or entries at d) + live_count_of (drop (at + 1) entries)
 live_more entries at d h = ap live_count_of (drop_more entries at d h) ∙ sum_by-cons live_count (get_or entries at d) (drop (at + 1) entries)
+
+-- ---- one look-up
+
+pub number_is : (part : PartState) (doc number : ℕ) (is : Bool) → is ≡ true → is ≡ get_or part.entry.live.docs doc false → doc < length part.entry.live.docs → number ≡ get_or (numbers_from part.base part.entry.live.docs) doc 0
+    → Some number ≡ new_number part doc
+number_is part doc number is on flag inside read =
+    let live : get_or part.entry.live.docs doc false ≡ true = sym flag ∙ on in
+    rw live (ap Some (read ∙ numbers_at part.base part.entry.live.docs doc inside))

@@ -1,9 +1,10 @@
 -- References to terms: what they stand for, and which they are.
-use Rattle.std.proofs.Common.{◌≡◌, ℕ, zero, suc, ◌+◌, ◌<◌, ◌^◌, Bool, true, false, cond, nat_lt, List, [], ◌∷◌, ◌++◌, length, map, get_or, drop, slice_get, Some, replicate, refl, sym, ap, subst, ◌∙◌, arith, map-append}
+use Rattle.std.proofs.Common.{◌≡◌, ℕ, zero, suc, ◌+◌, ◌<◌, ◌^◌, Bool, true, false, cond, nat_lt, List, [], ◌∷◌, ◌++◌, length, map, get_or, drop, slice_get, Some, replicate, refl, sym, ap, subst, ◌∙◌, append_assoc, arith, map-append}
 use Rattle.std.specs.List.{AllByRecursion, filter, flat_map}
-use Rattle.std.specs.Ordering.{eq_by_cmp, nat_cmp}
+use Rattle.std.specs.Ordering.{eq_by_cmp, is_eq, nat_cmp}
 use Rattle.std.specs.Cmp.Lexicographic.{slice_cmp}
-use Rattle.std.specs.declared.cmp.Ordering.TheVariants.{Equal}
+use Rattle.std.specs.declared.cmp.Ordering.{Ordering}
+use Rattle.std.specs.declared.cmp.Ordering.TheVariants.{Less, Equal, Greater}
 use Rattle.std.proofs.lemmas.Bool.Decides.{nat_tests}
 use Rattle.std.proofs.lemmas.List.{drop-drop, length-map, length-replicate}
 use Rattle.segment.specs.Flat.{has_some}
@@ -77,3 +78,83 @@ live_rows_more group groups =
     split (nat_lt 0 (length (flat_map live_postings group.1)))
     (λ some. rw some refl)
     (λ none. rw none refl)
+
+-- ---- which references there are
+
+pub record IsRef (parts : List PartState) (ref : Ref) : Type 0 where
+  pub part : slice_get parts ref.1.place ≡ Some ref.1.part
+  pub term : slice_get (terms_of ref.1.part.entry.columns) ref.1.ordinal ≡ Some ref.0
+
+there_left : {X : Type 0} (xs : List X) (at : ℕ) (x : X) (rest : List X) → drop at xs ≡ x ∷ rest → slice_get xs at ≡ Some x
+there_left [] at x rest is = absurd (cc (is))
+there_left (first ∷ xs) zero x rest is = let same : first ≡ x = cc (is) in ap Some same
+there_left (first ∷ xs) (suc at) x rest is = there_left xs at x rest is
+
+rest_left : {X : Type 0} (xs : List X) (at : ℕ) (x : X) (rest : List X) → drop at xs ≡ x ∷ rest → drop (at + 1) xs ≡ rest
+rest_left xs at x rest is = sym (drop-drop 1 at xs) ∙ ap (drop 1) is
+
+each_append : {X : Type 0} (P : X → Type 0) (xs ys : List X) → AllByRecursion P xs → AllByRecursion P ys → AllByRecursion P (xs ++ ys)
+each_append P [] ys one two = two
+each_append P (x ∷ xs) ys one two = (one.0, each_append P xs ys one.1 two)
+
+terms_are : (parts : List PartState) (part : PartState) (place ordinal : ℕ) (terms : List (ℕ × List ℕ)) → slice_get parts place ≡ Some part → drop ordinal (terms_of part.entry.columns) ≡ terms
+    → AllByRecursion (IsRef parts) (terms_from part place ordinal terms)
+terms_are parts part place ordinal [] at left = tt
+terms_are parts part place ordinal (term ∷ terms) at left = (
+  record { part = at; term = there_left (terms_of part.entry.columns) ordinal term terms left },
+  terms_are parts part place (ordinal + 1) terms at (rest_left (terms_of part.entry.columns) ordinal term terms left),
+)
+
+pub all_are : (all : List PartState) (place : ℕ) (parts : List PartState) → drop place all ≡ parts → AllByRecursion (IsRef all) (all_terms place parts)
+all_are all place [] left = tt
+all_are all place (part ∷ parts) left =
+    each_append (IsRef all) (terms_from part place 0 (terms_of part.entry.columns)) (all_terms (place + 1) parts)
+    (terms_are all part place 0 (terms_of part.entry.columns) (there_left all place part parts left) refl)
+    (all_are all (place + 1) parts (rest_left all place part parts left))
+
+-- terms that compare as equal are the same
+same_bytes : (one other : List ℕ) → slice_cmp nat_cmp one other ≡ Equal → one ≡ other
+same_bytes [] [] e = refl
+same_bytes [] (y ∷ ys) e = cc
+same_bytes (x ∷ xs) [] e = cc
+same_bytes (x ∷ xs) (y ∷ ys) e = grind (arith, nat_tests, same_bytes xs ys)
+
+same_term : (one other : ℕ × List ℕ) → term_cmp one other ≡ Equal → one ≡ other
+same_term one other e = grind (arith, nat_tests, same_bytes one.1 other.1)
+
+is_equal : (o : Ordering) → is_eq o ≡ true → o ≡ Equal
+is_equal Less e = absurd (cc (e))
+is_equal Equal e = refl
+is_equal Greater e = absurd (cc (e))
+
+pub tied_terms : (one other : ℕ × List ℕ) → eq_by_cmp term_cmp one other ≡ true → one ≡ other
+tied_terms one other tied = same_term one other (is_equal (term_cmp one other) tied)
+
+-- what groups of references hold
+abbrev pub AreMembers : List PartState → Group → Type 0
+AreMembers parts group = AllByRecursion (λ (place : TermPlace). IsRef parts (group.0, place)) group.1
+
+members_of : (parts : List PartState) (key : ℕ × List ℕ) (refs : List Ref) → AllByRecursion (IsRef parts) refs → AllByRecursion (λ (place : TermPlace). IsRef parts (key, place)) (of_key term_cmp key refs)
+members_of parts key [] are = tt
+members_of parts key (ref ∷ refs) are =
+    split (eq_by_cmp term_cmp key ref.0)
+    (λ is. rw is (subst (λ (k : ℕ × List ℕ). IsRef parts (k, ref.1)) (sym (tied_terms key ref.0 is)) are.0, members_of parts key refs are.1))
+    (λ isnt. rw isnt (members_of parts key refs are.1))
+
+pub groups_of_refs : (parts : List PartState) (refs : List Ref) (groups : List Group) → AllByRecursion (IsRef parts) refs → AllByRecursion (λ (group : Group). group.1 ≡ of_key term_cmp group.0 refs) groups
+    → AllByRecursion (AreMembers parts) groups
+groups_of_refs parts refs [] are gather = tt
+groups_of_refs parts refs (group ∷ groups) are gather = (
+  subst (λ (places : List TermPlace). AllByRecursion (λ (place : TermPlace). IsRef parts (group.0, place)) places) (sym gather.0) (members_of parts group.0 refs are),
+  groups_of_refs parts refs groups are gather.1,
+)
+
+-- ---- one reference more, as it is lent
+
+pub refs_more : (part : PartState) (place ordinal : ℕ) (terms : List (ℕ × List ℕ)) (term : ℕ × List ℕ) (old new all : List Ref) → slice_get terms ordinal ≡ Some term
+    → new ≡ old ++ (term, record { part = part; place = place; ordinal = ordinal }) ∷ [] → old ++ terms_from part place ordinal (drop ordinal terms) ≡ all
+    → new ++ terms_from part place (ordinal + 1) (drop (ordinal + 1) terms) ≡ all
+refs_more part place ordinal terms term old new all is pushed was =
+    let own : Ref = (term, record { part = part; place = place; ordinal = ordinal }) in
+    let rest : List Ref = terms_from part place (ordinal + 1) (drop (ordinal + 1) terms) in
+    ap (λ (refs : List Ref). refs ++ rest) pushed ∙ append_assoc old (own ∷ []) rest ∙ ap (λ (refs : List Ref). old ++ refs) (sym (terms_left part place ordinal terms term is)) ∙ was

@@ -8,7 +8,7 @@ use Rattle.stored_sources.specs.declared.root.Root.{Root}
 
 -- the documents of each scope up to the greatest one, where each document has one of these scopes
 pub record AreScopesOf (scopes : List ℕ) (sets : List (List Bool)) : Type 0 where
-  pub sets : sets ≡ map (documents_of scopes) (range_with_len 0 (length sets))
+  pub are : sets ≡ map (documents_of scopes) (range_with_len 0 (length sets))
   pub within : All (λ scope. scope < length sets) scopes
   pub greatest : 0 < length scopes → Contains scopes (length sets - 1)
 

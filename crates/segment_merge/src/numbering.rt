@@ -1,7 +1,9 @@
 //! The parts that a merge puts together, and the new numbers of their live documents.
 
 ghost use Rattle.std.specs.Prelude.{◌≡◌, ◌+◌, ◌<◌, ◌^◌, cond, count_by, false, length, slice_index_or, IfOk};
+ghost use Rattle.std.specs.List.{All};
 ghost use Rattle.block_bits.specs.Flags.{is_marked};
+ghost use Rattle.segment.specs.Agree.{AreColumns};
 ghost use Rattle.segment.specs.Live.{IsLiveOver};
 ghost use Rattle.segment_merge.specs.Merged.{live_count, live_count_of};
 ghost use Rattle.segment_merge.specs.Numbering.{new_number, numbers_from, parts_from};
@@ -117,8 +119,17 @@ fn numbers_of(alloc: Global, base: u32, live: &BitSet) -> Result<Vec<u32>, NoMem
 /// The number that the next live document gets, given the one that this would get.
 fn behind_document(live: &BitSet, doc: u32, own: u32) -> u32
     requires within { doc < length live.now }
-    requires fits { own + 1 < 2 ^ 32 }
+    requires fits { cond (slice_index_or live.now doc false) (own + 1) own < 2 ^ 32 }
     ensures { result ≡ cond (slice_index_or live.now doc false) (own + 1) own }
 {
     if live.has(doc) { own + 1 } else { own }
+}
+
+/// Says that the columns of each part agree. Does nothing.
+pub(crate) fn parts_agree(parts: &[Part])
+    ensures { All (λ part. AreColumns part.entry.columns) parts.now }
+{
+    'parts: for part in parts {
+        let _documents = part.segment().docs();
+    }
 }

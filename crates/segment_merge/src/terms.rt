@@ -16,7 +16,7 @@ ghost use Rattle.segment_merge.specs.TermRefs.{AreNew, CanPut, IsPlaced, all_ter
 
 use crate::NoMemory;
 use crate::new_ordinals::NewOrdinals;
-use crate::numbering::Part;
+use crate::numbering::{Part, parts_agree};
 use part_text::{put_string, put_u32, put_u64};
 use postings::Cursor;
 use segment::terms_are_of_documents;
@@ -25,8 +25,8 @@ use std::alloc::Global;
 
 /// Where a term stands: a part, its place among the parts, and the term's ordinal there.
 #[derive(Clone, Copy)]
-pub(crate) struct TermAt<'a> {
-    part: &'a Part<'a>,
+pub(crate) struct TermAt<'p, 's> {
+    part: &'p Part<'s>,
     place: usize,
     ordinal: u64,
 }
@@ -42,6 +42,7 @@ pub(crate) fn put_terms(
     ensures { IfOk result (λ news. (rows : List TermRow) × IsGathered term_cmp (flat_map (λ part. kept_terms part.base part.entry) parts.now) (map row_group rows)
         × AreNew parts.now (terms_in rows) news × (into.new.items ≡ into.old.items ++ rows_text rows)) }
 {
+    parts_agree(parts);
     let refs = term_refs(alloc, parts)?;
     let groups = grouped(alloc, refs)?;
     let mut news = NewOrdinals::blank(alloc, parts)?;
@@ -53,10 +54,10 @@ pub(crate) fn put_terms(
 }
 
 /// The terms of all parts, part after part.
-fn term_refs<'a>(
+fn term_refs<'p, 's>(
     alloc: Global,
-    parts: &'a [Part<'a>],
-) -> Result<Vec<((u32, &'a [u8]), TermAt<'a>)>, NoMemory>
+    parts: &'p [Part<'s>],
+) -> Result<Vec<((u32, &'s [u8]), TermAt<'p, 's>)>, NoMemory>
     ensures { IfOk result (λ refs. map ref_lent refs.items ≡ all_terms 0 parts.now) }
 {
     let mut refs = Vec::new(alloc);
@@ -67,10 +68,10 @@ fn term_refs<'a>(
 }
 
 /// Adds the terms of the part at a place.
-fn add_terms<'a>(
-    part: &'a Part<'a>,
+fn add_terms<'p, 's>(
+    part: &'p Part<'s>,
     place: usize,
-    into: &mut Vec<((u32, &'a [u8]), TermAt<'a>)>,
+    into: &mut Vec<((u32, &'s [u8]), TermAt<'p, 's>)>,
 ) -> Result<(), NoMemory>
     ensures { OnOk result (map ref_lent into.new.items ≡ map ref_lent into.old.items ++ terms_from part.now place 0 (terms_of part.now.entry.columns)) }
 {
