@@ -1,6 +1,5 @@
 pub mod Keys
 pub mod InOrder
-pub mod Regrouped
 pub mod Merged
 pub mod Orders
 pub mod Sorted

@@ -7,6 +7,7 @@ pub mod Form
 pub mod Parts
 pub mod Entries
 pub mod Groups
+pub mod Regrouped
 pub mod Rising
 pub mod Taken
 pub mod Terms

@@ -1,13 +1,16 @@
 -- Groups whose keys and members are seen as others are groups of the entries seen so.
-use Rattle.std.proofs.Common.{◌≡◌, ◌<◌, true, List, [], ◌∷◌, length, map, refl, sym, ap, ◌∙◌, arith}
+use Rattle.std.proofs.Common.{◌≡◌, ◌<◌, Bool, true, false, List, [], ◌∷◌, length, map, refl, sym, ap, subst, ◌∙◌, arith, Vec}
 use Rattle.std.specs.List.{AllByRecursion, list_any}
 use Rattle.std.specs.List.Sorted.{IsStrictlySortedBy}
 use Rattle.std.specs.Ordering.{eq_by_cmp}
 use Rattle.std.specs.declared.cmp.Ordering.{Ordering}
 use Rattle.std.specs.declared.cmp.Ordering.TheVariants.{Less}
 use Rattle.std.proofs.lemmas.List.{length-map}
-use Rattle.segment_builder.specs.Groups.{of_key, keys, AreGroups}
-use Rattle.segment_builder.proofs.Keys.{split}
+use Rattle.segment_builder.specs.Groups.{of_key, keys, groups_seen, AreGroups}
+
+split : {C : Type 0} (t : Bool) → (t ≡ true → C) → (t ≡ false → C) → C
+split true left right = left refl
+split false left right = right refl
 
 module _ {K L P Q : Type 0} (cmp : K → K → Ordering) (other : L → L → Ordering) (h : K → L) (f : P → Q) (same : (a b : K) → cmp a b ≡ other (h a) (h b)) where
   abbrev pub entry_as : K × P → L × Q
@@ -57,3 +60,14 @@ module _ {K L P Q : Type 0} (cmp : K → K → Ordering) (other : L → L → Or
     gather = gather_as entries groups are.gather;
     found = found_as groups entries are.found;
   }
+
+  -- the same of groups as vectors keep them
+  abbrev pub vec_group_as : {A : Type 0} → K × Vec P A → L × List Q
+  vec_group_as {A} group = (h group.0, map f group.1.items)
+
+  seen_as : {A : Type 0} (groups : List (K × Vec P A)) → map group_as (groups_seen groups) ≡ map vec_group_as groups
+  seen_as [] = refl
+  seen_as (group ∷ groups) = ap (λ (rest : List (L × List Q)). vec_group_as group ∷ rest) (seen_as groups)
+
+  pub regrouped_seen : {A : Type 0} (entries : List (K × P)) (groups : List (K × Vec P A)) → AreGroups cmp entries (groups_seen groups) → AreGroups other (map entry_as entries) (map vec_group_as groups)
+  regrouped_seen entries groups are = subst (AreGroups other (map entry_as entries)) (seen_as groups) (regrouped entries (groups_seen groups) are)

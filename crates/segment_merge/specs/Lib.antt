@@ -4,5 +4,6 @@ pub mod Spread
 pub mod Merged
 pub mod Lists
 pub mod Numbering
+pub mod Pieces
 pub mod Scoped
 pub mod TermRefs
