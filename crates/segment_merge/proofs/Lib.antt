@@ -20,3 +20,4 @@ pub mod Nested
 pub mod Items
 pub mod Posted
 pub mod Termed
+pub mod Together

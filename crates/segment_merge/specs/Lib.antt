@@ -7,3 +7,4 @@ pub mod Numbering
 pub mod Pieces
 pub mod Scoped
 pub mod TermRefs
+pub mod Mergeable

@@ -14,6 +14,7 @@ mod counts;
 mod documents;
 mod head;
 mod keywords;
+mod law;
 mod marks;
 mod merge;
 mod merged_value;
