@@ -7,8 +7,11 @@ pub mod Rooted
 pub mod Changed
 pub mod Steps
 pub mod Listed
-pub mod Numbered
 pub mod Gathering
+pub mod Pieced
+pub mod Renewed
+pub mod Placed
+pub mod Numbered
 pub mod Marked
 pub mod Refs
 pub mod Few
@@ -17,3 +20,4 @@ pub mod Nested
 pub mod Items
 pub mod Posted
 pub mod Termed
+pub mod Together

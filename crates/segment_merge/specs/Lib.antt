@@ -4,5 +4,7 @@ pub mod Spread
 pub mod Merged
 pub mod Lists
 pub mod Numbering
+pub mod Pieces
 pub mod Scoped
 pub mod TermRefs
+pub mod Mergeable

@@ -10,20 +10,26 @@
 mod agreed;
 mod blocks;
 mod bytes;
+mod counts;
 mod documents;
 mod head;
 mod keywords;
+mod law;
 mod marks;
 mod merge;
+mod merged_value;
 mod new_ordinals;
 mod numbering;
 mod numbers;
+mod pieces;
 mod put_roots;
 mod refusal;
 mod roots;
 mod scopes;
 mod terms;
+mod text_columns;
 mod texts;
+mod value_columns;
 mod words;
 
 pub use merge::merged;

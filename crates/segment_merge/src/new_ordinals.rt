@@ -44,6 +44,16 @@ impl NewOrdinals {
         self.parts[place][ordinal as usize]
     }
 
+    /// The new ordinals of the part at a place, by ordinal; none behind the last part.
+    pub(crate) fn of_part(&self, place: usize) -> &[u64]
+        ensures { result.now ≡ slice_index_or self.now place [] }
+    {
+        match self.parts.get(place) {
+            Some(own) => own.as_slice(),
+            None => &[],
+        }
+    }
+
     /// Gives a term of the part at a place its new ordinal.
     pub(crate) fn set(&mut self, place: usize, ordinal: u64, new: u64)
         requires { ordinal < slice_index_or (rooms_of self.old) place 0 }
