@@ -1,7 +1,7 @@
 -- What columns say whose values are written again: the same numbers, and the same terms at new ordinals.
-use Rattle.std.proofs.Common.{◌≡◌, ℕ, ℤ, zero, suc, ◌+◌, ◌-◌, ◌<◌, Bool, true, false, cond, List, [], ◌∷◌, ◌++◌, length, map, get_or, slice_get, drop, Option, Some, None, refl, sym, ap, subst, ◌∙◌, arith}
+use Rattle.std.proofs.Common.{◌≡◌, ℕ, ℤ, zero, suc, ◌<◌, Bool, true, false, List, [], ◌∷◌, ◌++◌, length, map, slice_get, drop, Option, Some, refl, sym, ap, ◌∙◌, arith}
 use Rattle.std.specs.Prelude.{slice_index_or, Contains}
-use Rattle.std.specs.List.{All, flat_map}
+use Rattle.std.specs.List.{All}
 use Rattle.std.proofs.lemmas.List.{map-append}
 use Rattle.std.proofs.lemmas.List.Elements.{All-head, All-tail}
 use Rattle.postings.specs.Postings.{documents}
@@ -11,7 +11,7 @@ use Rattle.segment_parts.specs.Lists.{postings_of, terms_of}
 use Rattle.term_table.specs.declared.rows.TermRow.{TermRow}
 use Rattle.segment_merge.specs.Merged.{kept, kept_columns, renumbered}
 use Rattle.segment_merge.specs.Numbering.{PartState}
-use Rattle.segment_merge.specs.Pieces.{as_it_is, columns_in, columns_of_parts, first_list, from_parts, new_ordinal, number_columns, ordinal_columns, part_keywords, part_numbers, with_values, AreNewOrdinals, AreRenewed}
+use Rattle.segment_merge.specs.Pieces.{as_it_is, columns_in, columns_of_parts, first_list, from_parts, new_ordinal, number_columns, ordinal_columns, part_keywords, part_numbers, with_values, AreRenewed}
 use Rattle.segment_merge.specs.TermRefs.{AreNew}
 use Rattle.segment_merge.proofs.Gathering.{split}
 
@@ -82,7 +82,7 @@ same_keywords terms (part ∷ parts) lists news agree =
     let columns : AreColumns own = All-head (λ (other : PartState). AreColumns other.entry.columns) part parts agree in
     map-append (column_terms terms) first rest
     ∙ ap (λ (xs : List (ℕ × List (ℕ × List (Option (ℕ × List ℕ))))). xs ++ map (column_terms terms) rest)
-        (columns_again terms (terms_of own) (postings_of own) part.entry.live.docs part.base (first_list lists) news.0.same own.ordinals columns.terms.ordinals)
+    (columns_again terms (terms_of own) (postings_of own) part.entry.live.docs part.base (first_list lists) news.0.same own.ordinals columns.terms.ordinals)
     ∙ ap (λ (xs : List (ℕ × List (ℕ × List (Option (ℕ × List ℕ))))). part_keywords part ++ xs) (same_keywords terms parts (drop 1 lists) news.1 (All-tail (λ (other : PartState). AreColumns other.entry.columns) part parts agree))
 
 -- ---- from the new ordinals of all parts those of each
@@ -124,9 +124,9 @@ renewed terms [] lists news = tt
 renewed terms (part ∷ parts) lists news = (
   record {
     same = λ ordinal doc has alive.
-    let term = term_posted part.entry.columns.terms ordinal doc has in
-    let some = live_kept part.base part.entry.live.docs (slice_index_or (postings_of part.entry.columns) ordinal []) has.0 doc has.1 has.2 alive in
-    news.same 0 part ordinal term.0 refl term.1 some ∙ sym term.1;
+        let term = term_posted part.entry.columns.terms ordinal doc has in
+        let some = live_kept part.base part.entry.live.docs (slice_index_or (postings_of part.entry.columns) ordinal []) has.0 doc has.1 has.2 alive in
+        news.same 0 part ordinal term.0 refl term.1 some ∙ sym term.1;
   },
   renewed terms parts (drop 1 lists) (news_behind terms part parts lists news),
 )

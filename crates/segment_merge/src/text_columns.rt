@@ -57,14 +57,10 @@ impl Places {
 }
 
 /// Appends the text fields of parts, put together by field, each with the documents that have a value.
-pub(crate) fn put_texts(
-    alloc: Global,
-    parts: &[Part],
-    into: &mut Vec<u8>,
-) -> Result<(), NoMemory>
+pub(crate) fn put_texts(alloc: Global, parts: &[Part], into: &mut Vec<u8>) -> Result<(), NoMemory>
     ensures { (entries : List EntryState) → parts.now ≡ parts_from 0 entries
         → OnOk result ((texts : List (ℕ × List ℕ)) × IsGathered nat_cmp (from_parts part_texts parts.now) texts
-            × (into.new.items ≡ into.old.items ++ present_text (marked_groups (live_count_of entries) texts))) }
+        × (into.new.items ≡ into.old.items ++ present_text (marked_groups (live_count_of entries) texts))) }
 {
     parts_agree(parts);
     put_all(alloc, parts, into)?;
@@ -95,11 +91,7 @@ fn texts_of(alloc: Global, parts: &[Part]) -> Result<Vec<(u32, Places)>, NoMemor
 }
 
 /// Adds the text fields of a part that live documents have a value of.
-fn add_texts(
-    alloc: Global,
-    part: &Part,
-    texts: &mut Vec<(u32, Places)>,
-) -> Result<(), NoMemory>
+fn add_texts(alloc: Global, part: &Part, texts: &mut Vec<(u32, Places)>) -> Result<(), NoMemory>
     ensures { OnOk result (texts.new.items ≡ texts.old.items ++ filter has_some (part_texts part.now)) }
 {
     let segment = part.segment();
@@ -111,11 +103,7 @@ fn add_texts(
 }
 
 /// Adds a text field, if it has documents.
-fn add_text(
-    field: u32,
-    places: Places,
-    texts: &mut Vec<(u32, Places)>,
-) -> Result<(), NoMemory>
+fn add_text(field: u32, places: Places, texts: &mut Vec<(u32, Places)>) -> Result<(), NoMemory>
     ensures { OnOk result (texts.new.items ≡ texts.old.items ++ filter has_some ((field, places) ∷ [])) }
 {
     if places.len() > 0 {

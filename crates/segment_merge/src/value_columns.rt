@@ -48,7 +48,7 @@ pub(crate) fn put_ordinals(
 ) -> Result<(), NoMemory>
     ensures { (terms : List (ℕ × List ℕ)) → AreNew parts.now terms news.now
         → OnOk result ((columns : List (ℕ × List (ℕ × List ℕ))) × IsGathered nat_cmp (from_parts part_keywords parts.now) (map (column_terms terms) columns)
-            × (into.new.items ≡ into.old.items ++ ordinals_text columns)) }
+        × (into.new.items ≡ into.old.items ++ ordinals_text columns)) }
 {
     parts_agree(parts);
     put_columns::<u64>(alloc, parts, news, into)?;

@@ -1,4 +1,4 @@
-use Rattle.std.proofs.Common.{ap, sym, ◌∙◌, arith, length, ◌<◌, ◌≡◌, true, false}
+use Rattle.std.proofs.Common.{ap, sym, ◌∙◌, arith, length, ◌<◌, ◌≡◌}
 use Rattle.std.specs.Option.{is_some}
 use Rattle.segment_merge.specs.Numbering.{new_number}
 use Rattle.segment_merge.proofs.Pieced.{count_dead, count_live, doc_below}
@@ -15,6 +15,6 @@ rows-preserved g c =
     let below : c.rows.row < length c.args.column.now = omega (arith, c.rows-test.true, c.rows-row-end.ensures.count) in
     let some : is_some (new_number c.args.part.now c.doc.result) ≡ c.is_some.result = ap is_some (sym c.number.ensures) ∙ sym c.is_some.ensures in
     elim c.if-is_some.branch [
-      then-is_some w ↦ (omega (arith, w.count-is, c.rows.invariant, count_live c.args.part.now c.args.column.now c.rows.row c.doc.result below c.doc.ensures (some ∙ w.if-is_some.true)), omega (arith, w.count-is, c.rows.invariant))
+      | then-is_some w ↦ (omega (arith, w.count-is, c.rows.invariant, count_live c.args.part.now c.args.column.now c.rows.row c.doc.result below c.doc.ensures (some ∙ w.if-is_some.true)), omega (arith, w.count-is, c.rows.invariant))
       | else-is_some w ↦ (omega (arith, w.count-is, c.rows.invariant, count_dead c.args.part.now c.args.column.now c.rows.row c.doc.result below c.doc.ensures (some ∙ w.if-is_some.false)), omega (arith, w.count-is, c.rows.invariant))
     ]
