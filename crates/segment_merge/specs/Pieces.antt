@@ -1,7 +1,6 @@
 -- The rows of columns as a merge writes them, part by part: those of live documents, with their new numbers.
 use Rattle.std.specs.Prelude.{◌≡◌, ℕ, ℤ, true, false, List, [], ◌∷◌, ◌++◌, map, drop, slice_get, slice_index_or, Contains, Option}
 use Rattle.std.specs.List.{flat_map}
-use Rattle.part_text.specs.Text.{counted_text, u32_text}
 use Rattle.postings.specs.Postings.{documents}
 use Rattle.segment_parts.specs.Lists.{postings_of, terms_of}
 use Rattle.segment_parts.specs.declared.columns.Columns.{Columns}
@@ -79,7 +78,3 @@ joined lists = flat_map (λ list. list) lists
 -- the lists of a group as one
 abbrev pub whole : {K X : Type 0} → K × List (List X) → K × List X
 whole group = (group.0, joined group.1)
-
--- a text field, and its documents behind their number
-abbrev pub places_text : ℕ × List ℕ → List ℕ
-places_text group = u32_text group.0 ++ counted_text u32_text u32_text group.1

@@ -9,6 +9,7 @@ ghost use Rattle.segment_merge.specs.Merged.{kept};
 ghost use Rattle.segment_merge.specs.Pieces.{columns_in, columns_of_parts, live_rows};
 
 use crate::NoMemory;
+use crate::by_field::PartItems;
 use crate::merged_value::MergedValue;
 use crate::new_ordinals::NewOrdinals;
 use crate::numbering::Part;
@@ -55,18 +56,18 @@ impl<'a, T: MergedValue> Piece<'a, T> {
             rows,
         }
     }
+}
 
-    /// How many rows there are.
-    pub(crate) fn len(&self) -> u32
-        ensures { result ≡ length self.now }
-    {
-        self.rows
+impl<'a, T: MergedValue> PartItems for Piece<'a, T> {
+    ghost count = { λ rows. length rows };
+
+    ghost text = { λ rows. flat_map (entry_text T.text) rows };
+
+    fn len(&self) -> Result<u32, NoMemory> {
+        Ok(self.rows)
     }
 
-    /// Appends the rows.
-    pub(crate) fn put(&self, into: &mut Vec<u8>) -> Result<(), NoMemory>
-        ensures { OnOk result (into.new.items ≡ into.old.items ++ flat_map (entry_text T.text) self.now) }
-    {
+    fn put(&self, into: &mut Vec<u8>) -> Result<(), NoMemory> {
         put_rows(self.part, self.ordinals, &self.column, into)
     }
 }
@@ -172,7 +173,7 @@ fn add_piece<'a, T: MergedValue>(
 ) -> Result<(), NoMemory>
     ensures { OnOk result (pieces.new.items ≡ pieces.old.items ++ filter has_some ((field, piece.entry) ∷ [])) }
 {
-    if piece.len() > 0 {
+    if piece.rows > 0 {
         pieces.push((field, piece))?;
     }
     Ok(())
