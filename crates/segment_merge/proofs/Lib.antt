@@ -19,3 +19,5 @@ pub mod Noted
 pub mod Nested
 pub mod Items
 pub mod Posted
+pub mod Termed
+pub mod Together

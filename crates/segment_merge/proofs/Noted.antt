@@ -147,7 +147,8 @@ HasLive it [] = ⊥
 HasLive it (group ∷ groups) = ((nat_lt 0 (length (flat_map live_postings group.1)) ≡ true) × Has it group.1) ⊎ HasLive it groups
 
 first_left : (terms : List (ℕ × List ℕ)) (at : ℕ) (term : ℕ × List ℕ) (rest : List (ℕ × List ℕ)) → drop at terms ≡ term ∷ rest → slice_get terms at ≡ Some term
-first_left [] at term rest is = absurd (cc (is))
+first_left [] zero term rest is = absurd (cc (is))
+first_left [] (suc at) term rest is = absurd (cc (is))
 first_left (first ∷ terms) zero term rest is = let same : first ≡ term = cc (is) in ap Some same
 first_left (first ∷ terms) (suc at) term rest is = first_left terms at term rest is
 

@@ -1,12 +1,12 @@
 -- References to terms: what they stand for, and which they are.
-use Rattle.std.proofs.Common.{◌≡◌, ℕ, zero, suc, ◌+◌, ◌<◌, ◌^◌, Bool, true, false, cond, nat_lt, List, [], ◌∷◌, ◌++◌, length, map, get_or, drop, slice_get, Some, replicate, refl, sym, ap, subst, ◌∙◌, append_assoc, arith, map-append}
+use Rattle.std.proofs.Common.{◌≡◌, ℕ, zero, suc, ◌+◌, ◌<◌, ◌^◌, Bool, true, false, cond, nat_lt, List, [], ◌∷◌, ◌++◌, length, map, get_or, drop, slice_get, Some, replicate, refl, sym, ap, subst, ◌∙◌, append_assoc, arith}
 use Rattle.std.specs.List.{AllByRecursion, filter, flat_map}
 use Rattle.std.specs.Ordering.{eq_by_cmp, is_eq, nat_cmp}
 use Rattle.std.specs.Cmp.Lexicographic.{slice_cmp}
 use Rattle.std.specs.declared.cmp.Ordering.{Ordering}
 use Rattle.std.specs.declared.cmp.Ordering.TheVariants.{Less, Equal, Greater}
 use Rattle.std.proofs.lemmas.Bool.Decides.{nat_tests}
-use Rattle.std.proofs.lemmas.List.{drop-drop, length-map, length-replicate}
+use Rattle.std.proofs.lemmas.List.{drop-drop, map-append}
 use Rattle.segment.specs.Flat.{has_some}
 use Rattle.segment_builder.specs.Columns.{terms_in}
 use Rattle.segment_builder.specs.Groups.{of_key}
@@ -35,7 +35,8 @@ abbrev pub whole : Ref → (ℕ × List ℕ) × List (ℕ × List ℕ)
 whole ref = (ref.0, live_postings ref.1)
 
 postings_at : (rows : List TermRow) (at : ℕ) (row : TermRow) (rest : List TermRow) → drop at rows ≡ row ∷ rest → get_or (map (λ (row : TermRow). row.postings) rows) at [] ≡ row.postings
-postings_at [] at row rest is = absurd (cc (is))
+postings_at [] zero row rest is = absurd (cc (is))
+postings_at [] (suc at) row rest is = absurd (cc (is))
 postings_at (first ∷ rows) zero row rest is = let same : first ≡ row = cc (is) in ap (λ (r : TermRow). r.postings) same
 postings_at (first ∷ rows) (suc at) row rest is = postings_at rows at row rest is
 
@@ -86,7 +87,8 @@ pub record IsRef (parts : List PartState) (ref : Ref) : Type 0 where
   pub term : slice_get (terms_of ref.1.part.entry.columns) ref.1.ordinal ≡ Some ref.0
 
 there_left : {X : Type 0} (xs : List X) (at : ℕ) (x : X) (rest : List X) → drop at xs ≡ x ∷ rest → slice_get xs at ≡ Some x
-there_left [] at x rest is = absurd (cc (is))
+there_left [] zero x rest is = absurd (cc (is))
+there_left [] (suc at) x rest is = absurd (cc (is))
 there_left (first ∷ xs) zero x rest is = let same : first ≡ x = cc (is) in ap Some same
 there_left (first ∷ xs) (suc at) x rest is = there_left xs at x rest is
 

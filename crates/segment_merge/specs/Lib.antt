@@ -8,3 +8,4 @@ pub mod Pieces
 pub mod ByField
 pub mod Scoped
 pub mod TermRefs
+pub mod Mergeable

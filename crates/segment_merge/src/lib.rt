@@ -15,6 +15,7 @@ mod counts;
 mod documents;
 mod head;
 mod keywords;
+mod law;
 mod marks;
 mod merge;
 mod merged_value;

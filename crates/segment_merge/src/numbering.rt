@@ -1,9 +1,7 @@
 //! The parts that a merge puts together, and the new numbers of their live documents.
 
 ghost use Rattle.std.specs.Prelude.{◌≡◌, ◌+◌, ◌<◌, ◌^◌, cond, count_by, false, length, slice_index_or, IfOk};
-ghost use Rattle.std.specs.List.{All};
 ghost use Rattle.block_bits.specs.Flags.{is_marked};
-ghost use Rattle.segment.specs.Agree.{AreColumns};
 ghost use Rattle.segment.specs.Live.{IsLiveOver};
 ghost use Rattle.segment_merge.specs.Merged.{live_count, live_count_of};
 ghost use Rattle.segment_merge.specs.Numbering.{new_number, numbers_from, parts_from};
@@ -123,13 +121,4 @@ fn behind_document(live: &BitSet, doc: u32, own: u32) -> u32
     ensures { result ≡ cond (slice_index_or live.now doc false) (own + 1) own }
 {
     if live.has(doc) { own + 1 } else { own }
-}
-
-/// Says that the columns of each part agree. Does nothing.
-pub(crate) fn parts_agree(parts: &[Part])
-    ensures { All (λ part. AreColumns part.entry.columns) parts.now }
-{
-    'parts: for part in parts {
-        let _documents = part.segment().docs();
-    }
 }

@@ -15,8 +15,9 @@ ghost use Rattle.segment_merge.specs.Numbering.{live_in};
 ghost use Rattle.segment_merge.specs.TermRefs.{AreNew, CanPut, IsPlaced, all_terms, group_lent, live_postings, live_rows, noted, numbered, place_lent, ref_lent, rooms_of, terms_from};
 
 use crate::NoMemory;
+use crate::agreed::parts_agree;
 use crate::new_ordinals::NewOrdinals;
-use crate::numbering::{Part, parts_agree};
+use crate::numbering::Part;
 use part_text::{put_string, put_u32, put_u64};
 use postings::Cursor;
 use segment::terms_are_of_documents;

@@ -1,4 +1,5 @@
-use Rattle.std.proofs.Common.{◌≡◌, ℕ, List, ◌++◌, map, slice_get, Some, sym, ap, ◌∙◌, map-append}
+use Rattle.std.proofs.Common.{◌≡◌, ℕ, List, map, slice_get, Some, sym, ap, ◌∙◌}
+use Rattle.std.proofs.lemmas.List.{map-append}
 use Rattle.segment_parts.specs.Lists.{terms_of}
 use Rattle.segment_merge.specs.TermRefs.{ref_lent}
 use Rattle.segment_merge.proofs.Refs.{refs_more}
