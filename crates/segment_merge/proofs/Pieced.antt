@@ -16,7 +16,7 @@ use Rattle.segment_parts.specs.declared.columns.Columns.{Columns}
 use Rattle.segment_merge.specs.ByField.{group_text, keyed_text, total}
 use Rattle.segment_merge.specs.Merged.{kept, renumbered}
 use Rattle.segment_merge.specs.Numbering.{PartState, new_number}
-use Rattle.segment_merge.specs.Pieces.{columns_in, columns_of_parts, first_list, joined, live_rows, whole}
+use Rattle.segment_merge.specs.Pieces.{columns_in, columns_of_parts, first_list, joined, written_rows, whole}
 
 -- the first of what is left
 pub left_at : {X : Type 0} (xs : List X) (at : ℕ) (x : X) → slice_get xs at ≡ Some x → drop at xs ≡ x ∷ drop (at + 1) xs
@@ -74,53 +74,53 @@ is_live part doc some is = found (slice_index_or part.entry.live.docs doc false)
     found true e = e
     found false e = e
 
-pub count_live : {X : Type 0} (part : PartState) (rows : List (ℕ × List X)) (at doc : ℕ) → at < length rows → doc ≡ slice_index (documents rows) at → is_some (new_number part doc) ≡ true
+pub count_live : {X : Type 0} (part : PartState) (rows : List (ℕ × List X)) (at doc : ℕ) (number : Option ℕ) (some : Bool) → at < length rows → doc ≡ slice_index (documents rows) at → number ≡ new_number part doc → some ≡ is_some number → some ≡ true
     → length (kept_in part (drop at rows)) ≡ length (kept_in part (drop (at + 1) rows)) + 1
-count_live part rows at doc below of_row is =
+count_live part rows at doc number some below of_row of_doc test is =
     let own = row_at rows at below in
-    let live = is_live part doc true is in
+    let live = is_live part doc true (ap is_some (sym of_doc) ∙ sym test ∙ is) in
     let here = left_at rows at (slice_index (documents rows) at, own.0) own.1 in
     let counted : length (kept_in part ((slice_index (documents rows) at, own.0) ∷ drop (at + 1) rows)) ≡ length (kept_in part (drop (at + 1) rows)) + 1 =
     rw (← of_row, live) (omega arith) in
     ap (λ rs. length (kept_in part rs)) here ∙ counted
 
-pub count_dead : {X : Type 0} (part : PartState) (rows : List (ℕ × List X)) (at doc : ℕ) → at < length rows → doc ≡ slice_index (documents rows) at → is_some (new_number part doc) ≡ false
+pub count_dead : {X : Type 0} (part : PartState) (rows : List (ℕ × List X)) (at doc : ℕ) (number : Option ℕ) (some : Bool) → at < length rows → doc ≡ slice_index (documents rows) at → number ≡ new_number part doc → some ≡ is_some number → some ≡ false
     → length (kept_in part (drop at rows)) ≡ length (kept_in part (drop (at + 1) rows))
-count_dead part rows at doc below of_row is =
+count_dead part rows at doc number some below of_row of_doc test is =
     let own = row_at rows at below in
-    let dead = is_live part doc false is in
+    let dead = is_live part doc false (ap is_some (sym of_doc) ∙ sym test ∙ is) in
     let here = left_at rows at (slice_index (documents rows) at, own.0) own.1 in
     let counted : length (kept_in part ((slice_index (documents rows) at, own.0) ∷ drop (at + 1) rows)) ≡ length (kept_in part (drop (at + 1) rows)) =
     rw (← of_row, dead) refl in
     ap (λ rs. length (kept_in part rs)) here ∙ counted
 
 -- written
-pub rows_live : {X : Type 0} (text : ℕ × List X → List ℕ) (renew : X → X) (part : PartState) (rows : List (ℕ × List X)) (at doc number : ℕ) (values : List X) (now new all : List ℕ)
-    → slice_get rows at ≡ Some (slice_index (documents rows) at, values) → doc ≡ slice_index (documents rows) at → new_number part doc ≡ Some number → new ≡ now ++ text (number, map renew values)
-    → now ++ flat_map text (live_rows renew part (drop at rows)) ≡ all → new ++ flat_map text (live_rows renew part (drop (at + 1) rows)) ≡ all
-rows_live {X} text renew part rows at doc number values now new all row of_row is put was =
-    let next = kept_live part rows at (slice_index (documents rows) at) number values row (ap (new_number part) (sym of_row) ∙ is) in
-    let rest : List ℕ = flat_map text (live_rows renew part (drop (at + 1) rows)) in
+pub rows_live : {X : Type 0} (text : ℕ × List X → List ℕ) (renew : X → X) (part : PartState) (rows : List (ℕ × List X)) (at doc number : ℕ) (found : Option ℕ) (values : List X) (now new all : List ℕ)
+    → slice_get rows at ≡ Some (slice_index (documents rows) at, values) → doc ≡ slice_index (documents rows) at → found ≡ new_number part doc → found ≡ Some number → new ≡ now ++ text (number, map renew values)
+    → now ++ flat_map text (written_rows renew part (drop at rows)) ≡ all → new ++ flat_map text (written_rows renew part (drop (at + 1) rows)) ≡ all
+rows_live {X} text renew part rows at doc number found values now new all row of_row of_doc is put was =
+    let next = kept_live part rows at (slice_index (documents rows) at) number values row (ap (new_number part) (sym of_row) ∙ sym of_doc ∙ is) in
+    let rest : List ℕ = flat_map text (written_rows renew part (drop (at + 1) rows)) in
     ap (λ (xs : List ℕ). xs ++ rest) put
     ∙ append_assoc now (text (number, map renew values)) rest
     ∙ ap (λ (kept : List (ℕ × List X)). now ++ flat_map text (map (λ (own : ℕ × List X). (own.0, map renew own.1)) kept)) (sym next)
     ∙ was
 
-pub rows_dead : {X : Type 0} (text : ℕ × List X → List ℕ) (renew : X → X) (part : PartState) (rows : List (ℕ × List X)) (at doc : ℕ) (now all : List ℕ)
-    → at < length rows → doc ≡ slice_index (documents rows) at → new_number part doc ≡ None
-    → now ++ flat_map text (live_rows renew part (drop at rows)) ≡ all → now ++ flat_map text (live_rows renew part (drop (at + 1) rows)) ≡ all
-rows_dead {X} text renew part rows at doc now all below of_row is was =
+pub rows_dead : {X : Type 0} (text : ℕ × List X → List ℕ) (renew : X → X) (part : PartState) (rows : List (ℕ × List X)) (at doc : ℕ) (found : Option ℕ) (now all : List ℕ)
+    → at < length rows → doc ≡ slice_index (documents rows) at → found ≡ new_number part doc → found ≡ None
+    → now ++ flat_map text (written_rows renew part (drop at rows)) ≡ all → now ++ flat_map text (written_rows renew part (drop (at + 1) rows)) ≡ all
+rows_dead {X} text renew part rows at doc found now all below of_row of_doc is was =
     let own = row_at rows at below in
-    let next = kept_dead part rows at (slice_index (documents rows) at) own.0 own.1 (ap (new_number part) (sym of_row) ∙ is) in
+    let next = kept_dead part rows at (slice_index (documents rows) at) own.0 own.1 (ap (new_number part) (sym of_row) ∙ sym of_doc ∙ is) in
     ap (λ (kept : List (ℕ × List X)). now ++ flat_map text (map (λ (other : ℕ × List X). (other.0, map renew other.1)) kept)) (sym next) ∙ was
 
 -- ---- columns
 
 pub columns_more : {X : Type 0} (renew : X → X) (part : PartState) (columns : List (ℕ × List (ℕ × List X))) (at field : ℕ) (rows : List (ℕ × List X)) (now new all : List (ℕ × List (ℕ × List X)))
-    → slice_get columns at ≡ Some (field, rows) → new ≡ now ++ filter has_some ((field, live_rows renew part rows) ∷ [])
+    → slice_get columns at ≡ Some (field, rows) → new ≡ now ++ filter has_some ((field, written_rows renew part rows) ∷ [])
     → now ++ filter has_some (columns_in renew part (drop at columns)) ≡ all → new ++ filter has_some (columns_in renew part (drop (at + 1) columns)) ≡ all
 columns_more {X} renew part columns at field rows now new all column put was =
-    let own : List (ℕ × List (ℕ × List X)) = (field, live_rows renew part rows) ∷ [] in
+    let own : List (ℕ × List (ℕ × List X)) = (field, written_rows renew part rows) ∷ [] in
     let rest : List (ℕ × List (ℕ × List X)) = columns_in renew part (drop (at + 1) columns) in
     ap (λ (xs : List (ℕ × List (ℕ × List X))). xs ++ filter has_some rest) put
     ∙ append_assoc now (filter has_some own) (filter has_some rest)

@@ -23,8 +23,8 @@ part_texts part = kept_texts part.base part.entry
 abbrev pub as_it_is : List ℕ → ℤ → ℤ
 as_it_is ordinals number = number
 
-abbrev pub new_ordinal : List ℕ → ℕ → ℕ
-new_ordinal ordinals ordinal = slice_index_or ordinals ordinal 0
+abbrev pub renewed_ordinal : List ℕ → ℕ → ℕ
+renewed_ordinal ordinals ordinal = slice_index_or ordinals ordinal 0
 
 abbrev pub number_columns : Columns → List (ℕ × List (ℕ × List ℤ))
 number_columns columns = columns.numbers
@@ -37,12 +37,12 @@ abbrev pub with_values : {X Y : Type 0} → (X → Y) → List (ℕ × List X) �
 with_values {X} {Y} renew rows = map (λ (row : ℕ × List X). (row.0, map renew row.1)) rows
 
 -- the rows of live documents, with other values
-abbrev pub live_rows : {X : Type 0} → (X → X) → PartState → List (ℕ × List X) → List (ℕ × List X)
-live_rows renew part rows = with_values renew (kept part.base part.entry.live.docs rows)
+abbrev pub written_rows : {X : Type 0} → (X → X) → PartState → List (ℕ × List X) → List (ℕ × List X)
+written_rows renew part rows = with_values renew (kept part.base part.entry.live.docs rows)
 
 -- the columns of a part
 abbrev pub columns_in : {X : Type 0} → (X → X) → PartState → List (ℕ × List (ℕ × List X)) → List (ℕ × List (ℕ × List X))
-columns_in {X} renew part columns = map (λ (column : ℕ × List (ℕ × List X)). (column.0, live_rows renew part column.1)) columns
+columns_in {X} renew part columns = map (λ (column : ℕ × List (ℕ × List X)). (column.0, written_rows renew part column.1)) columns
 
 -- the first of lists
 abbrev pub first_list : List (List ℕ) → List ℕ

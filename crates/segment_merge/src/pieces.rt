@@ -6,7 +6,7 @@ ghost use Rattle.doc_values.specs.Text.{entry_text};
 ghost use Rattle.segment.specs.Flat.{has_some};
 ghost use Rattle.segment_parts.specs.Agree.{AreWithin};
 ghost use Rattle.segment_merge.specs.Merged.{kept};
-ghost use Rattle.segment_merge.specs.Pieces.{columns_in, columns_of_parts, live_rows};
+ghost use Rattle.segment_merge.specs.Pieces.{columns_in, columns_of_parts, written_rows};
 
 use crate::NoMemory;
 use crate::by_field::PartItems;
@@ -32,11 +32,11 @@ impl<'a, T: MergedValue> Model for Piece<'a, T> {
     ghost use Rattle.std.specs.Prelude.{◌≡◌, ℕ, List, length};
     ghost use Rattle.segment_parts.specs.Agree.{AreWithin};
     ghost use Rattle.segment_merge.specs.Merged.{kept};
-    ghost use Rattle.segment_merge.specs.Pieces.{live_rows};
+    ghost use Rattle.segment_merge.specs.Pieces.{written_rows};
 
     ghost Value = { List (ℕ × List T) };
 
-    ghost view = { λ piece. live_rows (T.renewed piece.ordinals.now) piece.part.now piece.column };
+    ghost view = { λ piece. written_rows (T.renewed piece.ordinals.now) piece.part.now piece.column };
 
     ghost invariant = { λ piece. AreWithin piece.part.now.entry.columns.documents piece.column
         × (piece.rows ≡ length (kept piece.part.now.base piece.part.now.entry.live.docs piece.column)) };
@@ -46,9 +46,9 @@ impl<'a, T: MergedValue> Piece<'a, T> {
     /// The column of a part. Takes no memory.
     fn of(part: &'a Part<'a>, ordinals: &'a [u64], column: Column<'a, T>) -> Piece<'a, T>
         requires { AreWithin part.now.entry.columns.documents column }
-        ensures { result ≡ live_rows (T.renewed ordinals.now) part.now column.entry }
+        ensures { result ≡ written_rows (T.renewed ordinals.now) part.now column.entry }
     {
-        let rows = live_rows(part, &column);
+        let rows = live_row_count(part, &column);
         Piece {
             part,
             ordinals,
@@ -73,7 +73,7 @@ impl<'a, T: MergedValue> PartItems for Piece<'a, T> {
 }
 
 /// How many rows of a column are of live documents.
-fn live_rows<T: MergedValue>(part: &Part, column: &Column<T>) -> u32
+fn live_row_count<T: MergedValue>(part: &Part, column: &Column<T>) -> u32
     requires { AreWithin part.now.entry.columns.documents column.now }
     ensures { result ≡ length (kept part.now.base part.now.entry.live.docs column.now) }
 {
@@ -94,7 +94,7 @@ fn put_rows<T: MergedValue>(
     into: &mut Vec<u8>,
 ) -> Result<(), NoMemory>
     requires { AreWithin part.now.entry.columns.documents column.now }
-    ensures { OnOk result (into.new.items ≡ into.old.items ++ flat_map (entry_text T.text) (live_rows (T.renewed ordinals.now) part.now column.now)) }
+    ensures { OnOk result (into.new.items ≡ into.old.items ++ flat_map (entry_text T.text) (written_rows (T.renewed ordinals.now) part.now column.now)) }
 {
     'rows: for row in 0..column.rows() {
         if let Some(doc) = part.number(column.doc(row)) {
