@@ -140,7 +140,7 @@ module _ {K : Type 0} (cmp : K → K → Ordering) (o : IsTotalOrder cmp) where
     are_gathered refs groups are = record {
       ordered = record { ascending = up_some groups are.ordered.ascending; some = all_some (map whole_of groups) };
       same = λ key.
-      in_some key (map whole_of groups) ∙ in_wholes key groups ∙ ap (flat_map expand) (gathered_at refs groups are key) ∙ sym (in_parts key refs);
+          in_some key (map whole_of groups) ∙ in_wholes key groups ∙ ap (flat_map expand) (gathered_at refs groups are key) ∙ sym (in_parts key refs);
     }
 
   -- ---- lists that are put together as they are, those without anything left out before

@@ -1,11 +1,10 @@
 -- The new numbers of documents with a value of a text field: one step of a walk, and that they ascend.
-use Rattle.std.proofs.Common.{◌≡◌, ℕ, zero, suc, ◌+◌, ◌-◌, ◌<◌, ◌≤◌, Bool, true, false, List, [], ◌∷◌, ◌++◌, length, map, set, get_or, drop, take, replicate, Option, Some, None, refl, sym, ap, subst, ◌∙◌, append_assoc, append-nil, arith, length-set, get_or-set_other}
+use Rattle.std.proofs.Common.{◌≡◌, ℕ, zero, suc, ◌+◌, ◌-◌, ◌<◌, ◌≤◌, Bool, true, false, List, [], ◌∷◌, ◌++◌, length, map, set, get_or, drop, take, replicate, Some, None, refl, sym, ap, subst, ◌∙◌, append_assoc, append-nil, arith, length-set, get_or-set_other}
 use Rattle.std.specs.Prelude.{slice_index_or, count_by}
 use Rattle.std.specs.Cmp.{nat_cmp_is}
 use Rattle.std.specs.List.{All, AllByRecursion, filter, flat_map}
 use Rattle.std.specs.List.Sorted.{IsStrictlyIncreasing}
 use Rattle.std.specs.Ordering.{eq_by_cmp, nat_cmp}
-use Rattle.std.specs.declared.cmp.Ordering.{Ordering}
 use Rattle.std.specs.declared.cmp.Ordering.TheVariants.{Less}
 use Rattle.std.proofs.lemmas.Cmp.{nat_cmp_total}
 use Rattle.std.proofs.lemmas.List.{drop_more, drop-drop, length-map, length-replicate}
@@ -23,9 +22,10 @@ use Rattle.segment_parts.specs.Agree.{AreColumns}
 use Rattle.segment_parts.specs.Fields.{fields}
 use Rattle.segment_parts.specs.Marks.{count-mark, marked_places-next, marked_places-none, marked_places-set}
 use Rattle.segment_parts.specs.Text.{marked_places, presence_text, present_text}
+use Rattle.segment_merge.specs.ByField.{keyed_text}
 use Rattle.segment_merge.specs.Merged.{kept_places, live_count, live_count_of, renumbered, IsGathered}
 use Rattle.segment_merge.specs.Numbering.{PartState, parts_from}
-use Rattle.segment_merge.specs.Pieces.{from_parts, part_texts, places_text}
+use Rattle.segment_merge.specs.Pieces.{from_parts, part_texts}
 use Rattle.segment_merge.proofs.Gathering.{groups_append, none_behind, own_gathered, split}
 
 abbrev pub places_in : PartState → List ℕ → List ℕ
@@ -240,17 +240,17 @@ places_back n docs up =
 
 -- ---- written
 
-present_texts : (n : ℕ) (texts : List (ℕ × List ℕ)) → AllByRecursion (λ (group : ℕ × List ℕ). marked_places 0 (marks_of n group.1) ≡ group.1) texts → flat_map presence_text (marked_groups n texts) ≡ flat_map places_text texts
+present_texts : (n : ℕ) (texts : List (ℕ × List ℕ)) → AllByRecursion (λ (group : ℕ × List ℕ). marked_places 0 (marks_of n group.1) ≡ group.1) texts → flat_map presence_text (marked_groups n texts) ≡ flat_map (keyed_text u32_text) texts
 present_texts n [] all = refl
 present_texts n (group ∷ texts) all =
     ap (λ (docs : List ℕ). (u32_text group.0 ++ counted_text u32_text u32_text docs) ++ flat_map presence_text (marked_groups n texts)) all.0
-    ∙ ap (λ (rest : List ℕ). places_text group ++ rest) (present_texts n texts all.1)
+    ∙ ap (λ (rest : List ℕ). keyed_text u32_text group ++ rest) (present_texts n texts all.1)
 
-present_written : (n : ℕ) (texts : List (ℕ × List ℕ)) → AllByRecursion (λ (group : ℕ × List ℕ). marked_places 0 (marks_of n group.1) ≡ group.1) texts → present_text (marked_groups n texts) ≡ counted_text u32_text places_text texts
+present_written : (n : ℕ) (texts : List (ℕ × List ℕ)) → AllByRecursion (λ (group : ℕ × List ℕ). marked_places 0 (marks_of n group.1) ≡ group.1) texts → present_text (marked_groups n texts) ≡ counted_text u32_text (keyed_text u32_text) texts
 unfolding present_text
 present_written n texts all =
     ap (λ (rest : List ℕ). u32_text (length (marked_groups n texts)) ++ rest) (present_texts n texts all)
-    ∙ ap (λ k. u32_text k ++ flat_map places_text texts) (length-map texts (λ (group : ℕ × List ℕ). (group.0, marks_of n group.1)))
+    ∙ ap (λ k. u32_text k ++ flat_map (keyed_text u32_text) texts) (length-map texts (λ (group : ℕ × List ℕ). (group.0, marks_of n group.1)))
 
 each_back : (n : ℕ) (parts : List (ℕ × List ℕ)) → ((key : ℕ) → Ascend 0 n (in_groups nat_cmp key parts)) → (texts : List (ℕ × List ℕ)) → AllByRecursion (λ (group : ℕ × List ℕ). group.1 ≡ in_groups nat_cmp group.0 parts) texts
     → AllByRecursion (λ (group : ℕ × List ℕ). marked_places 0 (marks_of n group.1) ≡ group.1) texts
@@ -258,7 +258,7 @@ each_back n parts up [] own = tt
 each_back n parts up (group ∷ texts) own = (places_back n group.1 (subst (Ascend 0 n) (sym own.0) (up group.0)), each_back n parts up texts own.1)
 
 pub texts_written : (entries : List EntryState) (parts : List PartState) (texts : List (ℕ × List ℕ)) → parts ≡ parts_from 0 entries → All Agrees parts → All IsLive parts → IsGathered nat_cmp (from_parts part_texts parts) texts
-    → counted_text u32_text places_text texts ≡ present_text (marked_groups (live_count_of entries) texts)
+    → counted_text u32_text (keyed_text u32_text) texts ≡ present_text (marked_groups (live_count_of entries) texts)
 texts_written entries parts texts is agree live gathered =
     let none_before : 0 + live_count_of entries ≡ live_count_of entries = omega arith in
     let own = own_gathered nat_cmp nat_cmp_total (from_parts part_texts (parts_from 0 entries)) texts (subst (λ ps. IsGathered nat_cmp (from_parts part_texts ps) texts) is gathered) in

@@ -5,6 +5,7 @@ pub mod Merged
 pub mod Lists
 pub mod Numbering
 pub mod Pieces
+pub mod ByField
 pub mod Scoped
 pub mod TermRefs
 pub mod Mergeable

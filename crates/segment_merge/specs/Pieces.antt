@@ -1,7 +1,6 @@
 -- The rows of columns as a merge writes them, part by part: those of live documents, with their new numbers.
 use Rattle.std.specs.Prelude.{◌≡◌, ℕ, ℤ, true, false, List, [], ◌∷◌, ◌++◌, map, drop, slice_get, slice_index_or, Contains, Option}
 use Rattle.std.specs.List.{flat_map}
-use Rattle.part_text.specs.Text.{counted_text, u32_text}
 use Rattle.postings.specs.Postings.{documents}
 use Rattle.segment_parts.specs.Lists.{postings_of, terms_of}
 use Rattle.segment_parts.specs.declared.columns.Columns.{Columns}
@@ -24,8 +23,8 @@ part_texts part = kept_texts part.base part.entry
 abbrev pub as_it_is : List ℕ → ℤ → ℤ
 as_it_is ordinals number = number
 
-abbrev pub new_ordinal : List ℕ → ℕ → ℕ
-new_ordinal ordinals ordinal = slice_index_or ordinals ordinal 0
+abbrev pub renewed_ordinal : List ℕ → ℕ → ℕ
+renewed_ordinal ordinals ordinal = slice_index_or ordinals ordinal 0
 
 abbrev pub number_columns : Columns → List (ℕ × List (ℕ × List ℤ))
 number_columns columns = columns.numbers
@@ -38,12 +37,12 @@ abbrev pub with_values : {X Y : Type 0} → (X → Y) → List (ℕ × List X) �
 with_values {X} {Y} renew rows = map (λ (row : ℕ × List X). (row.0, map renew row.1)) rows
 
 -- the rows of live documents, with other values
-abbrev pub live_rows : {X : Type 0} → (X → X) → PartState → List (ℕ × List X) → List (ℕ × List X)
-live_rows renew part rows = with_values renew (kept part.base part.entry.live.docs rows)
+abbrev pub written_rows : {X : Type 0} → (X → X) → PartState → List (ℕ × List X) → List (ℕ × List X)
+written_rows renew part rows = with_values renew (kept part.base part.entry.live.docs rows)
 
 -- the columns of a part
 abbrev pub columns_in : {X : Type 0} → (X → X) → PartState → List (ℕ × List (ℕ × List X)) → List (ℕ × List (ℕ × List X))
-columns_in {X} renew part columns = map (λ (column : ℕ × List (ℕ × List X)). (column.0, live_rows renew part column.1)) columns
+columns_in {X} renew part columns = map (λ (column : ℕ × List (ℕ × List X)). (column.0, written_rows renew part column.1)) columns
 
 -- the first of lists
 abbrev pub first_list : List (List ℕ) → List ℕ
@@ -79,7 +78,3 @@ joined lists = flat_map (λ list. list) lists
 -- the lists of a group as one
 abbrev pub whole : {K X : Type 0} → K × List (List X) → K × List X
 whole group = (group.0, joined group.1)
-
--- a text field, and its documents behind their number
-abbrev pub places_text : ℕ × List ℕ → List ℕ
-places_text group = u32_text group.0 ++ counted_text u32_text u32_text group.1

@@ -9,6 +9,7 @@
 
 mod agreed;
 mod blocks;
+mod by_field;
 mod bytes;
 mod counts;
 mod documents;

@@ -3,7 +3,7 @@
 ghost use Rattle.std.specs.Prelude.{◌≡◌, ℕ, List, ◌<◌, length, slice_get, Some};
 ghost use Rattle.segment_parts.specs.Agree.{AreWithin};
 ghost use Rattle.segment_parts.specs.declared.columns.Columns.{Columns};
-ghost use Rattle.segment_merge.specs.Pieces.{as_it_is, new_ordinal, number_columns, ordinal_columns};
+ghost use Rattle.segment_merge.specs.Pieces.{as_it_is, renewed_ordinal, number_columns, ordinal_columns};
 
 use doc_values::{Column, ColumnValue};
 use segment::Segment;
@@ -51,7 +51,7 @@ impl MergedValue for i64 {
 impl MergedValue for u64 {
     ghost columns = { ordinal_columns };
 
-    ghost renewed = { new_ordinal };
+    ghost renewed = { renewed_ordinal };
 
     fn column_count(segment: &Segment) -> usize {
         segment.ordinal_columns()

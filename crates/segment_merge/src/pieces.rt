@@ -6,9 +6,10 @@ ghost use Rattle.doc_values.specs.Text.{entry_text};
 ghost use Rattle.segment.specs.Flat.{has_some};
 ghost use Rattle.segment_parts.specs.Agree.{AreWithin};
 ghost use Rattle.segment_merge.specs.Merged.{kept};
-ghost use Rattle.segment_merge.specs.Pieces.{columns_in, columns_of_parts, live_rows};
+ghost use Rattle.segment_merge.specs.Pieces.{columns_in, columns_of_parts, written_rows};
 
 use crate::NoMemory;
+use crate::by_field::PartItems;
 use crate::merged_value::MergedValue;
 use crate::new_ordinals::NewOrdinals;
 use crate::numbering::Part;
@@ -31,11 +32,11 @@ impl<'a, T: MergedValue> Model for Piece<'a, T> {
     ghost use Rattle.std.specs.Prelude.{◌≡◌, ℕ, List, length};
     ghost use Rattle.segment_parts.specs.Agree.{AreWithin};
     ghost use Rattle.segment_merge.specs.Merged.{kept};
-    ghost use Rattle.segment_merge.specs.Pieces.{live_rows};
+    ghost use Rattle.segment_merge.specs.Pieces.{written_rows};
 
     ghost Value = { List (ℕ × List T) };
 
-    ghost view = { λ piece. live_rows (T.renewed piece.ordinals.now) piece.part.now piece.column };
+    ghost view = { λ piece. written_rows (T.renewed piece.ordinals.now) piece.part.now piece.column };
 
     ghost invariant = { λ piece. AreWithin piece.part.now.entry.columns.documents piece.column
         × (piece.rows ≡ length (kept piece.part.now.base piece.part.now.entry.live.docs piece.column)) };
@@ -45,9 +46,9 @@ impl<'a, T: MergedValue> Piece<'a, T> {
     /// The column of a part. Takes no memory.
     fn of(part: &'a Part<'a>, ordinals: &'a [u64], column: Column<'a, T>) -> Piece<'a, T>
         requires { AreWithin part.now.entry.columns.documents column }
-        ensures { result ≡ live_rows (T.renewed ordinals.now) part.now column.entry }
+        ensures { result ≡ written_rows (T.renewed ordinals.now) part.now column.entry }
     {
-        let rows = live_rows(part, &column);
+        let rows = live_row_count(part, &column);
         Piece {
             part,
             ordinals,
@@ -55,24 +56,24 @@ impl<'a, T: MergedValue> Piece<'a, T> {
             rows,
         }
     }
+}
 
-    /// How many rows there are.
-    pub(crate) fn len(&self) -> u32
-        ensures { result ≡ length self.now }
-    {
-        self.rows
+impl<'a, T: MergedValue> PartItems for Piece<'a, T> {
+    ghost count = { λ rows. length rows };
+
+    ghost text = { λ rows. flat_map (entry_text T.text) rows };
+
+    fn len(&self) -> Result<u32, NoMemory> {
+        Ok(self.rows)
     }
 
-    /// Appends the rows.
-    pub(crate) fn put(&self, into: &mut Vec<u8>) -> Result<(), NoMemory>
-        ensures { OnOk result (into.new.items ≡ into.old.items ++ flat_map (entry_text T.text) self.now) }
-    {
+    fn put(&self, into: &mut Vec<u8>) -> Result<(), NoMemory> {
         put_rows(self.part, self.ordinals, &self.column, into)
     }
 }
 
 /// How many rows of a column are of live documents.
-fn live_rows<T: MergedValue>(part: &Part, column: &Column<T>) -> u32
+fn live_row_count<T: MergedValue>(part: &Part, column: &Column<T>) -> u32
     requires { AreWithin part.now.entry.columns.documents column.now }
     ensures { result ≡ length (kept part.now.base part.now.entry.live.docs column.now) }
 {
@@ -93,7 +94,7 @@ fn put_rows<T: MergedValue>(
     into: &mut Vec<u8>,
 ) -> Result<(), NoMemory>
     requires { AreWithin part.now.entry.columns.documents column.now }
-    ensures { OnOk result (into.new.items ≡ into.old.items ++ flat_map (entry_text T.text) (live_rows (T.renewed ordinals.now) part.now column.now)) }
+    ensures { OnOk result (into.new.items ≡ into.old.items ++ flat_map (entry_text T.text) (written_rows (T.renewed ordinals.now) part.now column.now)) }
 {
     'rows: for row in 0..column.rows() {
         if let Some(doc) = part.number(column.doc(row)) {
@@ -172,7 +173,7 @@ fn add_piece<'a, T: MergedValue>(
 ) -> Result<(), NoMemory>
     ensures { OnOk result (pieces.new.items ≡ pieces.old.items ++ filter has_some ((field, piece.entry) ∷ [])) }
 {
-    if piece.len() > 0 {
+    if piece.rows > 0 {
         pieces.push((field, piece))?;
     }
     Ok(())

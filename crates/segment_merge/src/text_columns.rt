@@ -1,25 +1,25 @@
 //! The documents with a value of each text field of a merged segment, written.
 
-ghost use Rattle.std.specs.Prelude.{◌≡◌, ◌<◌, ◌++◌, ◌∷◌, [], ℕ, List, length, map, IfOk, OnOk};
+ghost use Rattle.std.specs.Prelude.{◌≡◌, ◌<◌, ◌++◌, ◌∷◌, [], ℕ, List, length, IfOk, OnOk};
 ghost use Rattle.std.specs.List.{filter, flat_map};
 ghost use Rattle.std.specs.Ordering.{nat_cmp};
 ghost use Rattle.part_text.specs.Text.{counted_text, u32_text};
 ghost use Rattle.segment.specs.Flat.{has_some};
 ghost use Rattle.segment.specs.Live.{EntryState};
-ghost use Rattle.segment_builder.specs.Groups.{groups_seen};
 ghost use Rattle.segment_builder.specs.Made.{marked_groups};
 ghost use Rattle.segment_parts.specs.Text.{marked_places, present_text};
+ghost use Rattle.segment_merge.specs.ByField.{keyed_text};
 ghost use Rattle.segment_merge.specs.Merged.{kept_places, live_count_of, IsGathered};
 ghost use Rattle.segment_merge.specs.Numbering.{parts_from};
-ghost use Rattle.segment_merge.specs.Pieces.{from_parts, joined, part_texts, places_text, whole};
+ghost use Rattle.segment_merge.specs.Pieces.{from_parts, part_texts};
 
 use crate::NoMemory;
 use crate::agreed::parts_agree;
-use crate::counts::{count_of, sum_of};
+use crate::by_field::{PartItems, put_by_field};
+use crate::counts::count_of;
 use crate::numbering::Part;
 use block_bits::BitSet;
 use part_text::put_u32;
-use segment_builder::grouped;
 use std::alloc::Global;
 use std::marker::Model;
 
@@ -37,18 +37,16 @@ impl Model for Places {
     ghost view = { λ places. places.numbers.items };
 }
 
-impl Places {
-    /// How many there are.
-    fn len(&self) -> usize
-        ensures { result ≡ length self.now }
-    {
-        self.numbers.len()
+impl PartItems for Places {
+    ghost count = { λ numbers. length numbers };
+
+    ghost text = { λ numbers. flat_map u32_text numbers };
+
+    fn len(&self) -> Result<u32, NoMemory> {
+        count_of(self.numbers.len())
     }
 
-    /// Appends them.
-    fn put(&self, into: &mut Vec<u8>) -> Result<(), NoMemory>
-        ensures { OnOk result (into.new.items ≡ into.old.items ++ flat_map u32_text self.now) }
-    {
+    fn put(&self, into: &mut Vec<u8>) -> Result<(), NoMemory> {
         'numbers: for number in &self.numbers {
             put_u32(into, *number)?;
         }
@@ -57,14 +55,10 @@ impl Places {
 }
 
 /// Appends the text fields of parts, put together by field, each with the documents that have a value.
-pub(crate) fn put_texts(
-    alloc: Global,
-    parts: &[Part],
-    into: &mut Vec<u8>,
-) -> Result<(), NoMemory>
+pub(crate) fn put_texts(alloc: Global, parts: &[Part], into: &mut Vec<u8>) -> Result<(), NoMemory>
     ensures { (entries : List EntryState) → parts.now ≡ parts_from 0 entries
         → OnOk result ((texts : List (ℕ × List ℕ)) × IsGathered nat_cmp (from_parts part_texts parts.now) texts
-            × (into.new.items ≡ into.old.items ++ present_text (marked_groups (live_count_of entries) texts))) }
+        × (into.new.items ≡ into.old.items ++ present_text (marked_groups (live_count_of entries) texts))) }
 {
     parts_agree(parts);
     put_all(alloc, parts, into)?;
@@ -74,12 +68,10 @@ pub(crate) fn put_texts(
 /// Appends the text fields of parts, put together by field, behind their number.
 fn put_all(alloc: Global, parts: &[Part], into: &mut Vec<u8>) -> Result<(), NoMemory>
     ensures { OnOk result ((texts : List (ℕ × List ℕ)) × IsGathered nat_cmp (from_parts part_texts parts.now) texts
-        × (into.new.items ≡ into.old.items ++ counted_text u32_text places_text texts)) }
+        × (into.new.items ≡ into.old.items ++ counted_text u32_text (keyed_text u32_text) texts)) }
 {
     let texts = texts_of(alloc, parts)?;
-    let groups = grouped(alloc, texts)?;
-    put_u32(into, count_of(groups.len())?)?;
-    put_fields(groups.as_slice(), into)?;
+    put_by_field(alloc, texts, into)?;
     Ok(())
 }
 
@@ -95,11 +87,7 @@ fn texts_of(alloc: Global, parts: &[Part]) -> Result<Vec<(u32, Places)>, NoMemor
 }
 
 /// Adds the text fields of a part that live documents have a value of.
-fn add_texts(
-    alloc: Global,
-    part: &Part,
-    texts: &mut Vec<(u32, Places)>,
-) -> Result<(), NoMemory>
+fn add_texts(alloc: Global, part: &Part, texts: &mut Vec<(u32, Places)>) -> Result<(), NoMemory>
     ensures { OnOk result (texts.new.items ≡ texts.old.items ++ filter has_some (part_texts part.now)) }
 {
     let segment = part.segment();
@@ -111,14 +99,10 @@ fn add_texts(
 }
 
 /// Adds a text field, if it has documents.
-fn add_text(
-    field: u32,
-    places: Places,
-    texts: &mut Vec<(u32, Places)>,
-) -> Result<(), NoMemory>
+fn add_text(field: u32, places: Places, texts: &mut Vec<(u32, Places)>) -> Result<(), NoMemory>
     ensures { OnOk result (texts.new.items ≡ texts.old.items ++ filter has_some ((field, places) ∷ [])) }
 {
-    if places.len() > 0 {
+    if !places.numbers.is_empty() {
         texts.push((field, places))?;
     }
     Ok(())
@@ -145,47 +129,6 @@ fn add_number(part: &Part, doc: u32, numbers: &mut Vec<u32>) -> Result<(), NoMem
 {
     if let Some(number) = part.number(doc) {
         numbers.push(number)?;
-    }
-    Ok(())
-}
-
-/// Appends text fields with their documents.
-fn put_fields(groups: &[(u32, Vec<Places>)], into: &mut Vec<u8>) -> Result<(), NoMemory>
-    ensures { OnOk result (into.new.items ≡ into.old.items ++ flat_map places_text (map whole (groups_seen groups.now))) }
-{
-    'groups: for (field, lists) in groups {
-        put_field(*field, lists.as_slice(), into)?;
-    }
-    Ok(())
-}
-
-/// Appends a text field, and these documents behind their number.
-fn put_field(field: u32, lists: &[Places], into: &mut Vec<u8>) -> Result<(), NoMemory>
-    ensures { OnOk result (into.new.items ≡ into.old.items ++ places_text (field, joined lists.now)) }
-{
-    put_u32(into, field)?;
-    put_u32(into, number_count(lists)?)?;
-    put_lists(lists, into)?;
-    Ok(())
-}
-
-/// How many numbers lists have.
-fn number_count(lists: &[Places]) -> Result<u32, NoMemory>
-    ensures { IfOk result (λ count. count ≡ length (joined lists.now)) }
-{
-    let mut count = 0;
-    'lists: for list in lists {
-        count = sum_of(count, count_of(list.len())?)?;
-    }
-    Ok(count)
-}
-
-/// Appends the numbers of lists.
-fn put_lists(lists: &[Places], into: &mut Vec<u8>) -> Result<(), NoMemory>
-    ensures { OnOk result (into.new.items ≡ into.old.items ++ flat_map u32_text (joined lists.now)) }
-{
-    'lists: for list in lists {
-        list.put(into)?;
     }
     Ok(())
 }

@@ -1,7 +1,6 @@
 use Rattle.std.proofs.Common.{All, subst}
 use Rattle.std.proofs.lemmas.List.{take_all}
 use Rattle.std.proofs.lemmas.List.Elements.{All-more}
-use Rattle.segment.specs.Live.{IsLiveOver}
 use Rattle.segment_parts.specs.Agree.{AreColumns}
 use Rattle.segment_merge.proofs.Placed.{Agrees, IsLive}
 use Rattle.segment_merge.proofs.agreed.parts_agree.Goals as goal

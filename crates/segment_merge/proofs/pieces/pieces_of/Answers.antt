@@ -1,4 +1,3 @@
-use Rattle.std.proofs.Common.{sym}
 use Rattle.std.specs.List.{filter}
 use Rattle.segment.specs.Flat.{has_some}
 use Rattle.segment_merge.specs.Pieces.{columns_of_parts}

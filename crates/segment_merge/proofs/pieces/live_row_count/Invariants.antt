@@ -1,6 +1,6 @@
 use Rattle.std.proofs.Common.{◌≡◌, ◌+◌, ◌≤◌, drop, length}
 use Rattle.segment_merge.proofs.Pieced.{kept_in}
-use Rattle.segment_merge.proofs.pieces.live_rows.Given as goal
+use Rattle.segment_merge.proofs.pieces.live_row_count.Given as goal
 
 abbrev pub invariant-rows : goal.invariant-rows
 invariant-rows g l =
