@@ -141,7 +141,7 @@ blocks_counted m (block ∷ blocks) all =
     ap (count_by is_marked) parts ∙ omega (arith, roots_counted block.flats (map root_mark (flats_in blocks)), all.0.one_root, blocks_counted m blocks all.1)
 
 -- the last document is a root
-abbrev EndsSo : List FlatDocument → Type 0
+abbrev pub EndsSo : List FlatDocument → Type 0
 EndsSo [] = ⊥
 EndsSo (flat ∷ []) = flat.scope ≡ 0
 EndsSo (flat ∷ next ∷ flats) = EndsSo (next ∷ flats)

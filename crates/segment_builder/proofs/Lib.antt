@@ -34,3 +34,4 @@ pub mod Lengths
 pub mod Suited
 pub mod Stored
 pub mod Blocked
+pub mod Standing

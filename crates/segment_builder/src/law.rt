@@ -1,6 +1,6 @@
 //! What the blocks of an entry say of trees, as laws for the crates above: call the function where you need its clauses.
 
-ghost use Rattle.std.specs.Prelude.{◌≡◌, ◌+◌, ℕ, List, count_by, filter, length, map, slice_get, Some};
+ghost use Rattle.std.specs.Prelude.{◌≡◌, ◌+◌, ◌<◌, ◌^◌, ℕ, List, count_by, filter, length, map, slice_get, Some};
 ghost use Rattle.std.specs.List.{AllByRecursion};
 ghost use Rattle.block_bits.specs.Flags.{is_marked};
 ghost use Rattle.flattener.specs.Block.{BlockState};
@@ -8,15 +8,19 @@ ghost use Rattle.flattener.specs.Fits.{IsRootOf, SegmentFits};
 ghost use Rattle.flattener.specs.StandsFor.{Marked, EntryStandsFor};
 ghost use Rattle.mapping.specs.IsMapping.{IsMapping};
 ghost use Rattle.mapping.specs.Mapping.{Mapping};
+ghost use Rattle.segment.specs.Agree.{AreColumns};
 ghost use Rattle.segment.specs.Flat.{flats_of, roots_of};
 ghost use Rattle.segment.specs.Live.{IsLiveOver, LiveState, block_end, block_start, killed};
 ghost use Rattle.segment_parts.specs.declared.columns.Columns.{Columns};
 ghost use Rattle.segment_builder.specs.Blocks.{blocks_of, marked_by, block_of_marked, dead_at, objects_of};
-ghost use Rattle.segment_builder.specs.Entries.{flats_in};
+ghost use Rattle.segment_builder.specs.Entries.{flats_in, no_entries, with_blocks};
+ghost use Rattle.segment_builder.specs.Given.{AreGiven};
+ghost use Rattle.segment_builder.specs.Made.{IsMade};
 ghost use Rattle.layout.specs.Layout.{is_live, item_in};
 ghost use Rattle.tree_objects.specs.Tree.{Tree};
 
 use segment::{LiveBits, Segment, scopes_are_of_documents};
+use term_table::keys_are_ordered;
 
 /// A segment with its live bits stands for trees where its blocks are those of the trees, each live where its tree is.
 /// Does nothing.
@@ -51,3 +55,23 @@ pub fn fitting_segments_are_blocks()
     ensures flats { (m : Mapping) (columns : Columns) → SegmentFits m columns → flats_in (blocks_of columns) ≡ flats_of columns }
     ensures same { (m : Mapping) (columns : Columns) → SegmentFits m columns → map (λ (block : BlockState). block.root) (blocks_of columns) ≡ roots_of columns }
 {}
+
+/// Columns that are made of blocks are those of one segment, whatever made them. Does nothing.
+pub fn made_columns_agree()
+    ensures { (m : Mapping) (blocks : List BlockState) (columns : Columns) → AreGiven m blocks → IsMade (with_blocks no_entries blocks) columns
+        → roots_of columns ≡ map (λ (block : BlockState). block.root) blocks → length columns.terms < 2 ^ 64 → AreColumns columns }
+{
+    keys_are_ordered();
+}
+
+/// A segment whose columns are made of blocks has these blocks, and fits each mapping that each of them is of. Does nothing.
+pub fn made_segments_are_blocks(segment: &Segment)
+    ensures blocks { (m : Mapping) (blocks : List BlockState) → AreGiven m blocks → IsMade (with_blocks no_entries blocks) segment.now
+        → roots_of segment.now ≡ map (λ (block : BlockState). block.root) blocks → blocks_of segment.now ≡ blocks }
+    ensures fits { (m : Mapping) (blocks : List BlockState) → AreGiven m blocks → IsMade (with_blocks no_entries blocks) segment.now
+        → roots_of segment.now ≡ map (λ (block : BlockState). block.root) blocks
+        → (other : Mapping) → AllByRecursion (λ (block : BlockState). IsRootOf other block.root block.flats) blocks → SegmentFits other segment.now }
+{
+    let _ = segment.docs();
+    scopes_are_of_documents(segment);
+}
