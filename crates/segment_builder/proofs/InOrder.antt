@@ -184,7 +184,7 @@ module _ {K P : Type 0} (cmp : K → K → Ordering) (o : IsTotalOrder cmp) wher
 
   -- ---- what the groups are in the end
 
-  nothing_at : (key : K) (groups : List (K × List P)) → AllByRecursion (λ k. cmp key k ≡ Less) (keys groups) → in_groups cmp key groups ≡ []
+  pub nothing_at : (key : K) (groups : List (K × List P)) → AllByRecursion (λ k. cmp key k ≡ Less) (keys groups) → in_groups cmp key groups ≡ []
   nothing_at key [] behind = refl
   nothing_at key (group ∷ groups) behind = rw behind.0 (nothing_at key groups behind.1)
 

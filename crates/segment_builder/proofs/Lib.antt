@@ -35,3 +35,6 @@ pub mod Suited
 pub mod Stored
 pub mod Blocked
 pub mod Standing
+pub mod SameRows
+pub mod Posted
+pub mod Again

@@ -1,10 +1,11 @@
 //! What the blocks of an entry say of trees, as laws for the crates above: call the function where you need its clauses.
 
 ghost use Rattle.std.specs.Prelude.{◌≡◌, ◌+◌, ◌<◌, ◌^◌, ℕ, List, count_by, filter, length, map, slice_get, Some};
-ghost use Rattle.std.specs.List.{AllByRecursion};
+ghost use Rattle.std.specs.List.{All, AllByRecursion};
 ghost use Rattle.block_bits.specs.Flags.{is_marked};
 ghost use Rattle.flattener.specs.Block.{BlockState};
 ghost use Rattle.flattener.specs.Fits.{IsRootOf, SegmentFits};
+ghost use Rattle.flattener.specs.Small.{IsSmall};
 ghost use Rattle.flattener.specs.StandsFor.{Marked, EntryStandsFor};
 ghost use Rattle.mapping.specs.IsMapping.{IsMapping};
 ghost use Rattle.mapping.specs.Mapping.{Mapping};
@@ -13,13 +14,15 @@ ghost use Rattle.segment.specs.Flat.{flats_of, roots_of};
 ghost use Rattle.segment.specs.Live.{IsLiveOver, LiveState, block_end, block_start, killed};
 ghost use Rattle.segment_parts.specs.declared.columns.Columns.{Columns};
 ghost use Rattle.segment_builder.specs.Blocks.{blocks_of, marked_by, block_of_marked, dead_at, objects_of};
+ghost use Rattle.segment_builder.specs.ByKey.{SayAtKeys};
 ghost use Rattle.segment_builder.specs.Entries.{flats_in, no_entries, with_blocks};
+ghost use Rattle.segment_builder.specs.Form.{IsFit, IsOrdered};
 ghost use Rattle.segment_builder.specs.Given.{AreGiven};
 ghost use Rattle.segment_builder.specs.Made.{IsMade};
 ghost use Rattle.layout.specs.Layout.{is_live, item_in};
 ghost use Rattle.tree_objects.specs.Tree.{Tree};
 
-use segment::{LiveBits, Segment, scopes_are_of_documents};
+use segment::{LiveBits, Segment, scopes_are_of_documents, terms_are_of_documents};
 use term_table::keys_are_ordered;
 
 /// A segment with its live bits stands for trees where its blocks are those of the trees, each live where its tree is.
@@ -74,4 +77,14 @@ pub fn made_segments_are_blocks(segment: &Segment)
 {
     let _ = segment.docs();
     scopes_are_of_documents(segment);
+}
+
+/// At each key the columns of a segment have just what its documents carry there. Does nothing.
+pub fn segments_say_what_documents_carry(segment: &Segment)
+    ensures { (m : Mapping) → SegmentFits m segment.now → All IsOrdered (flats_of segment.now) → All IsSmall (flats_of segment.now) → All IsFit (flats_of segment.now)
+        → SayAtKeys (with_blocks no_entries (blocks_of segment.now)) segment.now }
+{
+    let _ = segment.docs();
+    terms_are_of_documents(segment);
+    keys_are_ordered();
 }

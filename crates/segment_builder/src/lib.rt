@@ -24,6 +24,6 @@ mod terms;
 pub use assemble::{built, made_of};
 pub use law::{
     blocks_are_whole, blocks_stand_for_trees, deaths_mark_blocks, fitting_segments_are_blocks,
-    made_columns_agree, made_segments_are_blocks,
+    made_columns_agree, made_segments_are_blocks, segments_say_what_documents_carry,
 };
 pub use refusal::NoMemory;

@@ -1,4 +1,4 @@
-use Rattle.std.proofs.Common.{◌≡◌, map}
+use Rattle.std.proofs.Common.{◌≡◌, map, refl}
 use Rattle.segment.specs.Flat.{flats_of}
 use Rattle.segment_builder.specs.Entries.{flats_in, no_entries, with_blocks}
 use Rattle.segment_builder.specs.Made.{IsMade}
