@@ -38,3 +38,4 @@ pub mod Standing
 pub mod SameRows
 pub mod Posted
 pub mod Again
+pub mod AtFields

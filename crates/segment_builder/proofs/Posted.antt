@@ -1,7 +1,7 @@
 -- The terms of a segment have just the documents that carry them: what its postings say at a term, and what documents say.
-use Rattle.std.proofs.Common.{◌≡◌, ℕ, ℤ, suc, zero, ◌+◌, ◌<◌, ◌==◌, Bool, true, false, ◌&&◌, ◌||◌, List, [], ◌∷◌, ◌++◌, length, map, slice_get, Some, refl, sym, ap, subst, ◌∙◌, arith, eq-eqb, eqb-true}
+use Rattle.std.proofs.Common.{◌≡◌, ℕ, ℤ, suc, zero, ◌+◌, ◌<◌, ◌==◌, Bool, true, false, ◌&&◌, ◌||◌, List, [], ◌∷◌, map, slice_get, Some, refl, sym, ap, subst, ◌∙◌, arith, eq-eqb, eqb-true}
 use Rattle.std.specs.List.{AllByRecursion, list_any}
-use Rattle.std.specs.Ordering.{eq_by_cmp, is_eq, nat_cmp}
+use Rattle.std.specs.Ordering.{eq_by_cmp, nat_cmp}
 use Rattle.std.specs.Str.{bytes_eq}
 use Rattle.std.specs.declared.cmp.Ordering.{Ordering}
 use Rattle.std.proofs.lemmas.List.Folds.{list_any-append}
@@ -17,7 +17,6 @@ use Rattle.segment_builder.specs.Terms.{keyword_terms, number_terms, once, once_
 use Rattle.segment_builder.proofs.Among.{any_mapped}
 use Rattle.segment_builder.proofs.Grown.{by_doc, of_append}
 use Rattle.segment_builder.proofs.Keys.{split}
-use Rattle.segment_builder.proofs.Merged.{IsExact}
 use Rattle.segment_builder.proofs.Onced.{same_bytes}
 use Rattle.segment_builder.proofs.Orders.{term_order}
 use Rattle.segment_builder.proofs.Rising.{key_is}

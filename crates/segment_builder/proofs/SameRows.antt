@@ -1,6 +1,6 @@
 -- Rows whose documents rise are the same where the same documents have the same values; what groups have at a key.
-use Rattle.std.proofs.Common.{◌≡◌, ℕ, ◌+◌, ◌<◌, ◌≤◌, ◌==◌, Bool, true, false, ◌||◌, List, [], ◌∷◌, ◌++◌, length, map, get_or, nat_lt, refl, sym, ap, subst, ◌∙◌, append-nil, arith, eq-eqb, eqb-true, lt-ltb, suc}
-use Rattle.std.specs.List.{AllByRecursion, filter, list_any}
+use Rattle.std.proofs.Common.{◌≡◌, ℕ, ◌+◌, ◌<◌, ◌≤◌, ◌==◌, Bool, true, false, ◌||◌, List, [], ◌∷◌, length, map, get_or, nat_lt, refl, sym, ap, subst, ◌∙◌, append-nil, arith, eq-eqb, eqb-true, lt-ltb, suc}
+use Rattle.std.specs.List.{AllByRecursion, list_any}
 use Rattle.std.specs.List.Sorted.{IsStrictlyIncreasing, IsStrictlySortedBy}
 use Rattle.std.specs.Ordering.{eq_by_cmp, nat_cmp}
 use Rattle.std.specs.declared.cmp.Ordering.{Ordering}
@@ -30,7 +30,7 @@ none_below low high doc [] up less = refl
 none_below low high doc (row ∷ rows) up less =
     rw (apart_below row.0 doc (omega (arith, less, up.0))) (none_below (row.0 + 1) high doc rows up.2 (omega (arith, less, up.0)))
 
-values_below : {X : Type 0} (low high doc : ℕ) (rows : List (ℕ × List X)) → AreRisingFrom low high rows → doc < low → values_of doc rows ≡ []
+pub values_below : {X : Type 0} (low high doc : ℕ) (rows : List (ℕ × List X)) → AreRisingFrom low high rows → doc < low → values_of doc rows ≡ []
 values_below low high doc [] up less = refl
 values_below low high doc (row ∷ rows) up less =
     rw (apart_below row.0 doc (omega (arith, less, up.0))) (values_below (row.0 + 1) high doc rows up.2 (omega (arith, less, up.0)))

@@ -4,7 +4,7 @@ use Rattle.flattener.specs.Small.{IsSmall}
 use Rattle.segment_builder.specs.Blocks.{blocks_of}
 use Rattle.segment_builder.specs.Entries.{flats_in}
 use Rattle.segment_builder.specs.Form.{IsFit, IsOrdered}
-use Rattle.segment_builder.proofs.Again.{terms_again}
+use Rattle.segment_builder.proofs.Again.{keywords_again, numbers_again, terms_again, texts_again}
 use Rattle.segment_builder.proofs.Agreeing.{kinds_of, written_by}
 use Rattle.segment_builder.proofs.Blocked.{blocks_fit, flats_again}
 use Rattle.segment_builder.proofs.Written.{IsWritten}
@@ -19,7 +19,7 @@ returns c =
     written_by m (blocks_of columns) (blocks_fit m columns fits) (subst (All IsOrdered) (sym same) ordered) (subst (All IsSmall) (sym same) small) (subst (All IsFit) (sym same) fit) in
     record {
       terms_are = terms_again m columns c.docs.ensures.agree (blocks_of columns) same all c.keys_are_ordered.ensures c.terms_are_of_documents.ensures.terms c.terms_are_of_documents.ensures.within;
-      numbers_are = ?;
-      keywords_are = ?;
-      texts_are = ?;
+      numbers_are = numbers_again m columns c.docs.ensures.agree (blocks_of columns) same all;
+      keywords_are = keywords_again m columns c.docs.ensures.agree (blocks_of columns) same all;
+      texts_are = texts_again m columns c.docs.ensures.agree (blocks_of columns) same all;
     }
