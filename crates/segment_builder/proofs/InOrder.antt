@@ -194,7 +194,7 @@ module _ {K P : Type 0} (cmp : K → K → Ordering) (o : IsTotalOrder cmp) wher
   lift_own first all (group ∷ groups) behind own =
       (rw (less_back cmp o first.0 group.0 behind.0) own.0, lift_own first all groups behind.1 own.1)
 
-  own_groups : (groups : List (K × List P)) → IsStrictlySortedBy cmp (keys groups) → AllByRecursion (λ (group : K × List P). in_groups cmp group.0 groups ≡ group.1) groups
+  pub own_groups : (groups : List (K × List P)) → IsStrictlySortedBy cmp (keys groups) → AllByRecursion (λ (group : K × List P). in_groups cmp group.0 groups ≡ group.1) groups
   own_groups [] up = tt
   own_groups (group ∷ groups) up =
       let behind = sorted_head cmp group.0 (keys groups) up in

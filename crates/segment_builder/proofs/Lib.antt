@@ -39,3 +39,5 @@ pub mod SameRows
 pub mod Posted
 pub mod Again
 pub mod AtFields
+pub mod ByDocuments
+pub mod Gathered

@@ -1,7 +1,5 @@
-use Rattle.std.proofs.Common.{◌≡◌, map, refl}
-use Rattle.segment.specs.Flat.{flats_of}
-use Rattle.segment_builder.specs.Entries.{flats_in, no_entries, with_blocks}
-use Rattle.segment_builder.specs.Made.{IsMade}
+use Rattle.std.proofs.Common.{refl}
+use Rattle.segment_builder.specs.Entries.{no_entries, with_blocks}
 use Rattle.segment_builder.proofs.Cut.{blocks_again}
 use Rattle.segment_builder.proofs.Fitted.{fitted_by}
 use Rattle.segment_builder.proofs.Whole.{flats_are}
