@@ -50,8 +50,8 @@ module _ (terms : List (ℕ × List ℕ)) (up : AreAscending terms) (few : lengt
       let values : map (slice_get terms) row.1 ≡ named field own.1 = ap (λ (r : ℕ × List (Option (ℕ × List ℕ))). r.1) same in (
         ordinals_are terms field row.1 own.1 up values are,
         (λ k d h.
-        let below : get_or row.1 k d < length terms = All-from_recursion (λ ordinal. ordinal < length terms) row.1 (one_of_terms terms field row.1 own.1 values) k d h in
-        omega (arith, below, few)),
+            let below : get_or row.1 k d < length terms = All-from_recursion (λ ordinal. ordinal < length terms) row.1 (one_of_terms terms field row.1 own.1 values) k d h in
+            omega (arith, below, few)),
       )
 
   column_fits : (column : ℕ × List (ℕ × List ℕ)) (group : ℕ × List (ℕ × List (List ℕ))) → column_terms terms column ≡ named_group group → IsKeywordColumn terms group → IsColumn nat_cmp IsOrdinal column

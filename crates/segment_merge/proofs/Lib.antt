@@ -7,3 +7,6 @@ pub mod Rooted
 pub mod Changed
 pub mod Steps
 pub mod Listed
+pub mod Renumbered
+pub mod LiveDocuments
+pub mod Merging

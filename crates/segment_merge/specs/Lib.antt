@@ -2,3 +2,4 @@
 -- `segment_builder`.
 pub mod Spread
 pub mod Merged
+pub mod Mergeable

@@ -12,6 +12,7 @@ mod blocks;
 mod bytes;
 mod documents;
 mod keywords;
+mod law;
 mod marks;
 mod merge;
 mod numbers;
