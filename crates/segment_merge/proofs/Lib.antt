@@ -10,3 +10,4 @@ pub mod Listed
 pub mod Renumbered
 pub mod LiveDocuments
 pub mod Merging
+pub mod FewTerms

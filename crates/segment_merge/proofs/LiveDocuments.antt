@@ -1,13 +1,14 @@
 -- The documents of live blocks are the documents that are live, and so are their roots.
 use Rattle.std.proofs.Common.{◌≡◌, ℕ, suc, ◌+◌, Bool, true, false, cond, List, [], ◌∷◌, ◌++◌, length, map, filter, replicate, refl, sym, ap, ◌∙◌, append_assoc, arith}
 use Rattle.std.specs.List.{All, AllByRecursion, flat_map, sum_by}
-use Rattle.std.proofs.lemmas.List.{length-append, map-append}
+use Rattle.std.proofs.lemmas.List.{length-append, length-map, map-append}
+use Rattle.std.proofs.lemmas.List.Concat.{length-flat_map}
 use Rattle.std.proofs.lemmas.List.Sums.{sum_by-cons}
 use Rattle.flattener.specs.Block.{BlockState}
 use Rattle.layout.specs.Layout.{Marked, is_live, item_in}
 use Rattle.segment.specs.Flat.{FlatDocument, FlatRoot, flat_root, flats_of, roots_of}
 use Rattle.segment.specs.Live.{EntryState}
-use Rattle.segment_builder.specs.Blocks.{blocks_of, blocks_in, live_blocks, marked_by}
+use Rattle.segment_builder.specs.Blocks.{blocks_of, blocks_in, live_blocks, marked_by, objects_of}
 use Rattle.segment_builder.specs.Entries.{flats_in}
 use Rattle.segment_merge.specs.Merged.{live_count, live_count_of, live_roots, live_roots_in, live_scopes, live_scopes_in, where_marked}
 use Rattle.segment_merge.proofs.Renumbered.{where_map}
@@ -36,7 +37,7 @@ where_dead : (flats rest : List FlatDocument) (flags : List Bool) → where_mark
 where_dead [] rest flags = refl
 where_dead (flat ∷ flats) rest flags = where_dead flats rest flags
 
-where_none : {X : Type 0} (flags : List Bool) → where_marked {X} flags [] ≡ []
+where_none : {X : Type 0} (flags : List Bool) → where_marked {X = X} flags [] ≡ []
 where_none [] = refl
 where_none (flag ∷ flags) = refl
 
@@ -98,3 +99,12 @@ all_scopes (entry ∷ entries) =
 pub all_count : (entries : List EntryState) → AllByRecursion IsWhole entries → length (flat_map live_flats entries) ≡ live_count_of entries
 all_count [] all = refl
 all_count (entry ∷ entries) all = omega (arith, length-append (live_flats entry) (flat_map live_flats entries), all.0.count, all_count entries all.1, sum_by-cons live_count entry entries)
+
+-- as many objects as live documents, and as many blocks as live roots
+pub all_objects : (entries : List EntryState) → AllByRecursion IsWhole entries → objects_of (flat_map live_blocks entries) ≡ live_count_of entries
+all_objects entries all =
+    omega (arith, length-flat_map (λ (block : BlockState). block.flats) (flat_map live_blocks entries), ap length (all_documents entries all), all_count entries all)
+
+pub all_blocks : (entries : List EntryState) → AllByRecursion IsWhole entries → length (flat_map live_blocks entries) ≡ length (live_roots entries)
+all_blocks entries all =
+    sym (length-map (flat_map live_blocks entries) root_in) ∙ sym (ap length (all_roots_are entries all)) ∙ length-map (live_roots entries) flat_root

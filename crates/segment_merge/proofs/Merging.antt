@@ -159,6 +159,9 @@ module _ (laws : Laws) (m : Mapping) (entry : EntryState) (known : IsKnown entry
 
 -- ---- all entries
 
+pub whole_entries : (laws : Laws) (m : Mapping) (entries : List EntryState) → All IsKnown entries → All (λ (entry : EntryState). SegmentFits m entry.columns) entries → AllByRecursion IsWhole entries
+whole_entries laws m entries known fit = recursion_from_All IsWhole entries (λ k d h. entry_whole laws m (get_or entries k d) (known k d h) (fit k d h))
+
 module _ (laws : Laws) (m : Mapping) (entries : List EntryState) (known : All IsKnown entries) (mergeable : AreMergeable m entries) where
   abbrev pub blocks : List BlockState
   blocks = flat_map live_blocks entries
@@ -171,7 +174,7 @@ module _ (laws : Laws) (m : Mapping) (entries : List EntryState) (known : All Is
   each_known P all = recursion_from_All P entries (λ k d h. all (get_or entries k d) (known k d h) (mergeable.fit k d h))
 
   whole : AllByRecursion IsWhole entries
-  whole = each_known IsWhole (entry_whole laws m)
+  whole = whole_entries laws m entries known mergeable.fit
 
   pub blocks_given : AreGiven m blocks
   blocks_given = given entries (λ k d h. (known k d h).agree) laws.flats laws.fits m mergeable.numbered mergeable.fit mergeable.few mergeable.some

@@ -116,21 +116,23 @@ module _ {K X : Type 0} (cmp : K → K → Ordering) (get : FlatDocument → Lis
       (λ here. rw (here, isnt) (of_dead n entries isnt))
       (λ other. rw other (of_dead n entries isnt))
 
+  of_none : (flats : List FlatDocument) (n : ℕ) → ((k : ℕ) → slice_index_or live (n + k) false ≡ false) → kept base live (of_key cmp key (entries_from get n flats)) ≡ []
+  of_none [] n dead = refl
+  of_none (flat ∷ flats) n dead =
+      let here : n + 0 ≡ n = omega arith in
+      let first : slice_index_or live n false ≡ false = (rw here at (dead 0)) in
+      ap (kept base live) (of_append cmp key (tagged n (get flat)) (entries_from get (n + 1) flats))
+      ∙ kept_append base live (of_key cmp key (tagged n (get flat))) (of_key cmp key (entries_from get (n + 1) flats))
+      ∙ ap (λ rest. rest ++ kept base live (of_key cmp key (entries_from get (n + 1) flats))) (of_dead n (get flat) first)
+      ∙ of_none flats (n + 1) (λ k. (let e : n + 1 + k ≡ n + suc k = omega arith in ap (λ j. slice_index_or live j false) e ∙ dead (suc k)))
+
   -- from a document on: its number, its flag and those behind it, and its new number
   of_rest : (flats : List FlatDocument) (flags : List Bool) (n r : ℕ) → ((k : ℕ) → slice_index_or live (n + k) false ≡ slice_index_or flags k false)
       → ((k : ℕ) → renumbered base live (n + k) ≡ r + count_by is_marked (take k flags))
       → kept base live (of_key cmp key (entries_from get n flats)) ≡ of_key cmp key (entries_from get r (where_marked flags flats))
   of_rest [] [] n r flag number = refl
   of_rest [] (mark ∷ flags) n r flag number = refl
-  of_rest (flat ∷ flats) [] n r flag number =
-      let here : n + 0 ≡ n = omega arith in
-      let dead : slice_index_or live n false ≡ false = (rw here at (flag 0)) in
-      ap (kept base live) (of_append cmp key (tagged n (get flat)) (entries_from get (n + 1) flats))
-      ∙ kept_append base live (of_key cmp key (tagged n (get flat))) (of_key cmp key (entries_from get (n + 1) flats))
-      ∙ ap (λ rest. rest ++ kept base live (of_key cmp key (entries_from get (n + 1) flats))) (of_dead n (get flat) dead)
-      ∙ of_rest flats [] (n + 1) r
-      (λ k. (let e : n + 1 + k ≡ n + suc k = omega arith in ap (λ j. slice_index_or live j false) e ∙ flag (suc k)))
-      (λ k. (let e : n + 1 + k ≡ n + suc k = omega arith in ap (renumbered base live) e ∙ number (suc k)))
+  of_rest (flat ∷ flats) [] n r flag number = of_none (flat ∷ flats) n flag
   of_rest (flat ∷ flats) (true ∷ flags) n r flag number =
       let here : n + 0 ≡ n = omega arith in
       let is : slice_index_or live n false ≡ true = (rw here at (flag 0)) in

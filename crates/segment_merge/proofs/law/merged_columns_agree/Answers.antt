@@ -1,3 +1,5 @@
+use Rattle.std.proofs.Common.{◌<◌, arith}
+use Rattle.segment_merge.proofs.FewTerms.{few_terms}
 use Rattle.segment_merge.proofs.Merging.{Laws, blocks, blocks_given, by_key, it, roots_are}
 use Rattle.segment_merge.proofs.law.merged_columns_agree.Goals as goal
 
@@ -18,4 +20,4 @@ returns c =
     λ m columns mergeable merged few.
     c.made_columns_agree.ensures m (blocks laws m entries known mergeable) columns (blocks_given laws m entries known mergeable)
     (c.columns_by_key_are_made.ensures (it laws m entries known mergeable) columns (by_key laws m entries known mergeable columns merged))
-    (roots_are laws m entries known mergeable columns merged) few
+    (roots_are laws m entries known mergeable columns merged) (omega (arith, few_terms columns, few))
