@@ -1,5 +1,5 @@
 -- There are no more terms than bytes in the text of a segment.
-use Rattle.std.proofs.Common.{ℕ, ◌+◌, ◌≤◌, List, [], ◌∷◌, ◌++◌, length, length-append, arith}
+use Rattle.std.proofs.Common.{ℕ, ◌≤◌, List, [], ◌∷◌, ◌++◌, length, length-append, arith}
 use Rattle.std.specs.List.{flat_map}
 use Rattle.part_text.specs.Reads.{length-u32_text}
 use Rattle.part_text.specs.Text.{counted_text, string_text, u32_text, u64_text}

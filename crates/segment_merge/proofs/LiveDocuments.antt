@@ -1,6 +1,6 @@
 -- The documents of live blocks are the documents that are live, and so are their roots.
-use Rattle.std.proofs.Common.{◌≡◌, ℕ, suc, ◌+◌, Bool, true, false, cond, List, [], ◌∷◌, ◌++◌, length, map, filter, replicate, refl, sym, ap, ◌∙◌, append_assoc, arith}
-use Rattle.std.specs.List.{All, AllByRecursion, flat_map, sum_by}
+use Rattle.std.proofs.Common.{◌≡◌, ℕ, Bool, true, false, List, [], ◌∷◌, ◌++◌, length, map, filter, replicate, refl, sym, ap, ◌∙◌, append_assoc, arith}
+use Rattle.std.specs.List.{AllByRecursion, flat_map}
 use Rattle.std.proofs.lemmas.List.{length-append, length-map, map-append}
 use Rattle.std.proofs.lemmas.List.Concat.{length-flat_map}
 use Rattle.std.proofs.lemmas.List.Sums.{sum_by-cons}
@@ -10,7 +10,7 @@ use Rattle.segment.specs.Flat.{FlatDocument, FlatRoot, flat_root, flats_of, root
 use Rattle.segment.specs.Live.{EntryState}
 use Rattle.segment_builder.specs.Blocks.{blocks_of, blocks_in, live_blocks, marked_by, objects_of}
 use Rattle.segment_builder.specs.Entries.{flats_in}
-use Rattle.segment_merge.specs.Merged.{live_count, live_count_of, live_roots, live_roots_in, live_scopes, live_scopes_in, where_marked}
+use Rattle.segment_merge.specs.Merged.{live_count, live_count_of, live_roots, live_roots_in, live_scopes, where_marked}
 use Rattle.segment_merge.proofs.Renumbered.{where_map}
 
 -- the documents that are live

@@ -11,7 +11,6 @@ use Rattle.flattener.specs.Block.{BlockState}
 use Rattle.flattener.specs.Fits.{IsRootOf, SegmentFits}
 use Rattle.flattener.specs.Small.{IsSmall}
 use Rattle.mapping.specs.Mapping.{Mapping, kind_at}
-use Rattle.segment.specs.Agree.{AreColumns}
 use Rattle.segment.specs.Flat.{FlatDocument, flat_of, flat_root, flats_of, roots_of}
 use Rattle.segment.specs.Live.{EntryState}
 use Rattle.segment.specs.Lists.{terms_of}

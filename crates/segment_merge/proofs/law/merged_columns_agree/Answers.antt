@@ -1,4 +1,4 @@
-use Rattle.std.proofs.Common.{◌<◌, arith}
+use Rattle.std.proofs.Common.{arith}
 use Rattle.segment_merge.proofs.FewTerms.{few_terms}
 use Rattle.segment_merge.proofs.Merging.{Laws, blocks, blocks_given, by_key, it, roots_are}
 use Rattle.segment_merge.proofs.law.merged_columns_agree.Goals as goal
