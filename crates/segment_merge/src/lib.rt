@@ -11,6 +11,7 @@ mod agreed;
 mod blocks;
 mod bytes;
 mod documents;
+mod encoded;
 mod keywords;
 mod law;
 mod marks;
