@@ -1,3 +1,4 @@
+pub mod Cases
 pub mod Spreading
 pub mod Back
 pub mod Carried

@@ -33,7 +33,7 @@ use Rattle.segment_merge.proofs.Carried.{fit, ordered, small}
 use Rattle.segment_merge.proofs.Kept.{each_document, given}
 use Rattle.segment_merge.proofs.LiveDocuments.{IsWhole, all_count, all_documents, all_roots_are, all_scopes, live_flats, root_in, scope_in}
 use Rattle.segment_merge.proofs.Renumbered.{entries_append, in_append, kept_as, kept_in, of_append, of_kept, places_in, places_kept, where_count}
-use Rattle.segment_merge.proofs.Spreading.{split}
+use Rattle.segment_merge.proofs.Cases.{split}
 
 -- what blocks and segments of them are, as it is proved where segments are built
 pub record Laws : Type 0 where

@@ -9,7 +9,7 @@ use Rattle.segment.specs.Marks.{count-mark}
 use Rattle.segment_builder.specs.Groups.{in_groups, of_key}
 use Rattle.segment_builder.specs.Parts.{entries_from, tagged}
 use Rattle.segment_merge.specs.Merged.{kept, kept_columns, kept_places, renumbered, where_marked}
-use Rattle.segment_merge.proofs.Spreading.{split}
+use Rattle.segment_merge.proofs.Cases.{split}
 
 -- ---- lists where flags are set
 

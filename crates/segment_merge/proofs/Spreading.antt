@@ -6,12 +6,9 @@ use Rattle.doc_values.specs.Values.{values_of}
 use Rattle.segment.specs.Flat.{FlatDocument, has_some, bytes_at}
 use Rattle.segment_builder.specs.Rising.{AreRisingFrom}
 use Rattle.segment_parts.specs.Text.{marked_places}
+pub use Rattle.segment_merge.proofs.Carried.{texts_at}
+pub use Rattle.segment_merge.proofs.Cases.{split}
 use Rattle.segment_merge.specs.Spread.{at_places, blank, changed, put_rows, scoped, spread, texted, with_keyword, with_number, with_scope, with_text, with_word}
-
--- cases of a test, with its equation
-pub split : {C : Type 0} (t : Bool) → (t ≡ true → C) → (t ≡ false → C) → C
-split true left right = left refl
-split false left right = right refl
 
 -- ---- one document
 
@@ -178,9 +175,6 @@ pub length_texted : (columns : List (ℕ × List Bool)) (docs : List FlatDocumen
 length_texted [] docs = refl
 length_texted (column ∷ columns) docs =
     length_texted columns (at_places (with_text column.0) (marked_places 0 column.1) docs) ∙ length_places (with_text column.0) (marked_places 0 column.1) docs
-
-abbrev pub texts_at : ℕ → List (ℕ × List Bool) → List ℕ
-texts_at doc columns = map (λ (column : ℕ × List Bool). column.0) (filter (λ (column : ℕ × List Bool). get_or column.1 doc false) columns)
 
 abbrev pub with_texts : List ℕ → FlatDocument → FlatDocument
 with_texts fields flat = record { scope = flat.scope; numbers = flat.numbers; keywords = flat.keywords; words = flat.words; texts = flat.texts ++ fields }
