@@ -15,3 +15,4 @@ pub mod Columns
 pub mod Roots
 pub mod Given
 pub mod Made
+pub mod ByKey

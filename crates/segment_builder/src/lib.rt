@@ -24,7 +24,10 @@ mod terms;
 pub use assemble::{built, made_of};
 pub use grouping::grouped;
 pub use law::{
-    blocks_are_whole, blocks_stand_for_trees, deaths_mark_blocks, fitting_segments_are_blocks,
+    blocks_are_whole, blocks_carry_what_documents_carry, blocks_stand_for_trees,
+    columns_by_key_are_made, deaths_mark_blocks, documents_live_with_their_blocks,
+    fitting_segments_are_blocks, made_columns_agree, made_segments_are_blocks,
+    segments_say_what_documents_carry,
 };
 pub use refusal::NoMemory;
 pub use scopes::scope_sets;

@@ -57,7 +57,7 @@ each_entry P (entry ∷ entries) all =
 
 -- ---- documents that columns say
 
-each_document : (Q : FlatDocument → Type 0) (columns : Columns) → ((doc : ℕ) → Q (flat_of columns doc)) → AllByRecursion Q (flats_of columns)
+pub each_document : (Q : FlatDocument → Type 0) (columns : Columns) → ((doc : ℕ) → Q (flat_of columns doc)) → AllByRecursion Q (flats_of columns)
 each_document Q columns all = from (range_with_len 0 columns.documents)
   where
     from : (docs : List ℕ) → AllByRecursion Q (map (flat_of columns) docs)

@@ -1,10 +1,6 @@
-pub mod Spreading
-pub mod Back
+pub mod Cases
 pub mod Carried
 pub mod Kept
-pub mod Cutting
-pub mod Rooted
-pub mod Changed
 pub mod Steps
 pub mod Listed
 pub mod Gathering
@@ -21,3 +17,7 @@ pub mod Items
 pub mod Posted
 pub mod Termed
 pub mod Together
+pub mod Renumbered
+pub mod LiveDocuments
+pub mod Merging
+pub mod FewTerms

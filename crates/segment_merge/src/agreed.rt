@@ -1,20 +1,10 @@
-//! That the columns of each entry and each part agree, said for all of them at once.
+//! That the columns of each part agree, said for all of them at once.
 
 ghost use Rattle.std.specs.List.{All};
 ghost use Rattle.segment.specs.Agree.{AreColumns};
 ghost use Rattle.segment.specs.Live.{IsLiveOver};
 
 use crate::numbering::Part;
-use segment_view::Entry;
-
-/// Says that the columns of each entry agree. Does nothing.
-pub(crate) fn columns_agree(entries: &[Entry])
-    ensures { All (λ entry. AreColumns entry.columns) entries.now }
-{
-    'entries: for entry in entries {
-        let _documents = entry.segment().docs();
-    }
-}
 
 /// Says that the columns of each part agree, and that its live bits are over these. Does nothing.
 pub(crate) fn parts_agree(parts: &[Part])

@@ -4,7 +4,6 @@ ghost use Rattle.std.specs.Prelude.{◌≡◌, ◌↔◌, ◌<◌, ◌≤◌, �
 ghost use Rattle.std.specs.List.{All, flat_map};
 ghost use Rattle.flattener.specs.Fits.{SegmentFits, most_live};
 ghost use Rattle.mapping.specs.Mapping.{Mapping};
-ghost use Rattle.segment.specs.Encoding.{IsEncoding};
 ghost use Rattle.segment.specs.Live.{EntryState};
 ghost use Rattle.segment_builder.specs.Blocks.{blocks_of, live_blocks, objects_of};
 ghost use Rattle.segment_builder.specs.Given.{IsNumbered};
@@ -15,15 +14,15 @@ ghost use Rattle.segment_merge.specs.Numbering.{live_in, parts_from};
 ghost use Rattle.segment_merge.specs.Scoped.{roots_in};
 
 use crate::NoMemory;
+use crate::encoded::segment_of;
 use crate::head::put_head;
-use crate::law::{live_blocks_are_counted, merged_columns_agree, merged_segments_are_live_blocks};
+use crate::law::live_blocks_are_counted;
 use crate::numbering::{Part, parts_of};
 use crate::put_roots::put_roots;
 use crate::terms::put_terms;
 use crate::text_columns::put_texts;
 use crate::value_columns::{put_numbers, put_ordinals};
-use block_bits::words_are_of_one_set;
-use segment::{Bytes, Segment, SegmentRefusal};
+use segment::Segment;
 use segment_view::Entry;
 use std::alloc::Global;
 
@@ -38,15 +37,12 @@ pub fn merged(alloc: Global, entries: &[Entry]) -> Result<Option<Segment>, NoMem
     ensures fits { (m : Mapping) → All (λ entry. SegmentFits m entry.columns) entries.now → IfOk result (λ found. IfSome found (λ segment. SegmentFits m segment)) }
 {
     live_blocks_are_counted(entries);
-    merged_columns_agree(entries);
     let parts = parts_of(alloc, entries)?;
     if !have_live_roots(parts.as_slice()) {
         return Ok(None);
     }
     let bytes = merged_bytes(alloc, parts.as_slice())?;
-    let _count = bytes.len();
-    let segment = segment_of(alloc, bytes)?;
-    merged_segments_are_live_blocks(entries, &segment);
+    let segment = segment_of(alloc, entries, bytes)?;
     Ok(Some(segment))
 }
 
@@ -86,17 +82,4 @@ fn merged_bytes(alloc: Global, parts: &[Part]) -> Result<Vec<u8>, NoMemory>
     // a segment lives long: it keeps no room that it grew by
     bytes.shrink_to_fit();
     Ok(bytes)
-}
-
-/// The segment of bytes that are one's.
-fn segment_of(alloc: Global, bytes: Vec<u8>) -> Result<Segment, NoMemory>
-    requires { (columns : Columns) × IsEncoding columns bytes.items }
-    ensures { (columns : Columns) → IsEncoding columns bytes.items → IfOk result (λ segment. segment ≡ columns) }
-{
-    words_are_of_one_set();
-    match Segment::of_bytes(alloc, Bytes::of(bytes)) {
-        Ok(segment) => Ok(segment),
-        Err(SegmentRefusal::NoMemory) => Err(NoMemory),
-        Err(SegmentRefusal::NotASegment) => unreachable!(),
-    }
 }
