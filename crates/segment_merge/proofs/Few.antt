@@ -15,7 +15,7 @@ use Rattle.segment_builder.specs.Groups.{in_groups, keys}
 use Rattle.segment_parts.specs.Marks.{count-mark}
 use Rattle.segment_merge.specs.Merged.{kept, kept_columns, live_count, renumbered}
 use Rattle.segment_merge.specs.Numbering.{PartState, live_in}
-use Rattle.segment_merge.proofs.Gathering.{none_behind, split}
+use Rattle.segment_merge.proofs.Gathering.{groups_append, none_behind, split}
 
 -- rows by ascending document, the first at `from` or later
 abbrev pub Rise : {X : Type 0} → ℕ → List (ℕ × X) → Type 0
@@ -78,13 +78,6 @@ module _ {K X : Type 0} (cmp : K → K → Ordering) (o : IsTotalOrder cmp) wher
       rw is (omega (arith, length-append (kept base live column.1) (in_groups cmp key (kept_columns base live columns)), ap length (none_behind cmp o key column.0 (kept_columns base live columns) is behind), kept_few base live 0 column.1 rise.0)))
       (λ isnt. rw isnt (in_few base live key columns (sorted_tail cmp column.0 (keys columns) up) rise.1))
 
-  groups_append : (key : K) (gs hs : List (K × List (ℕ × X))) → in_groups cmp key (gs ++ hs) ≡ in_groups cmp key gs ++ in_groups cmp key hs
-  groups_append key [] hs = refl
-  groups_append key (g ∷ gs) hs =
-      split (eq_by_cmp cmp key g.0)
-      (λ is. rw (is, groups_append key gs hs) (sym (append_assoc g.1 (in_groups cmp key gs) (in_groups cmp key hs))))
-      (λ isnt. rw isnt (groups_append key gs hs))
-
   -- columns by strictly ascending key, each by ascending document
   abbrev pub AreUp : List (K × List (ℕ × X)) → Type 0
   AreUp columns = IsStrictlySortedBy cmp (keys columns) × AllByRecursion (λ (column : K × List (ℕ × X)). Rise 0 column.1) columns
@@ -95,4 +88,4 @@ module _ {K X : Type 0} (cmp : K → K → Ordering) (o : IsTotalOrder cmp) wher
   all_few get key (part ∷ parts) up =
       let first : List (K × List (ℕ × X)) = kept_columns part.base part.entry.live.docs (get part) in
       let rest : List (K × List (ℕ × X)) = flat_map (λ (part : PartState). kept_columns part.base part.entry.live.docs (get part)) parts in
-      omega (arith, ap length (groups_append key first rest), length-append (in_groups cmp key first) (in_groups cmp key rest), in_few part.base part.entry.live.docs key (get part) up.0.0 up.0.1, all_few get key parts up.1, sum_by-cons (λ (part : PartState). live_count part.entry) part parts)
+      omega (arith, ap length (groups_append cmp o key first rest), length-append (in_groups cmp key first) (in_groups cmp key rest), in_few part.base part.entry.live.docs key (get part) up.0.0 up.0.1, all_few get key parts up.1, sum_by-cons (λ (part : PartState). live_count part.entry) part parts)

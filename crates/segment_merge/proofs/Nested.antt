@@ -10,15 +10,16 @@ items_at [] place ordinal own read h = absurd (omega (arith, h))
 items_at {A} (first ∷ lists) zero ordinal own read h = ap (λ (v : Vec ℕ A). v.items) read
 items_at (first ∷ lists) (suc place) ordinal own read h = items_at lists place ordinal own read h
 
-room_at : {A : Type 0} (lists : List (Vec ℕ A)) (place : ℕ) → get_or (rooms_of (items_of lists)) place 0 ≡ length (get_or (items_of lists) place [])
+-- how many terms a part has
+pub room_at : (news : List (List ℕ)) (place : ℕ) → get_or (rooms_of news) place 0 ≡ length (get_or news place [])
 room_at [] place = refl
-room_at (first ∷ lists) zero = refl
-room_at (first ∷ lists) (suc place) = room_at lists place
+room_at (own ∷ news) zero = refl
+room_at (own ∷ news) (suc place) = room_at news place
 
 pub nested_room : {A : Type 0} (lists : List (Vec ℕ A)) (now : List (List ℕ)) (place ordinal : ℕ) (own : Vec ℕ A) → items_of lists ≡ now → own ≡ get_or lists place own → ordinal < get_or (rooms_of now) place 0 → ordinal < length own.items
 nested_room lists now place ordinal own seen read h =
     let room : ordinal < get_or (rooms_of (items_of lists)) place 0 = omega (arith, h, ap (λ (news : List (List ℕ)). get_or (rooms_of news) place 0) seen) in
-    omega (arith, room, room_at lists place, ap (λ (ns : List ℕ). length ns) (items_at lists place ordinal own read room))
+    omega (arith, room, room_at (items_of lists) place, ap (λ (ns : List ℕ). length ns) (items_at lists place ordinal own read room))
 
 pub nested_set : {A : Type 0} (lists : List (Vec ℕ A)) (now : List (List ℕ)) (place ordinal new : ℕ) (own : Vec ℕ A) → items_of lists ≡ now → own ≡ get_or lists place own → ordinal < get_or (rooms_of now) place 0
     → items_of (set lists place (with_item own ordinal new)) ≡ with_ordinal now place ordinal new

@@ -4,7 +4,7 @@ use Rattle.std.specs.List.{AllByRecursion, flat_map, list_any}
 use Rattle.std.specs.Ordering.{eq_by_cmp}
 use Rattle.std.proofs.lemmas.Bool.{cases_eq, lt-ltb}
 use Rattle.std.proofs.lemmas.Cmp.{eq_by_cmp_equiv}
-use Rattle.std.proofs.lemmas.List.{drop-drop, get_or-set_same, get_or-set_other, length-append, length-map, length-replicate, length-set}
+use Rattle.std.proofs.lemmas.List.{get_or-set_same, get_or-set_other, length-append, length-map, length-replicate, length-set}
 use Rattle.std.proofs.lemmas.Option.{slice_get_within}
 use Rattle.segment_builder.specs.Columns.{terms_in}
 use Rattle.segment_builder.specs.Groups.{of_key, AreGroups}
@@ -14,7 +14,8 @@ use Rattle.term_table.specs.Terms.{term_cmp}
 use Rattle.segment_merge.specs.Numbering.{PartState}
 use Rattle.segment_merge.specs.TermRefs.{AreNew, TermPlace, all_terms, blank_ordinals, live_postings, live_rows, new_ordinal, noted, numbered, rooms_of, terms_from, with_ordinal}
 use Rattle.segment_merge.proofs.Gathering.{split}
-use Rattle.segment_merge.proofs.Refs.{AreMembers, Group, IsRef, Ref, all_are, groups_of_refs}
+use Rattle.segment_merge.proofs.Nested.{room_at}
+use Rattle.segment_merge.proofs.Refs.{AreMembers, Group, IsRef, Ref, all_are, groups_of_refs, rest_left, there_left}
 
 -- ---- rooms stay
 
@@ -33,11 +34,6 @@ rooms_numbered new (group ∷ groups) news =
     split (nat_lt 0 (length (flat_map live_postings group.1)))
     (λ some. rw some (rooms_numbered (new + 1) groups (noted new group.1 news) ∙ rooms_noted new group.1 news))
     (λ none. rw none (rooms_numbered new groups news))
-
-pub room_at : (news : List (List ℕ)) (place : ℕ) → get_or (rooms_of news) place 0 ≡ length (get_or news place [])
-room_at [] place = refl
-room_at (own ∷ news) zero = refl
-room_at (own ∷ news) (suc place) = room_at news place
 
 pub blank_rooms : (parts : List PartState) (place : ℕ) (part : PartState) → slice_get parts place ≡ Some part → get_or (rooms_of (blank_ordinals parts)) place 0 ≡ length (terms_of part.entry.columns)
 blank_rooms [] place part is = absurd (cc (is))
@@ -146,12 +142,6 @@ abbrev HasLive : Sought → List Group → Type 0
 HasLive it [] = ⊥
 HasLive it (group ∷ groups) = ((nat_lt 0 (length (flat_map live_postings group.1)) ≡ true) × Has it group.1) ⊎ HasLive it groups
 
-first_left : (terms : List (ℕ × List ℕ)) (at : ℕ) (term : ℕ × List ℕ) (rest : List (ℕ × List ℕ)) → drop at terms ≡ term ∷ rest → slice_get terms at ≡ Some term
-first_left [] zero term rest is = absurd (cc (is))
-first_left [] (suc at) term rest is = absurd (cc (is))
-first_left (first ∷ terms) zero term rest is = let same : first ≡ term = cc (is) in ap Some same
-first_left (first ∷ terms) (suc at) term rest is = first_left terms at term rest is
-
 numbered_good : (it : Sought) (new : ℕ) (groups : List Group) (news : List (List ℕ)) → HasRoom it news → AllByRecursion (AreMembers it.parts) groups → drop new it.terms ≡ terms_in (live_rows groups)
     → Good it news ⊎ HasLive it groups → Good it (numbered new groups news)
 numbered_good it new [] news room are left was =
@@ -163,8 +153,8 @@ numbered_good it new (group ∷ groups) news room are left was =
     split (nat_lt 0 (length (flat_map live_postings group.1)))
     (λ some.
     let here_left : drop new it.terms ≡ group.0 ∷ terms_in (live_rows groups) = left ∙ rw some refl in
-    let named : slice_get it.terms new ≡ Some group.0 = first_left it.terms new group.0 (terms_in (live_rows groups)) here_left in
-    let rest : drop (new + 1) it.terms ≡ terms_in (live_rows groups) = sym (drop-drop 1 new it.terms) ∙ ap (drop 1) here_left in
+    let named : slice_get it.terms new ≡ Some group.0 = there_left it.terms new group.0 (terms_in (live_rows groups)) here_left in
+    let rest : drop (new + 1) it.terms ≡ terms_in (live_rows groups) = rest_left it.terms new group.0 (terms_in (live_rows groups)) here_left in
     let next : List (List ℕ) = noted new group.1 news in
     let wide : HasRoom it next = omega (arith, room, ap (λ (rooms : List ℕ). get_or rooms it.place 0) (rooms_noted new group.1 news)) in
     rw some (numbered_good it (new + 1) groups next wide are.1 rest (

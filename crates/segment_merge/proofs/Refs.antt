@@ -86,13 +86,13 @@ pub record IsRef (parts : List PartState) (ref : Ref) : Type 0 where
   pub part : slice_get parts ref.1.place ≡ Some ref.1.part
   pub term : slice_get (terms_of ref.1.part.entry.columns) ref.1.ordinal ≡ Some ref.0
 
-there_left : {X : Type 0} (xs : List X) (at : ℕ) (x : X) (rest : List X) → drop at xs ≡ x ∷ rest → slice_get xs at ≡ Some x
+pub there_left : {X : Type 0} (xs : List X) (at : ℕ) (x : X) (rest : List X) → drop at xs ≡ x ∷ rest → slice_get xs at ≡ Some x
 there_left [] zero x rest is = absurd (cc (is))
 there_left [] (suc at) x rest is = absurd (cc (is))
 there_left (first ∷ xs) zero x rest is = let same : first ≡ x = cc (is) in ap Some same
 there_left (first ∷ xs) (suc at) x rest is = there_left xs at x rest is
 
-rest_left : {X : Type 0} (xs : List X) (at : ℕ) (x : X) (rest : List X) → drop at xs ≡ x ∷ rest → drop (at + 1) xs ≡ rest
+pub rest_left : {X : Type 0} (xs : List X) (at : ℕ) (x : X) (rest : List X) → drop at xs ≡ x ∷ rest → drop (at + 1) xs ≡ rest
 rest_left xs at x rest is = sym (drop-drop 1 at xs) ∙ ap (drop 1) is
 
 each_append : {X : Type 0} (P : X → Type 0) (xs ys : List X) → AllByRecursion P xs → AllByRecursion P ys → AllByRecursion P (xs ++ ys)
