@@ -1,5 +1,5 @@
 -- New ordinals of terms: what they are where a term has live documents.
-use Rattle.std.proofs.Common.{◌≡◌, ◌⊎◌, inl, inr, ℕ, zero, suc, ◌+◌, ◌<◌, Bool, true, false, cond, nat_lt, List, [], ◌∷◌, ◌++◌, length, map, get_or, set, drop, slice_get, Option, Some, replicate, refl, sym, ap, subst, ◌∙◌, arith}
+use Rattle.std.proofs.Common.{◌≡◌, ◌⊎◌, inl, inr, ℕ, zero, suc, ◌+◌, ◌<◌, true, false, nat_lt, List, [], ◌∷◌, ◌++◌, length, get_or, drop, slice_get, Option, Some, replicate, refl, sym, ap, subst, ◌∙◌, arith}
 use Rattle.std.specs.List.{AllByRecursion, flat_map, list_any}
 use Rattle.std.specs.Ordering.{eq_by_cmp}
 use Rattle.std.proofs.lemmas.Bool.{cases_eq, lt-ltb}
@@ -8,7 +8,7 @@ use Rattle.std.proofs.lemmas.List.{get_or-set_same, get_or-set_other, length-app
 use Rattle.std.proofs.lemmas.Option.{slice_get_within}
 use Rattle.segment_builder.specs.Columns.{terms_in}
 use Rattle.segment_builder.specs.Groups.{of_key, AreGroups}
-use Rattle.segment_parts.specs.Lists.{postings_of, terms_of}
+use Rattle.segment_parts.specs.Lists.{terms_of}
 use Rattle.term_table.specs.Laws.{term_cmp_total}
 use Rattle.term_table.specs.Terms.{term_cmp}
 use Rattle.segment_merge.specs.Numbering.{PartState}

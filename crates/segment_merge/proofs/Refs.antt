@@ -1,5 +1,5 @@
 -- References to terms: what they stand for, and which they are.
-use Rattle.std.proofs.Common.{◌≡◌, ℕ, zero, suc, ◌+◌, ◌<◌, ◌^◌, Bool, true, false, cond, nat_lt, List, [], ◌∷◌, ◌++◌, length, map, get_or, drop, slice_get, Some, replicate, refl, sym, ap, subst, ◌∙◌, append_assoc, arith}
+use Rattle.std.proofs.Common.{◌≡◌, ℕ, zero, suc, ◌+◌, true, nat_lt, List, [], ◌∷◌, ◌++◌, length, map, get_or, drop, slice_get, Some, refl, sym, ap, subst, ◌∙◌, append_assoc, arith}
 use Rattle.std.specs.List.{AllByRecursion, filter, flat_map}
 use Rattle.std.specs.Ordering.{eq_by_cmp, is_eq, nat_cmp}
 use Rattle.std.specs.Cmp.Lexicographic.{slice_cmp}
@@ -8,15 +8,14 @@ use Rattle.std.specs.declared.cmp.Ordering.TheVariants.{Less, Equal, Greater}
 use Rattle.std.proofs.lemmas.Bool.Decides.{nat_tests}
 use Rattle.std.proofs.lemmas.List.{drop-drop, map-append}
 use Rattle.segment.specs.Flat.{has_some}
-use Rattle.segment_builder.specs.Columns.{terms_in}
 use Rattle.segment_builder.specs.Groups.{of_key}
 use Rattle.segment_builder.specs.Terms.{row_group}
-use Rattle.segment_parts.specs.Lists.{postings_of, terms_of}
+use Rattle.segment_parts.specs.Lists.{terms_of}
 use Rattle.term_table.specs.Terms.{term_cmp}
 use Rattle.term_table.specs.declared.rows.TermRow.{TermRow}
 use Rattle.segment_merge.specs.Merged.{kept, kept_columns, kept_terms}
 use Rattle.segment_merge.specs.Numbering.{PartState}
-use Rattle.segment_merge.specs.TermRefs.{TermPlace, all_terms, blank_ordinals, live_postings, live_row, live_rows, rooms_of, terms_from}
+use Rattle.segment_merge.specs.TermRefs.{TermPlace, all_terms, live_postings, live_rows, terms_from}
 use Rattle.segment_merge.proofs.Gathering.{split}
 use Rattle.segment_merge.proofs.Steps.{left_at}
 
@@ -46,7 +45,7 @@ terms_stand part place ordinal [] is = refl
 terms_stand part place ordinal (row ∷ rows) is =
     let rest : drop (ordinal + 1) part.entry.columns.terms ≡ rows = sym (drop-drop 1 ordinal part.entry.columns.terms) ∙ ap (drop 1) is in
     ap (λ (ps : List (ℕ × List ℕ)). (row.term, kept part.base part.entry.live.docs ps) ∷ map whole (terms_from part place (ordinal + 1) (map (λ (row : TermRow). row.term) rows)))
-        (postings_at part.entry.columns.terms ordinal row rows is)
+    (postings_at part.entry.columns.terms ordinal row rows is)
     ∙ ap (λ (more : List ((ℕ × List ℕ) × List (ℕ × List ℕ))). (row.term, kept part.base part.entry.live.docs row.postings) ∷ more) (terms_stand part place (ordinal + 1) rows rest)
 
 abbrev pub kept_of : PartState → List ((ℕ × List ℕ) × List (ℕ × List ℕ))

@@ -1,31 +1,29 @@
 -- The terms of parts put together: which rows can be written, and what they are.
 use denote.Ref.{Bor}
-use Rattle.std.proofs.Common.{◌≡◌, ℕ, zero, suc, ◌+◌, ◌<◌, ◌≤◌, ◌^◌, List, [], ◌∷◌, ◌++◌, length, map, get_or, slice_get, Some, refl, sym, ap, subst, ◌∙◌, arith, Vec}
+use Rattle.std.proofs.Common.{◌≡◌, ℕ, zero, suc, ◌<◌, ◌^◌, List, [], ◌∷◌, length, map, slice_get, Some, refl, sym, ap, subst, ◌∙◌, arith, Vec}
 use Rattle.std.specs.List.{All, AllByRecursion, filter, flat_map}
 use Rattle.std.specs.List.Sorted.{IsStrictlySortedBy}
-use Rattle.std.specs.Ordering.{eq_by_cmp}
 use Rattle.std.specs.declared.cmp.Ordering.{Ordering}
 use Rattle.std.proofs.lemmas.List.{length-map}
 use Rattle.std.proofs.lemmas.List.Elements.{All-from_recursion, All-head, All-tail, recursion_from_All}
 use Rattle.std.proofs.lemmas.Option.{get_or_from_slice_get, slice_get_within}
 use Rattle.segment.specs.Agree.{AreColumns}
 use Rattle.segment.specs.Flat.{has_some}
-use Rattle.segment_builder.specs.Columns.{terms_in}
 use Rattle.segment_builder.specs.Groups.{in_groups, groups_seen, keys, of_key, AreGroups}
 use Rattle.segment_builder.specs.Regrouped.{regrouped_seen}
 use Rattle.segment_builder.specs.Terms.{row_group}
-use Rattle.segment_parts.specs.Lists.{postings_of, terms_of}
+use Rattle.segment_parts.specs.Lists.{terms_of}
 use Rattle.term_table.specs.Laws.{term_cmp_total}
-use Rattle.term_table.specs.Part.{AreRows, IsRow}
+use Rattle.term_table.specs.Part.{IsRow}
 use Rattle.term_table.specs.Terms.{term_cmp}
 use Rattle.term_table.specs.declared.rows.TermRow.{TermRow}
-use Rattle.segment_merge.specs.Merged.{kept_terms, IsGathered}
+use Rattle.segment_merge.specs.Merged.{IsGathered}
 use Rattle.segment_merge.specs.Numbering.{PartState, live_in}
-use Rattle.segment_merge.specs.TermRefs.{AreNew, CanPut, IsPlaced, TermPlace, all_terms, blank_ordinals, group_lent, key_lent, live_postings, live_rows, numbered, place_lent, ref_lent, rooms_of}
+use Rattle.segment_merge.specs.TermRefs.{CanPut, IsPlaced, TermPlace, all_terms, blank_ordinals, group_lent, key_lent, live_postings, live_rows, place_lent, ref_lent, rooms_of}
 use Rattle.segment_merge.specs.declared.terms.TermAt.{TermAt}
 use Rattle.segment_merge.proofs.Few.{AreUp, Rise, all_few, rise_from}
 use Rattle.segment_merge.proofs.Gathering.{are_gathered, in_parts}
-use Rattle.segment_merge.proofs.Noted.{are_new, blank_rooms}
+use Rattle.segment_merge.proofs.Noted.{blank_rooms}
 use Rattle.segment_merge.proofs.Refs.{AreMembers, Group, IsRef, Ref, all_are, all_stand, groups_of_refs, kept_of, rows_are_groups, whole_group}
 
 -- ---- what is known of a part's terms

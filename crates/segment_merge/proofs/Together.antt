@@ -15,11 +15,11 @@ use Rattle.stored_sources.specs.declared.root.Root.{Root}
 use Rattle.term_table.specs.Part.{rows_text}
 use Rattle.term_table.specs.Terms.{term_cmp}
 use Rattle.term_table.specs.declared.rows.TermRow.{TermRow}
-use Rattle.segment_merge.specs.Merged.{from_each, kept_keywords, kept_numbers, kept_terms, kept_texts, live_count, live_count_of, live_roots, live_roots_in, live_scopes, live_scopes_in, IsGathered, IsMerged}
-use Rattle.segment_merge.specs.Numbering.{PartState, live_in, parts_from}
+use Rattle.segment_merge.specs.Merged.{kept_keywords, kept_numbers, kept_terms, kept_texts, live_count, live_count_of, live_roots, live_roots_in, live_scopes, live_scopes_in, IsGathered, IsMerged}
+use Rattle.segment_merge.specs.Numbering.{PartState, parts_from}
 use Rattle.segment_merge.specs.Pieces.{from_parts, part_keywords, part_numbers, part_texts}
 use Rattle.segment_merge.specs.Scoped.{AreScopesOf, roots_in, scopes_in}
-use Rattle.segment_merge.proofs.Numbered.{from_each_parts, live_in_parts}
+use Rattle.segment_merge.proofs.Numbered.{from_each_parts}
 use Rattle.segment_merge.proofs.Refs.{kept_of}
 
 scopes_same : (base : ℕ) (entries : List EntryState) → scopes_in (parts_from base entries) ≡ live_scopes entries

@@ -1,5 +1,5 @@
 -- The parts that a merge puts together: entries, each with the number of live documents in entries before it.
-use Rattle.std.specs.Prelude.{◌≡◌, ℕ, ◌+◌, Bool, false, cond, List, [], ◌∷◌, slice_index_or, sum_by, Option, Some, None}
+use Rattle.std.specs.Prelude.{ℕ, ◌+◌, Bool, false, cond, List, [], ◌∷◌, slice_index_or, sum_by, Option, Some, None}
 use Rattle.segment.specs.Live.{EntryState}
 use Rattle.segment_merge.specs.Merged.{live_count, renumbered}
 

@@ -3,11 +3,8 @@ use denote.Ref.{Bor}
 use Rattle.std.specs.Prelude.{◌≡◌, ℕ, ◌+◌, ◌<◌, ◌^◌, nat_lt, cond, List, [], ◌∷◌, ◌++◌, length, map, slice_get, slice_set, slice_index_or, replicate, Some, Vec}
 use Rattle.std.specs.List.{All, flat_map}
 use Rattle.segment_parts.specs.Lists.{terms_of, postings_of}
-use Rattle.segment_builder.specs.Columns.{terms_in}
-use Rattle.segment_builder.specs.Terms.{row_group}
-use Rattle.term_table.specs.Terms.{term_cmp}
 use Rattle.term_table.specs.declared.rows.TermRow.{TermRow}
-use Rattle.segment_merge.specs.Merged.{kept, kept_terms, IsGathered}
+use Rattle.segment_merge.specs.Merged.{kept}
 use Rattle.segment_merge.specs.Numbering.{PartState}
 use Rattle.segment_merge.specs.declared.terms.TermAt.{TermAt}
 

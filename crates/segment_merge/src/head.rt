@@ -16,11 +16,7 @@ use segment_parts::put_head_of;
 use std::alloc::Global;
 
 /// Appends the number of the parts' live documents, and the documents of each scope, and gives that number.
-pub(crate) fn put_head(
-    alloc: Global,
-    parts: &[Part],
-    into: &mut Vec<u8>,
-) -> Result<u32, NoMemory>
+pub(crate) fn put_head(alloc: Global, parts: &[Part], into: &mut Vec<u8>) -> Result<u32, NoMemory>
     requires { live_in parts.now < 2 ^ 32 }
     ensures count { IfOk result (λ documents. documents ≡ live_in parts.now) }
     ensures head { IfOk result (λ documents. (scopes : List (List Bool)) × AreScopesOf (scopes_in parts.now) scopes × (into.new.items ≡ into.old.items ++ head_text documents scopes)) }

@@ -84,10 +84,7 @@ impl<'a> Part<'a> {
 }
 
 /// Entries as parts, each with the live documents of those before it.
-pub(crate) fn parts_of<'a>(
-    alloc: Global,
-    entries: &'a [Entry],
-) -> Result<Vec<Part<'a>>, NoMemory>
+pub(crate) fn parts_of<'a>(alloc: Global, entries: &'a [Entry]) -> Result<Vec<Part<'a>>, NoMemory>
     requires { live_count_of entries.now < 2 ^ 32 }
     ensures { IfOk result (λ parts. parts.items ≡ parts_from 0 entries.now) }
 {

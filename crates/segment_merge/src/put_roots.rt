@@ -25,8 +25,6 @@ fn put_live(alloc: Global, part: &Part, into: &mut Vec<u8>) -> Result<(), NoMemo
     ensures { OnOk result (into.new.items ≡ into.old.items ++ roots_text (live_roots_in part.now.entry)) }
 {
     let live = places_of(alloc, part.live_roots())?;
-    part.segment()
-        .sources()
-        .append_live(live.as_slice(), into)?;
+    part.segment().sources().append_live(live.as_slice(), into)?;
     Ok(())
 }

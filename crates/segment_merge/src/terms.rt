@@ -78,7 +78,14 @@ fn add_terms<'p, 's>(
 {
     let terms = part.segment().terms();
     'terms: for ordinal in 0..terms.count() {
-        into.push((terms.term(ordinal), TermAt { part, place, ordinal }))?;
+        into.push((
+            terms.term(ordinal),
+            TermAt {
+                part,
+                place,
+                ordinal,
+            },
+        ))?;
     }
     Ok(())
 }
@@ -185,12 +192,7 @@ fn put_live(term: &TermAt, into: &mut Vec<u8>) -> Result<u32, NoMemory>
 }
 
 /// Appends the posting at a cursor, if its document is live, and says how many it appended.
-fn put_if_live(
-    part: &Part,
-    doc: u32,
-    cursor: &Cursor,
-    into: &mut Vec<u8>,
-) -> Result<u32, NoMemory>
+fn put_if_live(part: &Part, doc: u32, cursor: &Cursor, into: &mut Vec<u8>) -> Result<u32, NoMemory>
     requires present { present cursor.now ≡ Some (doc, present_positions cursor.now) }
     requires within { doc < part.now.entry.columns.documents }
     ensures count { IfOk result (λ count. count ≡ length (kept part.now.base part.now.entry.live.docs ((doc, present_positions cursor.now) ∷ []))) }

@@ -51,5 +51,5 @@ returns-clause-count c =
     let long : length flags ≡ columns.documents = ap (λ (fs : List Bool). length fs) same ∙ c.segment-segment.ensures.live.documents in
     let past : length flags ≤ c.docs.doc = omega (arith, c.docs-test.false, c.docs-doc-end.ensures.documents, ap (λ (cs : Columns). cs.documents) own, long) in
     count_end flags scopes c.docs.doc c.args.into.now.items c.docs.into.items past (long ∙ sym (long_scopes columns))
-        (c.docs.invariant.0 ∙ ap (λ (fs : List Bool). c.args.into.now.items ++ where_marked fs scopes) (sym same))
+    (c.docs.invariant.0 ∙ ap (λ (fs : List Bool). c.args.into.now.items ++ where_marked fs scopes) (sym same))
     ∙ ap (λ (fs : List Bool). length c.args.into.now.items + count_by is_marked fs) same

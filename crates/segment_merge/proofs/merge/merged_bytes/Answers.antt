@@ -1,4 +1,4 @@
-use Rattle.std.proofs.Common.{◌≡◌, ℕ, ℤ, ◌++◌, List, Bool, [], ap, subst, ◌∙◌}
+use Rattle.std.proofs.Common.{◌≡◌, ◌++◌, List, ap, subst, ◌∙◌}
 use Rattle.segment_builder.specs.Columns.{terms_in}
 use Rattle.segment_parts.specs.Text.{head_text}
 use Rattle.segment_parts.specs.declared.columns.Columns.{Columns}

@@ -1,4 +1,4 @@
-use Rattle.std.proofs.Common.{◌+◌, ◌++◌, List, ℕ, drop, ap, sym, ◌∙◌, append_assoc, arith, get_or, cond, false, [], ◌∷◌}
+use Rattle.std.proofs.Common.{◌+◌, ◌++◌, List, ℕ, drop, ap, sym, ◌∙◌, append_assoc, arith, [], ◌∷◌}
 use Rattle.segment_merge.specs.Numbering.{numbers_from}
 use Rattle.segment_merge.proofs.Numbered.{count_more, numbers_more}
 use Rattle.segment_merge.proofs.numbering.numbers_of.Goals as goal

@@ -1,7 +1,6 @@
-use Rattle.std.proofs.Common.{sym, ◌∙◌, arith, length, ◌<◌, ◌≡◌, ◌++◌, ℕ, List, drop, ◌+◌, Some, None, subst}
+use Rattle.std.proofs.Common.{sym, arith, length, ◌<◌, ◌≡◌, ◌++◌, ℕ, List, drop, ◌+◌, subst}
 use Rattle.std.specs.List.{flat_map}
 use Rattle.doc_values.specs.Text.{entry_text}
-use Rattle.segment_merge.specs.Numbering.{new_number}
 use Rattle.segment_merge.specs.Pieces.{written_rows}
 use Rattle.segment_merge.proofs.Pieced.{doc_below, rows_dead, rows_live}
 use Rattle.segment_merge.proofs.pieces.put_rows.Goals as goal

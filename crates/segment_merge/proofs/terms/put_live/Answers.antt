@@ -8,7 +8,6 @@ use Rattle.segment_parts.specs.declared.columns.Columns.{Columns}
 use Rattle.term_table.specs.Part.{posting_text}
 use Rattle.segment_merge.specs.Merged.{kept}
 use Rattle.segment_merge.specs.Numbering.{PartState}
-use Rattle.segment_merge.specs.TermRefs.{live_postings, place_lent}
 use Rattle.segment_merge.proofs.Posted.{kept_left, posting_within}
 use Rattle.segment_merge.proofs.Steps.{end_left, next_left, posting_is}
 use Rattle.segment_merge.proofs.terms.put_live.Goals as goal

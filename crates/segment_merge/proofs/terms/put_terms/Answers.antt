@@ -1,10 +1,9 @@
-use Rattle.std.proofs.Common.{◌≡◌, ℕ, List, ◌++◌, refl, length, map, ap, sym, ◌∙◌, append_assoc}
+use Rattle.std.proofs.Common.{◌≡◌, ℕ, List, ◌++◌, refl, length, map, ap, ◌∙◌, append_assoc}
 use Rattle.std.specs.List.{flat_map}
 use Rattle.part_text.specs.Text.{u64_text}
-use Rattle.segment_merge.specs.TermRefs.{AreNew, group_lent, live_rows, numbered}
-use Rattle.term_table.specs.Part.{row_text, rows_text}
+use Rattle.segment_merge.specs.TermRefs.{group_lent, live_rows, numbered}
+use Rattle.term_table.specs.Part.{row_text}
 use Rattle.term_table.specs.declared.rows.TermRow.{TermRow}
-use Rattle.segment_builder.specs.Columns.{terms_in}
 use Rattle.segment_merge.proofs.Noted.{are_new}
 use Rattle.segment_merge.proofs.Refs.{Group}
 use Rattle.segment_merge.proofs.Termed.{can_put, lent_groups, rows_gathered}
