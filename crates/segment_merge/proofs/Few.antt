@@ -7,7 +7,7 @@ use Rattle.std.specs.Ordering.{eq_by_cmp}
 use Rattle.std.specs.declared.cmp.Ordering.{Ordering}
 use Rattle.std.specs.declared.cmp.Ordering.TheVariants.{Less}
 use Rattle.std.proofs.lemmas.Bool.{cases_lt}
-use Rattle.std.proofs.lemmas.List.{drop-drop, drop_more, get_or_past, length-append, take-append-drop}
+use Rattle.std.proofs.lemmas.List.{drop-drop, drop_more, get_or_past, length-append, length-map, take-append-drop}
 use Rattle.std.proofs.lemmas.List.Sums.{sum_by-append, sum_by-cons}
 use Rattle.std.proofs.lemmas.Map.Keys.{sorted_head, sorted_tail}
 use Rattle.block_bits.specs.Flags.{is_marked}
@@ -27,8 +27,10 @@ rise_from from [] first up = tt
 rise_from {X} from (row ∷ rows) first up = (
   first (omega arith),
   rise_from (row.0 + 1) rows
-      (λ some. omega (arith, up 0 (omega (arith, some))))
-      (λ k below. up (suc k) (omega (arith, below))),
+      (λ some. omega (arith, up 0 (omega (arith, some, length-map rows (λ (row : ℕ × X). row.0)))))
+      (λ k below.
+      let on : suc k + 1 ≡ suc (k + 1) = omega arith in
+      subst (λ n. get_or (map (λ (row : ℕ × X). row.0) (row ∷ rows)) (suc k) 0 < get_or (map (λ (row : ℕ × X). row.0) (row ∷ rows)) n 0) on (up (suc k) (omega (arith, below)))),
 )
 
 -- ---- live rows

@@ -1,7 +1,8 @@
 -- The parts of a merged segment's text together: what its columns are.
-use Rattle.std.proofs.Common.{◌≡◌, ℕ, ℤ, ◌+◌, Bool, List, [], ◌∷◌, ◌++◌, length, map, Option, refl, sym, ap, subst, ◌∙◌, append_assoc}
+use Rattle.std.proofs.Common.{◌≡◌, ℕ, ℤ, ◌+◌, ◌<◌, Bool, List, [], ◌∷◌, ◌++◌, length, map, Option, refl, sym, ap, subst, ◌∙◌, append_assoc, arith}
 use Rattle.std.specs.List.{flat_map}
 use Rattle.std.specs.Ordering.{nat_cmp}
+use Rattle.flattener.specs.Block.{BlockState}
 use Rattle.segment.specs.Live.{EntryState}
 use Rattle.segment_builder.specs.Columns.{column_terms, terms_in}
 use Rattle.segment_builder.specs.Made.{marked_groups}
@@ -74,3 +75,9 @@ unfolding rows_part
 all_put columns none one two three four five six start head roots rows ordinals numbers present =
     let behind : three ≡ one ++ rows_part columns = rows ∙ ap (λ (front : List ℕ). front ++ rows_text columns.terms) roots ∙ append_assoc one (roots_text columns.roots) (rows_text columns.terms) in
     all_written columns none one three four five six start head behind ordinals numbers present
+
+-- ---- whether some block is live
+
+pub none_live : (blocks : List BlockState) (roots live : List Root) → length blocks ≡ length live → roots ≡ live → (0 < length roots → ⊥) → blocks ≡ []
+none_live [] roots live counted same none = refl
+none_live (block ∷ blocks) roots live counted same none = absurd (none (omega (arith, counted, ap (λ (rs : List Root). length rs) same)))

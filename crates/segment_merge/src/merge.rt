@@ -10,7 +10,7 @@ ghost use Rattle.segment_builder.specs.Blocks.{blocks_of, live_blocks, objects_o
 ghost use Rattle.segment_builder.specs.Given.{IsNumbered};
 ghost use Rattle.segment_parts.specs.Text.{segment_text};
 ghost use Rattle.segment_parts.specs.declared.columns.Columns.{Columns};
-ghost use Rattle.segment_merge.specs.Merged.{IsMerged};
+ghost use Rattle.segment_merge.specs.Merged.{IsMerged, live_roots_in};
 ghost use Rattle.segment_merge.specs.Numbering.{live_in, parts_from};
 ghost use Rattle.segment_merge.specs.Scoped.{roots_in};
 
@@ -44,6 +44,7 @@ pub fn merged(alloc: Global, entries: &[Entry]) -> Result<Option<Segment>, NoMem
         return Ok(None);
     }
     let bytes = merged_bytes(alloc, parts.as_slice())?;
+    let _count = bytes.len();
     let segment = segment_of(alloc, bytes)?;
     merged_segments_are_live_blocks(entries, &segment);
     Ok(Some(segment))
@@ -90,7 +91,7 @@ fn merged_bytes(alloc: Global, parts: &[Part]) -> Result<Vec<u8>, NoMemory>
 /// The segment of bytes that are one's.
 fn segment_of(alloc: Global, bytes: Vec<u8>) -> Result<Segment, NoMemory>
     requires { (columns : Columns) × IsEncoding columns bytes.items }
-    ensures { (columns : Columns) → IsEncoding columns bytes.entry.items → IfOk result (λ segment. segment ≡ columns) }
+    ensures { (columns : Columns) → IsEncoding columns bytes.items → IfOk result (λ segment. segment ≡ columns) }
 {
     words_are_of_one_set();
     match Segment::of_bytes(alloc, Bytes::of(bytes)) {
