@@ -47,9 +47,6 @@ live_in_parts base (entry ∷ entries) =
     ∙ ap (λ n. live_count entry + n) (live_in_parts (base + live_count entry) entries)
     ∙ sym (sum_by-cons live_count entry entries)
 
-pub live_more : (entries : List EntryState) (at : ℕ) (d : EntryState) → at < length entries → live_count_of (drop at entries) ≡ live_count (get_or entries at d) + live_count_of (drop (at + 1) entries)
-live_more entries at d h = ap live_count_of (drop_more entries at d h) ∙ sum_by-cons live_count (get_or entries at d) (drop (at + 1) entries)
-
 -- ---- one look-up
 
 pub number_is : (part : PartState) (doc number : ℕ) (is : Bool) → is ≡ true → is ≡ get_or part.entry.live.docs doc false → doc < length part.entry.live.docs → number ≡ get_or (numbers_from part.base part.entry.live.docs) doc 0

@@ -64,20 +64,6 @@ pub places_end : (part : PartState) (flags : List Bool) (from : ℕ) (now all : 
 places_end part flags from now all none was =
     sym (append-nil now) ∙ ap (λ (docs : List ℕ). now ++ places_in part docs) (sym (marked_places-none from (drop from flags) none)) ∙ was
 
-pub texts_more : (part : PartState) (columns : List (ℕ × List Bool)) (at : ℕ) (column : ℕ × List Bool) (places : List ℕ) (now new all : List (ℕ × List ℕ)) → at < length columns → column ≡ get_or columns at column
-    → places ≡ places_in part (marked_places 0 column.1) → new ≡ now ++ filter has_some ((column.0, places) ∷ [])
-    → now ++ filter has_some (texts_in part (drop at columns)) ≡ all → new ++ filter has_some (texts_in part (drop (at + 1) columns)) ≡ all
-texts_more part columns at column places now new all below is same put was =
-    let own : List (ℕ × List ℕ) = (column.0, places_in part (marked_places 0 column.1)) ∷ [] in
-    let rest : List (ℕ × List ℕ) = texts_in part (drop (at + 1) columns) in
-    let here : drop at columns ≡ column ∷ drop (at + 1) columns = drop_more columns at column below ∙ ap (λ c. c ∷ drop (at + 1) columns) (sym is) in
-    ap (λ (xs : List (ℕ × List ℕ)). xs ++ filter has_some rest) put
-    ∙ append_assoc now (filter has_some ((column.0, places) ∷ [])) (filter has_some rest)
-    ∙ ap (λ (ps : List ℕ). now ++ (filter has_some ((column.0, ps) ∷ []) ++ filter has_some rest)) same
-    ∙ ap (λ (xs : List (ℕ × List ℕ)). now ++ xs) (sym (filter-append has_some own rest))
-    ∙ ap (λ (cs : List (ℕ × List Bool)). now ++ filter has_some (texts_in part cs)) (sym here)
-    ∙ was
-
 pub all_texts_more : (parts : List PartState) (at : ℕ) (part : PartState) (now new all : List (ℕ × List ℕ)) → at < length parts → part ≡ get_or parts at part → new ≡ now ++ filter has_some (part_texts part)
     → now ++ filter has_some (from_parts part_texts (drop at parts)) ≡ all → new ++ filter has_some (from_parts part_texts (drop (at + 1) parts)) ≡ all
 all_texts_more parts at part now new all below is put was =

@@ -73,12 +73,6 @@ rows_are_groups (group ∷ groups) =
     (λ some. rw (some, rows_are_groups groups) refl)
     (λ none. rw (none, rows_are_groups groups) refl)
 
-pub live_rows_more : (group : Group) (groups : List Group) → live_rows (group ∷ groups) ≡ live_rows (group ∷ []) ++ live_rows groups
-live_rows_more group groups =
-    split (nat_lt 0 (length (flat_map live_postings group.1)))
-    (λ some. rw some refl)
-    (λ none. rw none refl)
-
 -- ---- which references there are
 
 pub record IsRef (parts : List PartState) (ref : Ref) : Type 0 where

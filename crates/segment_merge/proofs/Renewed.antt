@@ -106,11 +106,6 @@ live_kept base live (posting ∷ postings) (suc k) doc below is alive =
     (λ yes. rw yes (omega arith))
     (λ no. rw no rest)
 
-list_behind : (lists : List (List ℕ)) (place : ℕ) → slice_index_or (drop 1 lists) place [] ≡ slice_index_or lists (suc place) []
-list_behind [] zero = refl
-list_behind [] (suc place) = refl
-list_behind (list ∷ lists) place = refl
-
 news_behind : (terms : List (ℕ × List ℕ)) (part : PartState) (parts : List PartState) (lists : List (List ℕ)) → AreNew (part ∷ parts) terms lists → AreNew parts terms (drop 1 lists)
 news_behind terms part parts [] news = absurd (omega (arith, news.long))
 news_behind terms part parts (list ∷ lists) news = record {

@@ -1,7 +1,7 @@
 //! The ordinals of terms in a merged segment.
 
 ghost use Rattle.std.specs.Prelude.{◌≡◌, ◌<◌, [], length, replicate, slice_index_or, IfOk};
-ghost use Rattle.segment_merge.specs.TermRefs.{blank_ordinals, new_ordinal, rooms_of, with_ordinal};
+ghost use Rattle.segment_merge.specs.TermRefs.{blank_ordinals, rooms_of, with_ordinal};
 
 use crate::NoMemory;
 use crate::numbering::Part;
@@ -34,14 +34,6 @@ impl NewOrdinals {
             news.push(zeros(alloc, part.segment().terms().count())?)?;
         }
         Ok(NewOrdinals { parts: news })
-    }
-
-    /// The new ordinal of a term of the part at a place.
-    pub(crate) fn of(&self, place: usize, ordinal: u64) -> u64
-        requires { ordinal < length (slice_index_or self.now place []) }
-        ensures { result ≡ new_ordinal self.now place ordinal }
-    {
-        self.parts[place][ordinal as usize]
     }
 
     /// The new ordinals of the part at a place, by ordinal; none behind the last part.
