@@ -146,7 +146,7 @@ module _ {K P : Type 0} (cmp : K → K → Ordering) (o : IsExact cmp) where
             (λ isnt. (let same : AllByRecursion (Q key) (of_key cmp key entries) = rw isnt at (all key) in same))),
       )
 
-values_map : {X Y : Type 0} (g : List X → List Y) → g [] ≡ [] → (doc : ℕ) (rows : List (ℕ × List X)) → values_of doc (map (λ (row : ℕ × List X). (row.0, g row.1)) rows) ≡ g (values_of doc rows)
+pub values_map : {X Y : Type 0} (g : List X → List Y) → g [] ≡ [] → (doc : ℕ) (rows : List (ℕ × List X)) → values_of doc (map (λ (row : ℕ × List X). (row.0, g row.1)) rows) ≡ g (values_of doc rows)
 values_map g none doc [] = sym none
 values_map g none doc (row ∷ rows) =
     split (row.0 == doc)

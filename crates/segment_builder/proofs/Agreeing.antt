@@ -9,6 +9,7 @@ use Rattle.block_bits.specs.Flags.{is_marked}
 use Rattle.flattener.specs.Block.{BlockState}
 use Rattle.flattener.specs.Fits.{IsDocument, IsJoinOf, IsRootOf, is_root}
 use Rattle.flattener.specs.Flat.{has_numbers, is_keyword, is_text}
+use Rattle.flattener.specs.Small.{IsSmall}
 use Rattle.mapping.specs.Mapping.{Mapping, kind_at}
 use Rattle.mapping_body.specs.declared.kind.Kind.{Kind}
 use Rattle.mapping_body.specs.declared.kind.Kind.TheVariants.{Text, Keyword, Long, Boolean, Date, Object as Plain, Nested, Join as Joining}
@@ -24,6 +25,7 @@ use Rattle.stored_sources.specs.declared.root.Join.TheVariants.{Unjoined, Named,
 use Rattle.stored_sources.specs.declared.root.Root.{Root}
 use Rattle.term_table.specs.Part.{AreRows}
 use Rattle.segment_builder.specs.Entries.{EntriesState, flats_in, no_entries, with_blocks}
+use Rattle.segment_builder.specs.Form.{IsFit, IsOrdered}
 use Rattle.segment_builder.specs.Given.{AreGiven, IsNumbered}
 use Rattle.segment_builder.specs.Made.{IsMade}
 use Rattle.segment_builder.specs.Roots.{FitsRoot, FitRoots}
@@ -97,10 +99,13 @@ kinds_in m (block ∷ blocks) all =
     (each_by (AreOfKind (kinds_of m)) block.flats (λ i d h. of_kind m block.root.generation (get_or block.flats i d) (all.0.documents i d h)))
     (kinds_in m blocks all.1)
 
+pub written_by : (m : Mapping) (blocks : List BlockState) → AllByRecursion (λ (block : BlockState). IsRootOf m block.root block.flats) blocks → All IsOrdered (flats_in blocks) → All IsSmall (flats_in blocks) → All IsFit (flats_in blocks) → AllByRecursion (IsWritten (kinds_of m)) (flats_in blocks)
+written_by m blocks roots ordered small fit =
+    let kinds : All (AreOfKind (kinds_of m)) (flats_in blocks) = All-from_recursion (AreOfKind (kinds_of m)) (flats_in blocks) (kinds_in m blocks roots) in
+    each_by (IsWritten (kinds_of m)) (flats_in blocks) (λ i d h. written (kinds_of m) (get_or (flats_in blocks) i d) (ordered i d h) (small i d h) (fit i d h) (kinds i d h))
+
 pub all_written : (m : Mapping) (blocks : List BlockState) → AreGiven m blocks → AllByRecursion (IsWritten (kinds_of m)) (flats_in blocks)
-all_written m blocks given =
-    let kinds : All (AreOfKind (kinds_of m)) (flats_in blocks) = All-from_recursion (AreOfKind (kinds_of m)) (flats_in blocks) (kinds_in m blocks given.roots) in
-    each_by (IsWritten (kinds_of m)) (flats_in blocks) (λ i d h. written (kinds_of m) (get_or (flats_in blocks) i d) (given.ordered i d h) (given.small i d h) (given.fit i d h) (kinds i d h))
+all_written m blocks given = written_by m blocks given.roots given.ordered given.small given.fit
 
 pub few_documents : (m : Mapping) (blocks : List BlockState) → AreGiven m blocks → length (flats_in blocks) < 2 ^ 32
 few_documents m blocks given = omega (arith, given.few)
@@ -141,7 +146,7 @@ blocks_counted m (block ∷ blocks) all =
     ap (count_by is_marked) parts ∙ omega (arith, roots_counted block.flats (map root_mark (flats_in blocks)), all.0.one_root, blocks_counted m blocks all.1)
 
 -- the last document is a root
-abbrev EndsSo : List FlatDocument → Type 0
+abbrev pub EndsSo : List FlatDocument → Type 0
 EndsSo [] = ⊥
 EndsSo (flat ∷ []) = flat.scope ≡ 0
 EndsSo (flat ∷ next ∷ flats) = EndsSo (next ∷ flats)

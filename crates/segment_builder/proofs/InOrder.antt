@@ -184,7 +184,7 @@ module _ {K P : Type 0} (cmp : K → K → Ordering) (o : IsTotalOrder cmp) wher
 
   -- ---- what the groups are in the end
 
-  nothing_at : (key : K) (groups : List (K × List P)) → AllByRecursion (λ k. cmp key k ≡ Less) (keys groups) → in_groups cmp key groups ≡ []
+  pub nothing_at : (key : K) (groups : List (K × List P)) → AllByRecursion (λ k. cmp key k ≡ Less) (keys groups) → in_groups cmp key groups ≡ []
   nothing_at key [] behind = refl
   nothing_at key (group ∷ groups) behind = rw behind.0 (nothing_at key groups behind.1)
 
@@ -194,7 +194,7 @@ module _ {K P : Type 0} (cmp : K → K → Ordering) (o : IsTotalOrder cmp) wher
   lift_own first all (group ∷ groups) behind own =
       (rw (less_back cmp o first.0 group.0 behind.0) own.0, lift_own first all groups behind.1 own.1)
 
-  own_groups : (groups : List (K × List P)) → IsStrictlySortedBy cmp (keys groups) → AllByRecursion (λ (group : K × List P). in_groups cmp group.0 groups ≡ group.1) groups
+  pub own_groups : (groups : List (K × List P)) → IsStrictlySortedBy cmp (keys groups) → AllByRecursion (λ (group : K × List P). in_groups cmp group.0 groups ≡ group.1) groups
   own_groups [] up = tt
   own_groups (group ∷ groups) up =
       let behind = sorted_head cmp group.0 (keys groups) up in

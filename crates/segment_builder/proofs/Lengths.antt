@@ -134,3 +134,7 @@ module _ (columns : Columns) (own : AreColumns columns)
   live_whole live over =
       let covered = covered_from columns live own over scoped (flats_of columns) refl in
       ap (count_by is_marked) (docs_are columns live own over scoped ∙ sym covered.marks) ∙ count_live (marked_by (blocks_of columns) live.roots)
+
+  pub marks_whole : (live : LiveState) → IsLiveOver columns live → live.docs ≡ marks_in (marked_by (blocks_of columns) live.roots)
+  unfolding blocks_of
+  marks_whole live over = docs_are columns live own over scoped ∙ sym (covered_from columns live own over scoped (flats_of columns) refl).marks

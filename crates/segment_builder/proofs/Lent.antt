@@ -10,7 +10,7 @@ use Rattle.segment_builder.specs.Entries.{bytes_lent, keywords_lent, numbers_len
 use Rattle.segment_builder.specs.Groups.{groups_seen, AreGroups}
 use Rattle.segment_builder.specs.Terms.{row_group, rows_lent}
 use Rattle.segment_builder.proofs.Assembled.{map_twice}
-use Rattle.segment_builder.proofs.Regrouped.{regrouped}
+use Rattle.segment_builder.specs.Regrouped.{regrouped}
 
 pub numbers_grouped : {A : Type 0} (entries : List (ℕ × (ℕ × Bor (List ℤ)))) (groups : List (ℕ × Vec (ℕ × Bor (List ℤ)) A)) → AreGroups nat_cmp entries (groups_seen groups) → AreGroups nat_cmp (numbers_lent entries) (number_groups groups)
 numbers_grouped {A} entries groups are =

@@ -1,6 +1,5 @@
 pub mod Keys
 pub mod InOrder
-pub mod Regrouped
 pub mod Merged
 pub mod Orders
 pub mod Sorted
@@ -34,3 +33,10 @@ pub mod Lengths
 pub mod Suited
 pub mod Stored
 pub mod Blocked
+pub mod Standing
+pub mod SameRows
+pub mod Posted
+pub mod Again
+pub mod AtFields
+pub mod ByDocuments
+pub mod Gathered

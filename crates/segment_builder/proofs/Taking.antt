@@ -135,12 +135,12 @@ module _ (k : Kinds) (it : EntriesState) (blocks : List BlockState) (is : it ≡
       (whole (of_key term_cmp term (by_doc word_tags 0 flats)) (docs_rise term_cmp term_order word_tags (λ doc flat. tagged_own doc flat.words) term 0 flats
       (each_then (IsWritten k) (λ flat. (doc : ℕ) → IsStrictlySortedBy term_cmp (keys (word_tags doc flat))) (λ flat w doc. subst (IsStrictlySortedBy term_cmp) (sym (tagged_keys doc flat.words)) w.words_up) flats all)))
 
-  own_keywords : (doc : ℕ) (flat : FlatDocument) → AllByRecursion (λ (entry : TermEntry). entry.1.0 ≡ doc) (keyword_term_tags doc flat)
+  pub own_keywords : (doc : ℕ) (flat : FlatDocument) → AllByRecursion (λ (entry : TermEntry). entry.1.0 ≡ doc) (keyword_term_tags doc flat)
   own_keywords doc flat =
       keyword_terms_each (λ (entry : TermEntry). entry.1.0 ≡ doc) (keyword_tags doc flat)
       (each_then (λ (entry : ℕ × (ℕ × List (List ℕ))). entry.1.0 ≡ doc) (λ (entry : ℕ × (ℕ × List (List ℕ))). AllByRecursion (λ (bytes : List ℕ). entry.1.0 ≡ doc) entry.1.1) (λ entry same. always (λ (bytes : List ℕ). entry.1.0 ≡ doc) (λ bytes. same) entry.1.1) (keyword_tags doc flat) (tagged_own doc flat.keywords))
 
-  own_numbers : (doc : ℕ) (flat : FlatDocument) → AllByRecursion (λ (entry : TermEntry). entry.1.0 ≡ doc) (number_term_tags doc flat)
+  pub own_numbers : (doc : ℕ) (flat : FlatDocument) → AllByRecursion (λ (entry : TermEntry). entry.1.0 ≡ doc) (number_term_tags doc flat)
   own_numbers doc flat =
       number_terms_each (λ (entry : TermEntry). entry.1.0 ≡ doc) (number_tags doc flat)
       (each_then (λ (entry : ℕ × (ℕ × List ℤ)). entry.1.0 ≡ doc) (λ (entry : ℕ × (ℕ × List ℤ)). AllByRecursion (λ (bytes : List ℕ). entry.1.0 ≡ doc) (map number_key entry.1.1)) (λ entry same. always (λ (bytes : List ℕ). entry.1.0 ≡ doc) (λ bytes. same) (map number_key entry.1.1)) (number_tags doc flat) (tagged_own doc flat.numbers))
@@ -201,7 +201,7 @@ module _ (k : Kinds) (it : EntriesState) (blocks : List BlockState) (is : it ≡
       let next : of_key term_cmp term (keyword_terms it.keywords) ≡ [] = none_of_kind k.key term (keyword_terms it.keywords) keywords_kind (apart.num_key term.0 kind) in
       of_parts term ∙ rw (none, next) refl
 
-  all_rise : AreApart k → KeysAreOrdered → (term : ℕ × List ℕ) → AreRisingFrom 0 (length flats) (of_key term_cmp term (all_terms it))
+  pub all_rise : AreApart k → KeysAreOrdered → (term : ℕ × List ℕ) → AreRisingFrom 0 (length flats) (of_key term_cmp term (all_terms it))
   all_rise apart law term =
       split (k.word term.0)
       (λ is_word. subst (AreRisingFrom 0 (length flats)) (sym (of_word apart term is_word)) (words_rise term))

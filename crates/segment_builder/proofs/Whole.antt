@@ -24,7 +24,7 @@ use Rattle.segment_builder.proofs.Grown.{by_doc, blocks_add, of_append, at_doc}
 use Rattle.segment_builder.proofs.Merged.{find, at_document}
 use Rattle.segment_builder.proofs.Orders.{nat_order, term_order}
 use Rattle.segment_builder.proofs.Parted.{keywords_are, numbers_are, scopes_are, words_are}
-use Rattle.segment_builder.proofs.Regrouped.{regrouped}
+use Rattle.segment_builder.specs.Regrouped.{regrouped}
 use Rattle.segment_builder.proofs.Shown.{each_by, shown}
 use Rattle.segment_builder.proofs.Texts.{text_entry, text_group, text_member, text_get, text_step, texts_at, fields_back, texts_some}
 use Rattle.segment_builder.proofs.Worded.{values_first, keywords_empty, numbers_empty, keywords_at, column_bytes, bytes_again}

@@ -24,7 +24,7 @@ empty_both : (xs ys : List (ℕ × List ℕ)) → Empty xs → Empty ys → Empt
 empty_both [] ys one two = two
 empty_both (x ∷ xs) ys one two = (one.0, empty_both xs ys one.1 two)
 
-no_values : (d : ℕ) (rows : List (ℕ × List ℕ)) → Empty rows → values_of d rows ≡ []
+pub no_values : (d : ℕ) (rows : List (ℕ × List ℕ)) → Empty rows → values_of d rows ≡ []
 no_values d [] none = refl
 no_values d (row ∷ rows) none =
     split (row.0 == d)

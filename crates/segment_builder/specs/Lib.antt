@@ -7,6 +7,7 @@ pub mod Form
 pub mod Parts
 pub mod Entries
 pub mod Groups
+pub mod Regrouped
 pub mod Rising
 pub mod Taken
 pub mod Terms
@@ -14,3 +15,4 @@ pub mod Columns
 pub mod Roots
 pub mod Given
 pub mod Made
+pub mod ByKey

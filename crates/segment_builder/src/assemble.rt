@@ -59,9 +59,8 @@ pub fn built(alloc: Global, mapping: &Mapping, blocks: &[Block]) -> Result<Segme
     Ok(segment)
 }
 
-/// The segment of blocks that it can be made of under some mapping, as the blocks that segments of one mapping have are,
-/// wherever they come from. The blocks are lent: they stay as they are.
-pub fn made_of(alloc: Global, blocks: &[Block]) -> Result<Segment, NoMemory>
+/// The segment of blocks that it can be made of under some mapping. The blocks are lent: they stay as they are.
+fn made_of(alloc: Global, blocks: &[Block]) -> Result<Segment, NoMemory>
     requires { (m : Mapping) × AreGiven m (map block_seen blocks.now) }
     ensures flats { IfOk result (λ segment. flats_of segment ≡ flats_in (map block_seen blocks.now)) }
     ensures roots { IfOk result (λ segment. roots_of segment ≡ map (λ block. block.root) (map block_seen blocks.now)) }

@@ -3,14 +3,14 @@
 //! It stands on `flattener` for blocks and on `segment` for columns (Lucene's `IndexingChain`, package `org.apache.lucene.index`).
 //! Blocks are taken apart in one pass, what they carry is put together by key with one stable sort, and each column is
 //! written once. What others use is that `built` gives a segment whose documents and roots are those of its blocks, and that
-//! a segment stands for the trees of its blocks. Begin reading with `specs/Blocks.antt` and `assemble`, then `grouped`.
+//! a segment stands for the trees of its blocks. Begin reading with `specs/Blocks.antt` and `assemble`, then `grouping`.
 #![tactic(auto)]
 
 mod assemble;
 mod entries;
 mod find;
 mod fit;
-mod grouped;
+mod grouping;
 mod law;
 mod numbers;
 mod ordinals;
@@ -21,8 +21,13 @@ mod rows;
 mod scopes;
 mod terms;
 
-pub use assemble::{built, made_of};
+pub use assemble::built;
+pub use grouping::grouped;
 pub use law::{
-    blocks_are_whole, blocks_stand_for_trees, deaths_mark_blocks, fitting_segments_are_blocks,
+    blocks_are_whole, blocks_carry_what_documents_carry, blocks_stand_for_trees,
+    columns_by_key_are_made, deaths_mark_blocks, documents_live_with_their_blocks,
+    fitting_segments_are_blocks, made_columns_agree, made_segments_are_blocks,
+    segments_say_what_documents_carry,
 };
 pub use refusal::NoMemory;
+pub use scopes::scope_sets;

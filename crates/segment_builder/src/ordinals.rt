@@ -15,7 +15,7 @@ ghost use Rattle.segment_builder.specs.Taken.{AreValueEntries};
 
 use crate::NoMemory;
 use crate::find::find;
-use crate::grouped::grouped;
+use crate::grouping::grouped;
 use doc_values::{RowList, ValueList};
 use segment::ColumnList;
 use std::alloc::Global;

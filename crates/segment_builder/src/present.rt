@@ -11,7 +11,7 @@ ghost use Rattle.segment_builder.specs.Made.{marked_groups};
 ghost use Rattle.segment_builder.specs.Taken.{AreTextEntries};
 
 use crate::NoMemory;
-use crate::grouped::grouped;
+use crate::grouping::grouped;
 use block_bits::BitSet;
 use segment::ByField;
 use std::alloc::Global;

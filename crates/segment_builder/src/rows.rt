@@ -9,7 +9,7 @@ ghost use Rattle.segment_builder.specs.Taken.{AreTermEntries};
 ghost use Rattle.segment_builder.specs.Terms.{postings_lent, row_group, rows_lent};
 
 use crate::NoMemory;
-use crate::grouped::grouped;
+use crate::grouping::grouped;
 use std::alloc::Global;
 use term_table::{Bytes, PositionList, PostingList, RowList, TermRow};
 

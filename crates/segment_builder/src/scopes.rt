@@ -9,7 +9,7 @@ use block_bits::{BitList, BitSet};
 use std::alloc::Global;
 
 /// The documents of each scope up to the greatest one.
-pub(crate) fn scope_sets(alloc: Global, scopes: &[u32]) -> Result<BitList, NoMemory>
+pub fn scope_sets(alloc: Global, scopes: &[u32]) -> Result<BitList, NoMemory>
     requires below { All (λ scope. scope + 1 < 2 ^ 32) scopes.now }
     requires few { length scopes.now < 2 ^ 32 }
     ensures sets { IfOk result (λ sets. sets ≡ map (documents_of scopes.now) (range_with_len 0 (length sets))) }

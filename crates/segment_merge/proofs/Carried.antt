@@ -22,7 +22,7 @@ use Rattle.flattener.specs.Small.{IsSmall}
 use Rattle.segment_parts.specs.declared.columns.Columns.{Columns}
 use Rattle.term_table.specs.Terms.{term_cmp}
 use Rattle.term_table.specs.declared.rows.TermRow.{TermRow}
-use Rattle.segment_merge.proofs.Spreading.{split, texts_at}
+use Rattle.segment_merge.proofs.Cases.{split}
 
 -- ---- values of a document
 
@@ -193,6 +193,9 @@ word_flagged None None None ordinal doc bytes postings is some = absurd is
 
 contains_later : (x y : ℕ) (xs : List ℕ) → Contains xs x → Contains (y ∷ xs) x
 contains_later x y xs there = (suc there.0, omega (arith, there.1), there.2)
+
+abbrev pub texts_at : ℕ → List (ℕ × List Bool) → List ℕ
+texts_at doc columns = map (λ (column : ℕ × List Bool). column.0) (filter (λ (column : ℕ × List Bool). get_or column.1 doc false) columns)
 
 text_there : (field doc : ℕ) (columns : List (ℕ × List Bool)) → HasFlag doc (column_of field columns) → Contains (texts_at doc columns) field
 text_there field doc [] has = absurd has

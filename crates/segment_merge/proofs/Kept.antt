@@ -1,16 +1,15 @@
 -- Live blocks: what is so of all blocks is so of them, and what a segment is made of they are.
-use Rattle.std.proofs.Common.{◌≡◌, ℕ, ◌<◌, ◌≤◌, Bool, true, false, List, [], ◌∷◌, ◌++◌, length, map, filter, get_or, refl, sym, ap, subst, arith}
+use Rattle.std.proofs.Common.{◌≡◌, ℕ, ◌<◌, ◌≤◌, Bool, true, false, List, [], ◌∷◌, ◌++◌, length, map, filter, get_or, sym, subst, arith}
 use Rattle.std.specs.List.{All, AllByRecursion, flat_map, range_with_len}
 use Rattle.std.proofs.lemmas.List.Concat.{length-flat_map}
-use Rattle.std.proofs.lemmas.List.{length-append, length-map}
-use Rattle.std.proofs.lemmas.List.Elements.{All-from_recursion, All-head, All-tail, filter-append}
+use Rattle.std.proofs.lemmas.List.Elements.{All-from_recursion, All-head, All-tail}
 use Rattle.flattener.specs.Block.{BlockState}
-use Rattle.flattener.specs.Fits.{IsRootOf, SegmentFits, is_root, most_live}
+use Rattle.flattener.specs.Fits.{IsRootOf, SegmentFits, most_live}
 use Rattle.flattener.specs.Small.{IsSmall}
 use Rattle.layout.specs.Layout.{is_live, item_in}
 use Rattle.mapping.specs.Mapping.{Mapping}
 use Rattle.segment.specs.Agree.{AreColumns}
-use Rattle.segment.specs.Flat.{FlatDocument, flat_of, flat_root, flats_of, roots_of}
+use Rattle.segment.specs.Flat.{FlatDocument, flat_of, flats_of}
 use Rattle.segment.specs.Live.{EntryState}
 use Rattle.segment_builder.specs.Blocks.{blocks_of, live_blocks, marked_by, objects_of}
 use Rattle.segment_builder.specs.Entries.{flats_in}
@@ -57,7 +56,7 @@ each_entry P (entry ∷ entries) all =
 
 -- ---- documents that columns say
 
-each_document : (Q : FlatDocument → Type 0) (columns : Columns) → ((doc : ℕ) → Q (flat_of columns doc)) → AllByRecursion Q (flats_of columns)
+pub each_document : (Q : FlatDocument → Type 0) (columns : Columns) → ((doc : ℕ) → Q (flat_of columns doc)) → AllByRecursion Q (flats_of columns)
 each_document Q columns all = from (range_with_len 0 columns.documents)
   where
     from : (docs : List ℕ) → AllByRecursion Q (map (flat_of columns) docs)
@@ -95,23 +94,3 @@ module _ (entries : List EntryState) (agree : All (λ (entry : EntryState). AreC
     fit = said IsFit m fits (λ columns doc own. fit columns own doc);
     numbered = numbered;
   }
-
--- ---- as many roots as documents that are one
-
-pub roots_counted : (m : Mapping) (blocks : List BlockState) → AllByRecursion (λ (block : BlockState). IsRootOf m block.root block.flats) blocks → length (filter is_root (flats_in blocks)) ≡ length blocks
-roots_counted m [] all = refl
-roots_counted m (block ∷ blocks) all =
-    let both : filter is_root (block.flats ++ flats_in blocks) ≡ filter is_root block.flats ++ filter is_root (flats_in blocks) = filter-append is_root block.flats (flats_in blocks) in
-    omega (arith, ap length both, length-append (filter is_root block.flats) (filter is_root (flats_in blocks)), all.0.one_root, roots_counted m blocks all.1)
-
-pub roots_few : (m : Mapping) (columns : Columns) → AllByRecursion (λ (block : BlockState). IsRootOf m block.root block.flats) (blocks_of columns) → flats_in (blocks_of columns) ≡ flats_of columns
-    → map (λ (block : BlockState). block.root) (blocks_of columns) ≡ roots_of columns → length (filter is_root (flats_of columns)) ≡ length columns.roots
-roots_few m columns all flats roots =
-    omega (
-      arith,
-      ap (λ (fs : List FlatDocument). length (filter is_root fs)) flats,
-      roots_counted m (blocks_of columns) all,
-      ap length roots,
-      length-map (blocks_of columns) (λ (block : BlockState). block.root),
-      length-map columns.roots flat_root,
-    )

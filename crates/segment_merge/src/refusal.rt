@@ -29,3 +29,9 @@ impl From<segment_builder::NoMemory> for NoMemory {
         NoMemory
     }
 }
+
+impl From<segment_parts::NoMemory> for NoMemory {
+    fn from(_: segment_parts::NoMemory) -> NoMemory {
+        NoMemory
+    }
+}
