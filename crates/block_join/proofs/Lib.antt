@@ -10,3 +10,6 @@ pub mod Shared
 pub mod Starts
 pub mod Spreading
 pub mod Sets
+pub mod Adding
+pub mod Reaching
+pub mod Holding

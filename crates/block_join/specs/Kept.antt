@@ -1,11 +1,13 @@
 -- How scores are kept: a set of documents, and either one score for all of them or one each in their order.
-use Rattle.std.specs.Prelude.{◌≡◌, ℕ, suc, min, max, ◌+◌, ◌^◌, ◌-◌, ◌<◌, ◌≤◌, Bool, true, false, cond, List, [], ◌∷◌, length, take, drop, replicate, get_or, Option, Some, None, IfSome, ⊤}
-use Rattle.std.specs.Option.{is_some, option_and_then}
+use Rattle.std.specs.Prelude.{◌≡◌, ℕ, suc, min, max, ◌+◌, ◌^◌, ◌-◌, ◌<◌, ◌≤◌, Bool, true, false, cond, ◌&&◌, ◌||◌, List, [], ◌∷◌, length, map, take, drop, replicate, get_or, Option, Some, None, is_some, IfSome, ⊤}
+use Rattle.std.specs.Option.{option_and_then}
 use Rattle.block_bits.specs.Flags.{is_marked}
 use Rattle.block_bits.specs.Places.{next_place}
 use Rattle.block_bits.specs.Walks.{Walking}
 use Rattle.score_math.specs.declared.score.TheConstants.{SCORE_CAP}
-use Rattle.block_join.specs.Scores.{between}
+use Rattle.score_math.specs.Scores.{mode_of}
+use Rattle.score_math.specs.declared.score.ScoreMode.{ScoreMode}
+use Rattle.block_join.specs.Scores.{filled}
 use Rattle.block_join.specs.declared.rule.Rule.{Rule}
 use Rattle.block_join.specs.declared.rule.Rule.TheVariants.{Both, Kept, Without, Plus, Either, Greatest, Counted, AtLeast}
 use Rattle.block_join.specs.declared.scores.Scores.{Scores}
@@ -60,17 +62,37 @@ pub record IsBegun (flags : List Bool) (scores : Scores) (end count : ℕ) : Typ
 abbrev pub next_parent : List Bool → ℕ → List (Option ℕ) → Option ℕ
 next_parent parents from scores = option_and_then (λ doc. next_place is_marked doc parents) (next_place is_some from scores)
 
+-- the first parent that is or follows the next hit
+abbrev pub holder : List Bool → List Bool → ℕ → Option ℕ
+holder parents hits from = option_and_then (λ doc. next_place is_marked doc parents) (next_place is_marked from hits)
+
 -- where the documents inside a parent begin: behind the parent before it, or at 0
 pub record IsStart (parents : List Bool) (parent start : ℕ) : Type 0 where
   pub within : start ≤ parent
   pub behind : (at : ℕ) → start ≡ at + 1 → get_or parents at false ≡ true
   pub free : (at : ℕ) → start ≤ at → at < parent → get_or parents at false ≡ false
 
--- all documents that hit have one score
-pub record AreAlike (scores : List (Option ℕ)) : Type 0 where
-  pub score : ℕ
-  pub count : ℕ → ℕ → ℕ
-  pub are : (from end : ℕ) → between scores from end ≡ replicate (count from end) score
+-- whether some of the others came behind the last document of the set, where this is one more
+abbrev pub came : Bool → Bool → Bool → Bool
+came some parent other = cond parent false (other || some)
+
+-- the same behind all documents, where some did or did not before the first
+abbrev pub since : Bool → List Bool → List Bool → Bool
+since some [] others = some
+since some (parent ∷ parents) [] = some
+since some (parent ∷ parents) (other ∷ others) = since (came some parent other) parents others
+
+-- the documents of the set that have some of the others behind the one before
+abbrev pub reached : Bool → List Bool → List Bool → List Bool
+reached some [] others = []
+reached some (parent ∷ parents) [] = []
+reached some (parent ∷ parents) (other ∷ others) = (parent && some) ∷ reached (came some parent other) parents others
+
+-- all documents that hit have one score, and some of them together another
+pub record AreAlike (mode : ScoreMode) (scores : List (Option ℕ)) (score : ℕ) : Type 0 where
+  pub own : ℕ
+  pub are : scores ≡ filled (Some own) (map is_some scores)
+  pub together : (n : ℕ) → mode_of mode (own ∷ replicate n own) ≡ Some score
 
 -- the earlier of two documents, of which either may be missing
 abbrev pub earlier : Option ℕ → Option ℕ → Option ℕ

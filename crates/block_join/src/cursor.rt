@@ -1,9 +1,9 @@
 //! Scores read in the order of their documents.
 
-ghost use Rattle.std.specs.Prelude.{◌≡◌, ◌≢◌, ℕ, ◌+◌, ◌-◌, ◌<◌, ◌≤◌, List, [], ◌∷◌, length, IsTrue, IfSome, IfNone};
+ghost use Rattle.std.specs.Prelude.{◌≡◌, ℕ, ◌+◌, ◌-◌, ◌<◌, ◌≤◌, List, [], ◌∷◌, length, IfSome, IfNone};
 ghost use Rattle.std.specs.Option.{is_some};
 ghost use Rattle.block_bits.specs.Places.{next_place};
-ghost use Rattle.block_join.specs.Kept.{shown, score_of, AreScores, AreAlike};
+ghost use Rattle.block_join.specs.Kept.{shown, score_of, AreScores};
 ghost use Rattle.block_join.specs.Scores.{between};
 ghost use Rattle.score_math.specs.Scores.{mode_of};
 ghost use Rattle.score_math.specs.declared.score.TheConstants.{SCORE_CAP};
@@ -123,53 +123,8 @@ impl<'a> Cursor<'a> {
         }
     }
 
-    /// The mode of the scores of the documents before `end`. It goes on at `end`.
-    ///
-    /// Where all documents share one score, the first decides the mean, the greatest and the least.
-    pub fn mode_before(&mut self, end: u32, mode: ScoreMode) -> Option<u64>
-        requires ordered { self.old.from ≤ end }
-        requires within { end ≤ length self.old.scores }
-        ensures value { result ≡ mode_of mode (between self.old.scores self.old.from end) }
-        ensures capped { IfSome result (λ score. score ≤ SCORE_CAP) }
-        ensures place { self.new ≡ record { scores = self.old.scores; from = end } }
-    {
-        match mode {
-            ScoreMode::Sum | ScoreMode::Zero => self.summed_before(end, mode),
-            ScoreMode::Avg | ScoreMode::Max | ScoreMode::Min => {
-                if self.is_alike() {
-                    self.first_before(end, mode)
-                } else {
-                    self.summed_before(end, mode)
-                }
-            }
-        }
-    }
-
-    /// Whether all documents share one score, as far as that is known without reading them.
-    fn is_alike(&self) -> bool
-        ensures { IsTrue result → AreAlike self.now.scores }
-    {
-        matches!(self.scores, Scores::Same(_))
-    }
-
-    /// The mode of the scores of the documents before `end`, which are equal. It goes on at `end`.
-    fn first_before(&mut self, end: u32, mode: ScoreMode) -> Option<u64>
-        requires ordered { self.old.from ≤ end }
-        requires within { end ≤ length self.old.scores }
-        requires alike { AreAlike self.old.scores }
-        requires no_sum { mode ≢ ScoreMode.Sum }
-        requires some { mode ≢ ScoreMode.Zero }
-        ensures value { result ≡ mode_of mode (between self.old.scores self.old.from end) }
-        ensures capped { IfSome result (λ score. score ≤ SCORE_CAP) }
-        ensures place { self.new ≡ record { scores = self.old.scores; from = end } }
-    {
-        let first = self.next_before(end)?;
-        self.skip(end);
-        Some(first)
-    }
-
     /// The mode of the scores of the documents before `end`, by their sum, count, least and greatest. It goes on at `end`.
-    fn summed_before(&mut self, end: u32, mode: ScoreMode) -> Option<u64>
+    pub fn mode_before(&mut self, end: u32, mode: ScoreMode) -> Option<u64>
         requires ordered { self.old.from ≤ end }
         requires within { end ≤ length self.old.scores }
         ensures value { result ≡ mode_of mode (between self.old.scores self.old.from end) }

@@ -1,11 +1,11 @@
 //! The join down: scores of documents go to the documents inside them.
 
-ghost use Rattle.std.specs.Prelude.{◌≡◌, ◌≢◌, ℕ, ◌+◌, ◌<◌, ◌≤◌, ◌++◌, List, length, take, drop, Some, IfOk, OnOk};
+ghost use Rattle.std.specs.Prelude.{◌≡◌, ◌≢◌, ℕ, ◌+◌, ◌<◌, ◌≤◌, ◌++◌, List, length, take, drop, Some, IfOk, IfSome, OnOk};
 ghost use Rattle.std.specs.List.{zip};
 ghost use Rattle.score_math.specs.declared.score.TheConstants.{SCORE_CAP};
 ghost use Rattle.block_bits.specs.Blocks.{documents_of};
 ghost use Rattle.block_join.specs.Joins.{spread};
-ghost use Rattle.block_join.specs.Kept.{IsStart};
+ghost use Rattle.block_join.specs.Kept.{IsStart, holder};
 ghost use Rattle.block_join.specs.Scores.{filled, padded};
 
 use crate::up::hitting_parent;
@@ -38,6 +38,62 @@ pub fn to_child(
 ///
 /// In blocks these are the documents inside the hit. It costs the hits and the documents inside them.
 pub fn join_down(
+    alloc: Global,
+    parents: &BitSet,
+    children: &BitSet,
+    parent: &Scored,
+) -> Result<Scored, NoMemory>
+    requires documents { length parent.now ≡ length parents.now }
+    requires inner { length children.now ≡ length parents.now }
+    ensures scores { (scopes : List ℕ) (from to : ℕ) → from ≢ to → parents.now ≡ documents_of scopes from → children.now ≡ documents_of scopes to → IfOk result (λ made. made ≡ spread from to (zip scopes parent.now)) }
+    ensures long { IfOk result (λ made. length made ≡ length parents.now) }
+{
+    match parent.shared() {
+        Some(score) => Ok(Scored::same(held(alloc, parents, children, parent.set())?, score)),
+        None => Ok(spread_each(alloc, parents, children, parent)?),
+    }
+}
+
+/// The documents of the second set inside a hit of the first: those between the hits are taken out of it.
+fn held(
+    alloc: Global,
+    parents: &BitSet,
+    children: &BitSet,
+    hits: &BitSet,
+) -> Result<BitSet, NoMemory>
+    requires documents { length hits.now ≡ length parents.now }
+    requires inner { length children.now ≡ length parents.now }
+    ensures held { (scopes : List ℕ) (from to score : ℕ) → from ≢ to → parents.now ≡ documents_of scopes from → children.now ≡ documents_of scopes to → IfOk result (λ set. filled (Some score) set ≡ spread from to (zip scopes (filled (Some score) hits.now))) }
+    ensures long { IfOk result (λ set. length set ≡ length parents.now) }
+{
+    let len = parents.len();
+    let mut set = children.copy(alloc)?;
+    let mut from = 0;
+    'hits: while let Some(at) = holder(parents, hits, from) {
+        let inside = start_of(parents, at);
+        let start = if hits.has(at) { inside } else { at };
+        set.clear_range(from, start);
+        set.clear(at);
+        from = at + 1;
+    }
+    set.clear_range(from, len);
+    Ok(set)
+}
+
+/// The first parent that is or follows the next hit.
+fn holder(parents: &BitSet, hits: &BitSet, from: u32) -> Option<u32>
+    requires { length hits.now ≡ length parents.now }
+    ensures value { result ≡ holder parents.now hits.now from }
+    ensures within { IfSome result (λ at. (from ≤ at) × (at < length parents.now)) }
+{
+    match hits.next_set(from) {
+        Some(doc) => parents.next_set(doc),
+        None => None,
+    }
+}
+
+/// The join down of hits with scores of their own.
+fn spread_each(
     alloc: Global,
     parents: &BitSet,
     children: &BitSet,

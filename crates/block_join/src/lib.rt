@@ -11,6 +11,7 @@ mod cursor;
 mod down;
 mod matches;
 mod merge;
+mod reached;
 mod rule;
 mod scored;
 mod scores;

@@ -1,6 +1,6 @@
 use Rattle.std.proofs.Common.{sym, ◌∙◌}
 use Rattle.block_join.proofs.Summing.{summing_one, summing_more, summing_ends, summing_bounded}
-use Rattle.block_join.proofs.cursor.Cursor.summed_before.Goals as goal
+use Rattle.block_join.proofs.cursor.Cursor.mode_before.Goals as goal
 
 pub scores-init : goal.scores-init
 scores-init c =
