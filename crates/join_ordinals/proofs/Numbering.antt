@@ -4,7 +4,9 @@ use Rattle.std.specs.Prelude.{Vec}
 use Rattle.std.proofs.lemmas.Bool.{cases_lt}
 use Rattle.segment.specs.Live.{EntryState, IsLiveOver}
 use Rattle.segment_view.specs.Views.{is_live_root}
-use Rattle.join_ordinals.specs.Ordinals.{AreRows, IsNumbered, StandOnce, flat, ordinal_at, ordinal_in, own_id, parent_id}
+use Rattle.std.specs.List.{range_with_len}
+use Rattle.std.proofs.lemmas.List.FromFn.{length-map-range_with_len, get_or-map-range_with_len}
+use Rattle.join_ordinals.specs.Ordinals.{AreRelations, AreRows, IsNumbered, StandOnce, flat, ordinal_at, ordinal_in, own_id, own_relation, parent_id}
 use Rattle.join_ordinals.specs.Rows.{IsRow, Keep, id_by, rows_seen}
 use Rattle.join_ordinals.specs.declared.rows.Whose.{Whose}
 use Rattle.join_ordinals.specs.declared.rows.Whose.TheVariants.{Own, Parent}
@@ -119,5 +121,45 @@ rows_more old new id_of view rows entry row was keep own = record {
         let same_entry : entry ≡ e = cc in
         subst (λ (r : Option (List (Option ℕ))). IsNumbered new (id_of e root) (ordinal_in r root)) (sym (get_end rows row place (omega (arith, end, was.entries))))
         (subst (λ (x : EntryState). IsNumbered new (id_of x root) (flat (slice_get row root))) same_entry (own root))
+  ];
+}
+
+-- ---- relations
+
+pub relations_start : AreRelations [] []
+relations_start = record { entries = refl; known = λ place root entry is. absurd (let no : ⊥ = cc in no) }
+
+pub whole_relations : (entry : EntryState) (row : List (Option ℕ)) (root : ℕ) → IsLiveOver entry.columns entry.live → row ≡ map (own_relation entry) (range_with_len 0 (length entry.columns.roots)) → flat (slice_get row root) ≡ own_relation entry root
+whole_relations entry row root live is =
+    let long : length row ≡ length entry.columns.roots = ap length is ∙ length-map-range_with_len (own_relation entry) 0 (length entry.columns.roots) in
+    elim (cases_lt root (length row)) [
+      | inl below ↦
+          ap flat
+          (got row root None below
+          ∙ ap Some (ap (λ (l : List (Option ℕ)). get_or l root None) is ∙ get_or-map-range_with_len (own_relation entry) 0 (length entry.columns.roots) root root None (omega (arith, below, long)) (omega arith)))
+      | inr past ↦
+          let dead : is_live_root root entry ≡ false = or_past entry.live.roots root false (omega (arith, past, long, live.roots)) in
+          rw (get_past row root past, dead) refl
+    ]
+  where
+    got : (xs : List (Option ℕ)) (k : ℕ) (d : Option ℕ) → k < length xs → slice_get xs k ≡ Some (get_or xs k d)
+    got [] k d below = absurd (omega (arith, below))
+    got (x ∷ xs) zero d below = refl
+    got (x ∷ xs) (suc k) d below = got xs k d (omega (arith, below))
+
+pub relations_more : (view : List EntryState) (rows : List (List (Option ℕ))) (entry : EntryState) (row : List (Option ℕ))
+    → AreRelations view rows → ((root : ℕ) → flat (slice_get row root) ≡ own_relation entry root) → AreRelations (view ++ entry ∷ []) (rows ++ row ∷ [])
+relations_more view rows entry row was own = record {
+  entries = omega (arith, was.entries, length-append rows (row ∷ []), length-append view (entry ∷ []));
+  known = λ place root e is. elim (cases_lt place (length view)) [
+    | inl left ↦
+        let before : slice_get view place ≡ Some e = sym (get_left view (entry ∷ []) place left) ∙ is in
+        ap (λ (r : Option (List (Option ℕ))). ordinal_in r root) (get_left rows (row ∷ []) place (omega (arith, left, was.entries))) ∙ was.known place root e before
+    | inr past ↦
+        let end : place ≡ length view = omega (arith, past, get_within (view ++ entry ∷ []) place e is, length-append view (entry ∷ [])) in
+        let same : Some entry ≡ Some e = sym (get_end view entry place end) ∙ is in
+        let same_entry : entry ≡ e = cc in
+        ap (λ (r : Option (List (Option ℕ))). ordinal_in r root) (get_end rows row place (omega (arith, end, was.entries)))
+        ∙ own root ∙ ap (λ (x : EntryState). own_relation x root) same_entry
   ];
 }

@@ -22,13 +22,24 @@ parent_in (Child relation parent) = Some parent
 abbrev pub parent_id : EntryState → ℕ → Option (List ℕ)
 parent_id entry root = if is_live_root root entry then parent_in (root_of entry.columns.roots root).join else None
 
+-- the relation that a join value names
+abbrev pub relation_in : Join → Option ℕ
+relation_in Unjoined = None
+relation_in (Named relation) = Some relation
+relation_in (Child relation parent) = Some relation
+
+-- that of a live root
+abbrev pub own_relation : EntryState → ℕ → Option ℕ
+own_relation entry root = if is_live_root root entry then relation_in (root_of entry.columns.roots root).join else None
+
 -- ---- ordinals, by the entry and the root
 
--- how many ids there are, and the ordinals of roots and of their parents, a row for each entry
+-- how many ids there are, the ordinals of roots and of their parents, and the relations of roots, a row for each entry
 pub record Ordinals : Type 0 where
   pub count : ℕ
   pub own : List (List (Option ℕ))
   pub parents : List (List (Option ℕ))
+  pub relations : List (List (Option ℕ))
 
 abbrev pub flat : Option (Option ℕ) → Option ℕ
 flat None = None
@@ -56,15 +67,21 @@ pub record AreRows (ids : List (List ℕ)) (id_of : EntryState → ℕ → Optio
   pub entries : length rows ≡ length view
   pub numbered : (place root : ℕ) (entry : EntryState) → slice_get view place ≡ Some entry → IsNumbered ids (id_of entry root) (ordinal_at rows place root)
 
+-- the relation of each root of each entry
+pub record AreRelations (view : List EntryState) (rows : List (List (Option ℕ))) : Type 0 where
+  pub entries : length rows ≡ length view
+  pub known : (place root : ℕ) (entry : EntryState) → slice_get view place ≡ Some entry → ordinal_at rows place root ≡ own_relation entry root
+
 -- no id stands twice
 abbrev pub StandOnce : List (List ℕ) → Type 0
 StandOnce ids = (i j : ℕ) (id : List ℕ) → slice_get ids i ≡ Some id → slice_get ids j ≡ Some id → i ≡ j
 
 -- Ordinals of a view: there are ids, none of them twice, and each ordinal is the index of its id among them. So two
--- ordinals are equal exactly where the ids are, over all entries.
+-- ordinals are equal exactly where the ids are, over all entries. Each live root has its relation.
 pub record AreOrdinals (view : List EntryState) (ordinals : Ordinals) : Type 0 where
   pub ids : List (List ℕ)
   pub once : StandOnce ids
   pub count : length ids ≡ ordinals.count
   pub own : AreRows ids own_id view ordinals.own
   pub parents : AreRows ids parent_id view ordinals.parents
+  pub relations : AreRelations view ordinals.relations

@@ -6,18 +6,19 @@ ghost use Rattle.join_ordinals.specs.Rows.{rows_seen};
 
 use crate::NoMemory;
 use crate::ids::Ids;
-use crate::rows::{Whose, rows_of};
+use crate::rows::{Whose, relations_of, rows_of};
 use segment_view::View;
 use std::alloc::Global;
 use std::marker::Model;
 
-/// An ordinal for the id of each live root of a view, and one for the id of its parent where it names one. They are made
-/// for a search that joins, and serve as long as the view stands.
+/// An ordinal for the id of each live root of a view, and one for the id of its parent where it names one, with the root's
+/// relation. They are made for a search that joins, and serve as long as the view stands.
 #[derive(Drop)]
 pub struct JoinOrdinals {
     count: usize,
     own: Vec<Vec<Option<u32>>>,
     parents: Vec<Vec<Option<u32>>>,
+    relations: Vec<Vec<Option<u32>>>,
 }
 
 impl Model for JoinOrdinals {
@@ -26,33 +27,37 @@ impl Model for JoinOrdinals {
 
     ghost Value = { Ordinals };
 
-    ghost view = { λ it. record { count = it.count; own = rows_seen it.own.items; parents = rows_seen it.parents.items } };
+    ghost view = { λ it. record { count = it.count; own = rows_seen it.own.items; parents = rows_seen it.parents.items; relations = rows_seen it.relations.items } };
 }
 
 impl JoinOrdinals {
-    /// The ordinals of a view. It costs one look-up of an id for each live root, and one for its parent.
+    /// The ordinals of a view. It costs one look-up of an id for each live root, and one for its parent; its join value is read
+    /// here, so that no search reads it again.
     pub fn over(alloc: Global, view: &View) -> Result<JoinOrdinals, NoMemory>
         ensures { IfOk result (AreOrdinals view.now) }
     {
         let mut ids = Ids::none(alloc);
         let own = rows_of(alloc, view.entries(), Whose::Own, &mut ids)?;
         let parents = rows_of(alloc, view.entries(), Whose::Parent, &mut ids)?;
+        let relations = relations_of(alloc, view.entries())?;
         let count = ids.count();
         Ok(JoinOrdinals {
             count,
             own,
             parents,
+            relations,
         })
     }
 
     /// No ordinals, for a search that joins nothing. Takes no memory.
     pub fn none(alloc: Global) -> JoinOrdinals
-        ensures { result ≡ record { count = 0; own = []; parents = [] } }
+        ensures { result ≡ record { count = 0; own = []; parents = []; relations = [] } }
     {
         JoinOrdinals {
             count: 0,
             own: Vec::new(alloc),
             parents: Vec::new(alloc),
+            relations: Vec::new(alloc),
         }
     }
 
@@ -75,6 +80,13 @@ impl JoinOrdinals {
         ensures { result ≡ ordinal_at self.now.parents place root }
     {
         ordinal_of(self.parents.as_slice(), place, root)
+    }
+
+    /// Its relation; of ordinals of a view None exactly where no live root is there that has one.
+    pub fn relation(&self, place: usize, root: u32) -> Option<u32>
+        ensures { result ≡ ordinal_at self.now.relations place root }
+    {
+        ordinal_of(self.relations.as_slice(), place, root)
     }
 }
 

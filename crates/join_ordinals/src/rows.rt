@@ -1,9 +1,10 @@
 //! The ordinals of the roots of each entry.
 
-ghost use Rattle.std.specs.Prelude.{◌≡◌, ◌<◌, length, IfOk, OnOk};
+ghost use Rattle.std.specs.Prelude.{◌≡◌, ◌<◌, length, map, IfOk, OnOk};
+ghost use Rattle.std.specs.List.{range_with_len};
 ghost use Rattle.std.specs.Option.{option_map};
 ghost use Rattle.stored_sources.specs.Roots.{lent_join};
-ghost use Rattle.join_ordinals.specs.Ordinals.{AreRows, IsNumbered, parent_in};
+ghost use Rattle.join_ordinals.specs.Ordinals.{AreRelations, AreRows, IsNumbered, own_relation, parent_in, relation_in};
 ghost use Rattle.join_ordinals.specs.Rows.{Keep, IsRow, id_by, rows_seen};
 
 use crate::NoMemory;
@@ -91,6 +92,58 @@ pub(crate) fn rows_of<'a>(
     'entries: for entry in entries {
         let _live = entry.live();
         let row = row_of(alloc, entry, whose, ids)?;
+        rows.push(row)?;
+    }
+    Ok(rows)
+}
+
+/// The relation that a join value names.
+fn relation_in(join: JoinValue<'_>) -> Option<u32>
+    ensures { result ≡ relation_in (lent_join join.entry) }
+{
+    match join {
+        JoinValue::Unjoined => None,
+        JoinValue::Named(relation) => Some(relation),
+        JoinValue::Child(relation, _) => Some(relation),
+    }
+}
+
+/// The relation of a root, if it is live.
+fn relation_of(entry: &Entry, root: u32) -> Option<u32>
+    requires { root < length entry.now.columns.roots }
+    ensures { result ≡ own_relation entry.now root }
+{
+    let live = entry.live();
+    if live.root(root) {
+        relation_in(entry.segment().root_join(root))
+    } else {
+        None
+    }
+}
+
+/// The relations of an entry's roots.
+fn relation_row(alloc: Global, entry: &Entry) -> Result<Vec<Option<u32>>, NoMemory>
+    ensures { IfOk result (λ row. row.items ≡ map (own_relation entry.now) (range_with_len 0 (length entry.now.columns.roots))) }
+{
+    let count = entry.segment().roots();
+    let mut row = Vec::with_capacity(alloc, count as usize)?;
+    'roots: for root in 0..count {
+        row.push(relation_of(entry, root))?;
+    }
+    Ok(row)
+}
+
+/// The relations of the roots of each entry.
+pub(crate) fn relations_of(
+    alloc: Global,
+    entries: &[Entry],
+) -> Result<Vec<Vec<Option<u32>>>, NoMemory>
+    ensures { IfOk result (λ rows. AreRelations entries.now (rows_seen rows.items)) }
+{
+    let mut rows = Vec::with_capacity(alloc, entries.len())?;
+    'entries: for entry in entries {
+        let _live = entry.live();
+        let row = relation_row(alloc, entry)?;
         rows.push(row)?;
     }
     Ok(rows)

@@ -10,7 +10,7 @@ use Rattle.std.proofs.lemmas.Option.{same_Some}
 use Rattle.std.proofs.lemmas.Slice.Eq.{bytes_eq-Decides}
 use Rattle.flattener.specs.Block.{join_by, kept_join, root_of_tree}
 use Rattle.flattener.specs.StandsFor.{EntryStandsFor, Marked, ViewStandsFor}
-use Rattle.join_ordinals.specs.Ordinals.{AreOrdinals, IsNumbered, Ordinals, StandOnce, ordinal_at, own_id, parent_id, parent_in}
+use Rattle.join_ordinals.specs.Ordinals.{AreOrdinals, IsNumbered, Ordinals, StandOnce, ordinal_at, own_id, parent_id, parent_in, relation_in}
 use Rattle.mapping.specs.Mapping.{Mapping, relation_at}
 use Rattle.query_ast.specs.Joined.{has_relation, is_child, is_child_by, is_id, is_number, is_parent_by, is_parent_relation, names_parent, roots}
 use Rattle.segment.specs.Flat.{FlatRoot, flat_root, roots_of}
@@ -21,7 +21,7 @@ use Rattle.tree_objects.specs.Object.{Object, root}
 use Rattle.tree_objects.specs.Tree.{Tree}
 use Rattle.tree_objects.specs.Values.{Joined, join_of}
 use Rattle.query_eval.specs.Found.{live_in, live_trees}
-use Rattle.query_eval.specs.Sides.{is_on, key_at, key_of, keys_at, ordinal_by, pair_if, relation_in, scores_of, told}
+use Rattle.query_eval.specs.Sides.{is_on, key_at, key_of, keys_at, ordinal_by, pair_if, scores_of, told}
 use Rattle.query_eval.specs.declared.side.Side.{Side}
 use Rattle.query_eval.specs.declared.side.Side.TheVariants.{Parents, Children, ChildrenOf}
 

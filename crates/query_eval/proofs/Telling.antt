@@ -5,13 +5,14 @@ use Rattle.std.proofs.lemmas.Bool.{cases_Bool, eqb-true}
 use Rattle.std.proofs.lemmas.List.{length-map}
 use Rattle.std.proofs.lemmas.List.FromFn.{get_or-map-range_with_len, length-map-range_with_len, map-range_with_len_more}
 use Rattle.stored_sources.specs.Roots.{root_of}
-use Rattle.join_ordinals.specs.Ordinals.{AreOrdinals, IsNumbered, Ordinals, ordinal_at, own_id, parent_id}
+use Rattle.join_ordinals.specs.Ordinals.{AreOrdinals, IsNumbered, Ordinals, ordinal_at, own_id, own_relation, parent_id, parent_in, relation_in}
+use Rattle.segment_view.specs.Views.{is_live_root}
 use Rattle.mapping.specs.Mapping.{Mapping}
 use Rattle.block_bits.specs.Blocks.{documents_of}
 use Rattle.segment.specs.Live.{EntryState}
 use Rattle.segment_parts.specs.declared.columns.Columns.{Columns}
 use Rattle.query_eval.specs.Folds.{scopes_in}
-use Rattle.query_eval.specs.Sides.{AreTallies, HaveTallies, TallyOf, answer_for, answer_of, at_roots, given_by, is_on, key_at, keys_at, of_roots, ordinal_by, pair_if, relation_in, roots_in, scores_of, told, told_by}
+use Rattle.query_eval.specs.Sides.{AreTallies, HaveRelations, HaveTallies, TallyOf, answer_for, answer_of, at_roots, given_by, is_on, key_at, keys_at, of_roots, ordinal_by, pair_if, roots_in, scores_of, told, told_by}
 use Rattle.query_eval.specs.declared.side.Side.{Side}
 use Rattle.query_eval.specs.declared.side.Side.TheVariants.{Parents, Children, ChildrenOf}
 use Rattle.query_eval.specs.declared.answer.Answer.{Answer}
@@ -112,6 +113,27 @@ module _ (view : List EntryState) (ordinals : Ordinals) (o : AreOrdinals view or
       by_side root (Children r) = parent root
       by_side root (ChildrenOf r) = parent root
 
+  -- each root that has an ordinal is live, so that its relation is kept
+  kept : (live : Bool) (id : Option (List ℕ)) (key relation : Option ℕ) → IsNumbered o.ids (cond live id None) key → IfSome key (λ k. cond live relation None ≡ relation)
+  kept true id None relation is = tt
+  kept true id (Some k) relation is = refl
+  kept false id None relation is = tt
+  kept false id (Some k) relation is = absurd is
+
+  pub have_relations : (place : ℕ) (e : EntryState) → slice_get view place ≡ Some e → HaveRelations ordinals side e.columns place
+  have_relations place e at = λ root. by_side root side
+    where
+      relation : ℕ → Option ℕ
+      relation root = relation_in (root_of e.columns.roots root).join
+
+      as_kept : (root : ℕ) (key : Option ℕ) → IfSome key (λ k. own_relation e root ≡ relation root) → IfSome key (λ k. ordinal_at ordinals.relations place root ≡ relation root)
+      as_kept root key is = subst (λ (r : Option ℕ). IfSome key (λ k. r ≡ relation root)) (sym (o.relations.known place root e at)) is
+
+      by_side : (root : ℕ) (s : Side) → IfSome (ordinal_by s (ordinal_at ordinals.own place root) (ordinal_at ordinals.parents place root)) (λ k. ordinal_at ordinals.relations place root ≡ relation root)
+      by_side root (Parents r) = as_kept root (ordinal_at ordinals.own place root) (kept (is_live_root root e) (Some (root_of e.columns.roots root).id) (ordinal_at ordinals.own place root) (relation root) (o.own.numbered place root e at))
+      by_side root (Children r) = as_kept root (ordinal_at ordinals.parents place root) (kept (is_live_root root e) (parent_in (root_of e.columns.roots root).join) (ordinal_at ordinals.parents place root) (relation root) (o.parents.numbered place root e at))
+      by_side root (ChildrenOf r) = as_kept root (ordinal_at ordinals.parents place root) (kept (is_live_root root e) (parent_in (root_of e.columns.roots root).join) (ordinal_at ordinals.parents place root) (relation root) (o.parents.numbered place root e at))
+
 -- ---- one entry more
 
 module _ (m : Mapping) (ordinals : Ordinals) (side : Side) where
@@ -153,6 +175,9 @@ at_place (x ∷ view) (suc k) e below is = at_place view k e (omega (arith, belo
 module _ (m : Mapping) (ordinals : Ordinals) (side : Side) (view : List EntryState) (place : ℕ) (e : EntryState) (c : Columns) (below : place < length view) (is : e ≡ get_or view place e) (own : c ≡ e.columns) where
   pub tell_keys : (o : AreOrdinals view ordinals) (count : ℕ) → count ≡ ordinals.count → HaveTallies ordinals side place count
   tell_keys o count many = subst (HaveTallies ordinals side place) (sym many) (have_tallies view ordinals o side place e (at_place view place e below is))
+
+  pub tell_relations : (o : AreOrdinals view ordinals) → HaveRelations ordinals side c place
+  tell_relations o = subst (λ (x : Columns). HaveRelations ordinals side x place) (sym own) (have_relations view ordinals o side place e (at_place view place e below is))
 
   first_entries : length (take place view) ≡ place
   first_entries = taken view place below
@@ -228,6 +253,30 @@ module _ (m : Mapping) (ordinals : Ordinals) (side : Side) (c : Columns) (place 
       by true = have root
       by false = tt
 
+  -- the relation that is kept of the root
+  abbrev pub kept_on : Bool
+  kept_on = is_on m side (ordinal_at ordinals.relations place root)
+
+  pub does_is : (k : ℕ) → HaveRelations ordinals side c place → would ≡ Some k → does ≡ kept_on
+  does_is k have is = ap (is_on m side) (sym (named would (have root) is))
+    where
+      named : (key : Option ℕ) → IfSome key (λ ordinal. ordinal_at ordinals.relations place root ≡ relation_in (root_of c.roots root).join) → key ≡ Some k → ordinal_at ordinals.relations place root ≡ relation_in (root_of c.roots root).join
+      named None h e = absurd (let no : ⊥ = cc in no)
+      named (Some j) h e = h
+
+  pub key_none : would ≡ None → None ≡ key_at m ordinals side c place root
+  key_none none = sym (ap (λ (x : Option ℕ). cond does x None) none ∙ by does)
+    where
+      by : (on : Bool) → ◌≡◌ {A = Option ℕ} (cond on None None) None
+      by true = refl
+      by false = refl
+
+  pub key_on : (k : ℕ) → HaveRelations ordinals side c place → would ≡ Some k → kept_on ≡ true → Some k ≡ key_at m ordinals side c place root
+  key_on k have is on = sym (ap (λ (b : Bool). cond b would None) (does_is k have is ∙ on) ∙ is)
+
+  pub key_off : (k : ℕ) → HaveRelations ordinals side c place → would ≡ Some k → kept_on ≡ false → None ≡ key_at m ordinals side c place root
+  key_off k have is off = sym (ap (λ (b : Bool). cond b would None) (does_is k have is ∙ off))
+
   module _ (asked : Answer) (pairs : List (ℕ × ℕ)) where
     abbrev pub given_here : Option ℕ
     given_here = get_or (map (answer_for asked pairs) (keys_at m ordinals side c place)) root None
@@ -256,8 +305,8 @@ module _ (m : Mapping) (ordinals : Ordinals) (side : Side) (c : Columns) (place 
         by true = sym none
         by false = refl
 
-    pub given_off : root < length c.roots → does ≡ false → None ≡ given_here
-    given_off below off = sym (given_at below ∙ ap (λ (b : Bool). answer_for asked pairs (cond b would None)) off)
+    pub given_off : (k : ℕ) → root < length c.roots → HaveRelations ordinals side c place → would ≡ Some k → kept_on ≡ false → None ≡ given_here
+    given_off k below have is off = sym (given_at below ∙ ap (λ (b : Bool). answer_for asked pairs (cond b would None)) (does_is k have is ∙ off))
 
-    pub given_some : (k : ℕ) (score : Option ℕ) → root < length c.roots → would ≡ Some k → does ≡ true → score ≡ answer_of asked (scores_of k pairs) → score ≡ given_here
-    given_some k score below is on own = own ∙ sym (given_at below ∙ ap (λ (b : Bool). answer_for asked pairs (cond b would None)) on ∙ ap (answer_for asked pairs) is)
+    pub given_some : (k : ℕ) (score : Option ℕ) → root < length c.roots → HaveRelations ordinals side c place → would ≡ Some k → kept_on ≡ true → score ≡ answer_of asked (scores_of k pairs) → score ≡ given_here
+    given_some k score below have is on own = own ∙ sym (given_at below ∙ ap (λ (b : Bool). answer_for asked pairs (cond b would None)) (does_is k have is ∙ on) ∙ ap (answer_for asked pairs) is)

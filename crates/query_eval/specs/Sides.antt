@@ -1,7 +1,7 @@
 -- Joins of trees by the ordinals of ids: which roots take part, by which id, and what they are given.
 use Rattle.std.specs.Prelude.{◌≡◌, ℕ, ◌+◌, ◌==◌, ◌<◌, ◌≤◌, Bool, true, false, cond, if◌then◌else◌, List, [], ◌∷◌, ◌++◌, length, map, filter_map, get_or, Option, Some, None, is_some, ◌&&◌, IfSome, ⊤}
 use Rattle.std.specs.List.{list_any, range_with_len}
-use Rattle.join_ordinals.specs.Ordinals.{Ordinals, ordinal_at}
+use Rattle.join_ordinals.specs.Ordinals.{Ordinals, ordinal_at, relation_in}
 use Rattle.mapping.specs.Mapping.{Mapping, relation_at}
 use Rattle.query_ast.specs.Hit.{children_score, parent_score}
 use Rattle.query_ast.specs.Joined.{is_child_by, is_number, roots, child_trees, parent_trees}
@@ -10,7 +10,6 @@ use Rattle.segment.specs.Live.{EntryState}
 use Rattle.segment_parts.specs.declared.columns.Columns.{Columns}
 use Rattle.stored_sources.specs.Roots.{root_of}
 use Rattle.stored_sources.specs.declared.root.Join.{Join}
-use Rattle.stored_sources.specs.declared.root.Join.TheVariants.{Unjoined, Named, Child}
 use Rattle.tree_objects.specs.Object.{Object, root as root_of_tree, tree_of}
 use Rattle.tree_objects.specs.Tree.{Tree}
 use Rattle.block_bits.specs.Blocks.{documents_of}
@@ -23,11 +22,6 @@ use Rattle.query_eval.specs.declared.answer.Answer.TheVariants as answer
 use Rattle.query_eval.specs.declared.tally.Tally.{Tally}
 
 -- ---- keys
-
-abbrev pub relation_in : Join → Option ℕ
-relation_in Unjoined = None
-relation_in (Named relation) = Some relation
-relation_in (Child relation parent) = Some relation
 
 -- whether roots of a relation take part
 abbrev pub is_on : Mapping → Side → Option ℕ → Bool
@@ -54,6 +48,11 @@ key_at m ordinals side columns place root =
 abbrev pub HaveTallies : Ordinals → Side → ℕ → ℕ → Type 0
 HaveTallies ordinals side place count =
     (root : ℕ) → IfSome (ordinal_by side (ordinal_at ordinals.own place root) (ordinal_at ordinals.parents place root)) (λ ordinal. ordinal < count)
+
+-- the relations that are kept of those roots are those that their join values name
+abbrev pub HaveRelations : Ordinals → Side → Columns → ℕ → Type 0
+HaveRelations ordinals side columns place =
+    (root : ℕ) → IfSome (ordinal_by side (ordinal_at ordinals.own place root) (ordinal_at ordinals.parents place root)) (λ ordinal. ordinal_at ordinals.relations place root ≡ relation_in (root_of columns.roots root).join)
 
 -- the keys of all its roots
 abbrev pub keys_at : Mapping → Ordinals → Side → Columns → ℕ → List (Option ℕ)

@@ -1,6 +1,6 @@
 //! Joins of blocks over all entries of a view.
 
-ghost use Rattle.std.specs.Prelude.{◌≡◌, ◌<◌, ℕ, List, Option, length, IfOk};
+ghost use Rattle.std.specs.Prelude.{◌≡◌, ◌<◌, ◌≤◌, ℕ, List, Option, length, IfNone, IfOk, IfSome};
 ghost use Rattle.block_bits.specs.Blocks.{documents_of};
 ghost use Rattle.flattener.specs.StandsFor.{EntryStandsFor, Marked};
 ghost use Rattle.mapping.specs.Mapping.{Mapping as Meaning, IsAbove};
@@ -59,8 +59,13 @@ fn up_scores(
         → IfOk result (λ made. made ≡ seen m (at_scope to (gathered m (mode_of mode) from given)) trees) }
 {
     joins_are_of_trees();
-    let parents = scope_set(alloc, segment, to)?;
-    Ok(join_up(alloc, &parents, hits, mode)?)
+    match lent_set(segment, to) {
+        Some(parents) => Ok(join_up(alloc, parents, hits, mode)?),
+        None => {
+            let parents = scope_set(alloc, segment, to)?;
+            Ok(join_up(alloc, &parents, hits, mode)?)
+        }
+    }
 }
 
 /// The objects of a scope inside hits of one above it, each with the score of the hit around it.
@@ -100,9 +105,30 @@ fn down_scores(
 {
     joins_are_of_trees();
     scopes_form_chains();
-    let parents = scope_set(alloc, segment, from)?;
-    let children = scope_set(alloc, segment, to)?;
-    Ok(join_down(alloc, &parents, &children, hits)?)
+    match (lent_set(segment, from), lent_set(segment, to)) {
+        (Some(parents), Some(children)) => Ok(join_down(alloc, parents, children, hits)?),
+        _ => {
+            let parents = scope_set(alloc, segment, from)?;
+            let children = scope_set(alloc, segment, to)?;
+            Ok(join_down(alloc, &parents, &children, hits)?)
+        }
+    }
+}
+
+/// The documents of a scope of a segment, if it has the scope.
+fn lent_set(segment: &Segment, scope: u32) -> Option<&BitSet>
+    ensures set { IfSome result (λ set. set.now ≡ documents_of (scopes_in segment.now) scope) }
+    ensures long { IfSome result (λ set. length set.now ≡ segment.now.documents) }
+    ensures none { IfNone result (length segment.now.scopes ≤ scope) }
+{
+    scopes_are_of_documents(segment);
+    let _documents = segment.docs();
+    let scopes = segment.scopes().as_slice();
+    let place = scope as usize;
+    if place >= scopes.len() {
+        return None;
+    }
+    Some(&scopes[place])
 }
 
 /// The documents of a scope of a segment; a scope that the segment doesn't have has none.
@@ -112,10 +138,8 @@ pub(crate) fn scope_set(alloc: Global, segment: &Segment, scope: u32) -> Result<
 {
     scopes_are_of_documents(segment);
     let documents = segment.docs();
-    let scopes = segment.scopes().as_slice();
-    let place = scope as usize;
-    if place >= scopes.len() {
-        return Ok(BitSet::empty(alloc, documents)?);
+    match lent_set(segment, scope) {
+        Some(set) => Ok(set.copy(alloc)?),
+        None => Ok(BitSet::empty(alloc, documents)?),
     }
-    Ok(scopes[place].copy(alloc)?)
 }

@@ -1,10 +1,11 @@
 //! By which ordinal a root takes part in a join of trees.
 
 ghost use Rattle.std.specs.Prelude.{◌≡◌, ◌<◌, length};
-ghost use Rattle.join_ordinals.specs.Ordinals.{ordinal_at};
+ghost use Rattle.join_ordinals.specs.Ordinals.{ordinal_at, relation_in};
 ghost use Rattle.mapping.specs.Mapping.{relation_at};
-ghost use Rattle.query_eval.specs.Sides.{is_on, key_at, ordinal_by, relation_in};
+ghost use Rattle.query_eval.specs.Sides.{HaveRelations, is_on, key_at, ordinal_by};
 ghost use Rattle.query_ast.specs.Joined.{is_number};
+ghost use Rattle.segment_parts.specs.declared.columns.Columns.{Columns};
 ghost use Rattle.stored_sources.specs.Roots.{lent_join, root_of};
 
 use join_ordinals::JoinOrdinals;
@@ -52,8 +53,42 @@ pub(crate) fn ordinal_by(joins: &JoinOrdinals, place: usize, root: u32, side: Si
     }
 }
 
+/// The same, by the relation that is kept with the ordinals: no join value is read.
+#[tactic(auto, using(crate::proofs::Telling::key_none, crate::proofs::Telling::key_on, crate::proofs::Telling::key_off))]
+pub(crate) fn kept_key(
+    mapping: &Mapping,
+    joins: &JoinOrdinals,
+    place: usize,
+    root: u32,
+    side: Side,
+) -> Option<u32>
+    ensures { (columns : Columns) → HaveRelations joins.now side columns place → result ≡ key_at mapping.now joins.now side columns place root }
+{
+    let Some(ordinal) = ordinal_by(joins, place, root, side) else {
+        return None;
+    };
+    if is_kept_on(mapping, joins, place, root, side) {
+        Some(ordinal)
+    } else {
+        None
+    }
+}
+
+/// Whether a root takes part, by the relation that is kept of it.
+pub(crate) fn is_kept_on(
+    mapping: &Mapping,
+    joins: &JoinOrdinals,
+    place: usize,
+    root: u32,
+    side: Side,
+) -> bool
+    ensures { result ≡ is_on mapping.now side (ordinal_at joins.now.relations place root) }
+{
+    is_on(mapping, side, joins.relation(place, root))
+}
+
 /// Whether a root takes part, by its relation.
-pub(crate) fn takes_part(mapping: &Mapping, segment: &Segment, root: u32, side: Side) -> bool
+fn takes_part(mapping: &Mapping, segment: &Segment, root: u32, side: Side) -> bool
     requires { root < length segment.now.roots }
     ensures { result ≡ is_on mapping.now side (relation_in (root_of segment.now.roots root).join) }
 {

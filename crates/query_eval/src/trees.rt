@@ -6,7 +6,7 @@ ghost use Rattle.join_ordinals.specs.Ordinals.{AreOrdinals};
 ghost use Rattle.query_ast.specs.Resolved.{IsChildRelation, IsParentRelation};
 ghost use Rattle.query_eval.specs.Folds.{scopes_in};
 ghost use Rattle.query_eval.specs.Found.{AreLong, IsSeen};
-ghost use Rattle.query_eval.specs.Sides.{AreTallies, HaveTallies, answer_for, at_roots, by_relation, children_by, given_by, keys_at, of_roots, pair_if, parent_by, told, told_by};
+ghost use Rattle.query_eval.specs.Sides.{AreTallies, HaveRelations, HaveTallies, answer_for, at_roots, by_relation, children_by, given_by, keys_at, of_roots, pair_if, parent_by, told, told_by};
 ghost use Rattle.score_math.specs.declared.score.TheConstants.{SCORE_CAP};
 ghost use Rattle.tree_objects.specs.Object.{Object};
 ghost use Rattle.tree_objects.specs.Tree.{Tree};
@@ -14,7 +14,7 @@ ghost use Rattle.tree_objects.specs.Tree.{Tree};
 use crate::NoMemory;
 use crate::answer::{Answer, answer_of};
 use crate::nests::scope_set;
-use crate::side::{Side, key_of, ordinal_by, takes_part};
+use crate::side::{Side, is_kept_on, kept_key, ordinal_by};
 use crate::tally::Tally;
 use block_bits::{BitSet, places_are_nearest};
 use block_join::{Builder, Cursor, Matches, Scored};
@@ -225,6 +225,7 @@ fn tell(
     requires documents { length hits.now ≡ length roots.now }
     requires roots { roots.now ≡ documents_of (scopes_in segment.now) 0 }
     requires keys { HaveTallies joins.now side place (length tallies.old.items) }
+    requires relations { HaveRelations joins.now side segment.now place }
     ensures long { length tallies.new.items ≡ length tallies.old.items }
     ensures tallies { (pairs : List (ℕ × ℕ)) → AreTallies pairs tallies.old.items
         → OnOk result (AreTallies (pairs ++ told (keys_at mapping.now joins.now side segment.now place) (of_roots roots.now hits.now)) tallies.new.items) }
@@ -266,6 +267,7 @@ fn key_if(
 ) -> Option<u32>
     requires document { doc < length roots.now }
     requires roots { roots.now ≡ documents_of (scopes_in segment.now) 0 }
+    requires relations { HaveRelations joins.now side segment.now place }
     ensures key { result ≡ get_or (at_roots roots.now (keys_at mapping.now joins.now side segment.now place)) doc None }
     ensures within { (count : ℕ) → HaveTallies joins.now side place count → IfSome result (λ key. key < count) }
 {
@@ -274,14 +276,7 @@ fn key_if(
     }
     scopes_are_of_documents(segment);
     let _documents = segment.docs();
-    key_of(
-        mapping,
-        joins,
-        segment,
-        place,
-        segment.root_of_doc(doc),
-        side,
-    )
+    kept_key(mapping, joins, place, segment.root_of_doc(doc), side)
 }
 
 /// Adds a score to the tally of its key, where there are both.
@@ -314,7 +309,8 @@ fn given(
     tallies: &[Tally],
     answer: Answer,
 ) -> Result<Scored, NoMemory>
-    requires { HaveTallies joins.now side place (length tallies.now) }
+    requires keys { HaveTallies joins.now side place (length tallies.now) }
+    requires relations { HaveRelations joins.now side segment.now place }
     ensures scores { (pairs : List (ℕ × ℕ)) → AreTallies pairs tallies.now → IfOk result (λ scores. scores ≡ at_roots roots.now (map (answer_for answer pairs) (keys_at mapping.now joins.now side segment.now place))) }
     ensures long { IfOk result (λ scores. length scores ≡ length roots.now) }
 {
@@ -330,7 +326,7 @@ fn given(
     Ok(hits.finish())
 }
 
-/// What a root is given. Its join value is read only where its ordinal has scores.
+/// What a root is given. Its relation is looked at only where its ordinal has scores.
 #[tactic(auto, using(crate::proofs::Telling::given_past, crate::proofs::Telling::given_none, crate::proofs::Telling::given_nothing, crate::proofs::Telling::given_off, crate::proofs::Telling::given_some))]
 fn given_to(
     mapping: &Mapping,
@@ -342,7 +338,8 @@ fn given_to(
     tallies: &[Tally],
     answer: Answer,
 ) -> Option<u64>
-    requires { HaveTallies joins.now side place (length tallies.now) }
+    requires keys { HaveTallies joins.now side place (length tallies.now) }
+    requires relations { HaveRelations joins.now side segment.now place }
     ensures given { (pairs : List (ℕ × ℕ)) → AreTallies pairs tallies.now → result ≡ get_or (map (answer_for answer pairs) (keys_at mapping.now joins.now side segment.now place)) root None }
     ensures capped { IfSome result (λ score. score ≤ SCORE_CAP) }
 {
@@ -355,7 +352,7 @@ fn given_to(
     let Some(score) = answer_of(&tallies[ordinal as usize], answer) else {
         return None;
     };
-    if takes_part(mapping, segment, root, side) {
+    if is_kept_on(mapping, joins, place, root, side) {
         Some(score)
     } else {
         None

@@ -2,7 +2,7 @@ use Rattle.std.proofs.Common.{◌≡◌, ◌<◌, ◌≤◌, ◌++◌, Bool, Lis
 use Rattle.segment_parts.specs.declared.columns.Columns.{Columns}
 use Rattle.query_eval.specs.Sides.{AreTallies, keys_at, of_roots, told, told_by}
 use Rattle.query_eval.proofs.Entries.{Scores, long_count, own_long}
-use Rattle.query_eval.proofs.Telling.{tell_keys, told_step, told_whole}
+use Rattle.query_eval.proofs.Telling.{tell_keys, tell_relations, told_step, told_whole}
 use Rattle.query_eval.proofs.trees.gathered.Goals as goal
 
 pub entries-init : goal.entries-init
@@ -24,6 +24,9 @@ tell-requires c =
       keys =
           tell_keys c.args.mapping.now c.args.joins.now c.args.side c.args.entries.now c.entries.place c.index-entries-place.result c.segment-segment.result.now below c.index-entries-place.is c.segment-segment.ensures
           c.requires.ordinals (length c.entries.tallies.items) c.entries.invariant.0;
+      relations =
+          tell_relations c.args.mapping.now c.args.joins.now c.args.side c.args.entries.now c.entries.place c.index-entries-place.result c.segment-segment.result.now below c.index-entries-place.is c.segment-segment.ensures
+          c.requires.ordinals;
     }
 
 pub entries-preserved : goal.entries-preserved

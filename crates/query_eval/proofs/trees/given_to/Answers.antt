@@ -13,7 +13,7 @@ returns-in_default-clause-given c = λ pairs was.
     let below : c.args.root < length c.args.segment.now.roots = subst (λ n. c.args.root < n) c.roots.ensures.roots c.if-root-roots.false in
     given_none c.args.mapping.now c.args.joins.now c.args.side c.args.segment.now c.args.place c.args.root c.args.answer pairs below (sym c.ordinal_by.ensures ∙ c.in_default.is)
 
-pub returns-else-takes_part-clause-given : goal.returns-else-takes_part-clause-given
-returns-else-takes_part-clause-given c = λ pairs was.
+pub returns-else-is_kept_on-clause-given : goal.returns-else-is_kept_on-clause-given
+returns-else-is_kept_on-clause-given c = λ pairs was.
     let below : c.args.root < length c.args.segment.now.roots = subst (λ n. c.args.root < n) c.roots.ensures.roots c.if-root-roots.false in
-    given_off c.args.mapping.now c.args.joins.now c.args.side c.args.segment.now c.args.place c.args.root c.args.answer pairs below (sym c.takes_part.ensures ∙ c.if-takes_part.false)
+    given_off c.args.mapping.now c.args.joins.now c.args.side c.args.segment.now c.args.place c.args.root c.args.answer pairs c.in-Some.ordinal below c.requires.relations (sym c.ordinal_by.ensures ∙ c.in-Some.is) (sym c.is_kept_on.ensures ∙ c.if-is_kept_on.false)

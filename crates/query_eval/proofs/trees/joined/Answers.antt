@@ -3,14 +3,20 @@ use Rattle.segment_parts.specs.declared.columns.Columns.{Columns}
 use Rattle.query_eval.specs.Sides.{AreTallies, answer_for, at_roots, keys_at, told_by}
 use Rattle.query_eval.specs.declared.tally.Tally.{Tally}
 use Rattle.query_eval.proofs.Entries.{all_long, entry_step}
-use Rattle.query_eval.proofs.Telling.{tell_keys, given_step, given_whole}
+use Rattle.query_eval.proofs.Telling.{tell_keys, tell_relations, given_step, given_whole}
 use Rattle.query_eval.proofs.trees.joined.Goals as goal
 
 pub given-requires : goal.given-requires
 given-requires c =
     let below : c.entries.place < length c.args.entries.now = omega (arith, c.entries-test.true) in
-    tell_keys c.args.mapping.now c.args.joins.now c.args.to c.args.entries.now c.entries.place c.index-entries-place.result c.segment-segment.result.now below c.index-entries-place.is c.segment-segment.ensures c.requires.ordinals
-    (length c.as_slice.result.now) (ap length c.as_slice.ensures.value ∙ c.in_ok-tallies.ensures.long)
+    record {
+      keys =
+          tell_keys c.args.mapping.now c.args.joins.now c.args.to c.args.entries.now c.entries.place c.index-entries-place.result c.segment-segment.result.now below c.index-entries-place.is c.segment-segment.ensures c.requires.ordinals
+          (length c.as_slice.result.now) (ap length c.as_slice.ensures.value ∙ c.in_ok-tallies.ensures.long);
+      relations =
+          tell_relations c.args.mapping.now c.args.joins.now c.args.to c.args.entries.now c.entries.place c.index-entries-place.result c.segment-segment.result.now below c.index-entries-place.is c.segment-segment.ensures
+          c.requires.ordinals;
+    }
 
 pub entries-preserved : goal.entries-preserved
 entries-preserved c =

@@ -13,10 +13,10 @@ returns-then-not-has-clause-key c = sym (no_key c.args.roots.now (keys_at c.args
 
 pub returns-clause-key : goal.returns-clause-key
 returns-clause-key c =
-    key_found c.args.mapping.now c.args.joins.now c.args.side c.args.segment.now c.args.place c.args.roots.now c.args.doc c.root_of_doc.result c.key_of.result c.requires.roots
-    (root_set c.args.segment.now c.docs-documents.ensures.agree c.scopes_are_of_documents.ensures.sets) (sym c.has.ensures ∙ c.if-not-has.false) c.root_of_doc.ensures.root c.root_of_doc.ensures.within c.key_of.ensures
+    key_found c.args.mapping.now c.args.joins.now c.args.side c.args.segment.now c.args.place c.args.roots.now c.args.doc c.root_of_doc.result c.kept_key.result c.requires.roots
+    (root_set c.args.segment.now c.docs-documents.ensures.agree c.scopes_are_of_documents.ensures.sets) (sym c.has.ensures ∙ c.if-not-has.false) c.root_of_doc.ensures.root c.root_of_doc.ensures.within (c.kept_key.ensures c.args.segment.now c.requires.relations)
 
 pub returns-clause-within : goal.returns-clause-within
 returns-clause-within c = λ count have.
-    subst (λ (key : Option ℕ). IfSome key (λ k. k < count)) (sym c.key_of.ensures)
+    subst (λ (key : Option ℕ). IfSome key (λ k. k < count)) (sym (c.kept_key.ensures c.args.segment.now c.requires.relations))
     (key_within c.args.mapping.now c.args.joins.now c.args.side c.args.segment.now c.args.place c.root_of_doc.result count have)

@@ -33,6 +33,7 @@ pub key_if-key-requires : goal.key_if-key-requires
 key_if-key-requires c = record {
   document = omega (arith, c.in-Some.ensures.within.1, ap length c.documents.invariant.0, c.requires.documents);
   roots = c.requires.roots;
+  relations = c.requires.relations;
 }
 
 pub tell_one-requires : goal.tell_one-requires
