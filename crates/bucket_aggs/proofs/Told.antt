@@ -92,7 +92,7 @@ module _ {A : Type 0} where
 
   -- ---- row by row
 
-  ascend_of : (rows : RowsOf A) → IsStrictlyIncreasing (documents rows) → Ascend rows
+  pub ascend_of : (rows : RowsOf A) → IsStrictlyIncreasing (documents rows) → Ascend rows
   ascend_of [] up = tt
   ascend_of (row ∷ rows) up = (behind_of row.0 rows up, ascend_of rows (λ k low. let next : suc k + 1 ≡ suc (k + 1) = omega arith in rw next at (up (suc k) (omega (arith, low)))))
     where

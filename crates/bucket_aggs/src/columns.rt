@@ -10,12 +10,13 @@ ghost use Rattle.bucket_aggs.specs.Counts.{Counted};
 
 use crate::NoMemory;
 use crate::distinct::is_again;
+use crate::near::values_near;
 use block_bits::BitSet;
 use doc_values::{Column, ColumnValue, OrdinalColumn, Values};
 use mapping::Kind;
 
 /// How many rows of a column there may be for each document of a set where all rows are walked over.
-const ROWS_EACH: u32 = 8;
+const ROWS_EACH: u32 = 2;
 
 /// Whether a set has so many of a column's documents that its rows are walked over.
 pub(crate) fn has_most<T: ColumnValue>(set: &BitSet, column: &Column<T>) -> bool {
@@ -24,7 +25,7 @@ pub(crate) fn has_most<T: ColumnValue>(set: &BitSet, column: &Column<T>) -> bool
 
 /// Adds the documents of a set to the counts of the ordinals that they have; the first count is that of the ordinal `first`.
 ///
-/// Where the set has most documents of the column its rows are walked over, else each document's row is looked for.
+/// Where the set has most documents of the column its rows are walked over, else each document's row is looked for near the one before.
 pub(crate) fn count_ordinals(
     set: &BitSet,
     column: &OrdinalColumn,
@@ -49,10 +50,13 @@ fn count_documents(
 ) -> Result<(), NoMemory>
     ensures { OnOk result (Counted first (map (λ doc. values_of doc column.now) (marked_places 0 set.now)) counts.old.items counts.new.items) }
 {
+    let _ascending = column.values(0);
     let mut walk = set.walk();
+    let mut near = 0;
     'documents: while let Some(doc) = walk.next() {
-        let _ascending = column.count(doc);
-        count_values(column.values(doc), first, counts)?;
+        let (values, row) = values_near(column, near, doc);
+        count_values(values, first, counts)?;
+        near = row;
     }
     Ok(())
 }

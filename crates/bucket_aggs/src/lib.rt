@@ -10,6 +10,7 @@ mod columns;
 mod distinct;
 mod found;
 mod metrics;
+mod near;
 mod no_memory;
 mod objects;
 mod rows;

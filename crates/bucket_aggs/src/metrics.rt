@@ -12,6 +12,7 @@ ghost use Rattle.bucket_aggs.specs.Sums.{IsSummary, above, below, first_of, numb
 
 use crate::NoMemory;
 use crate::columns::{has_most, is_in, is_text};
+use crate::near::values_near;
 use block_bits::BitSet;
 use block_join::Matches;
 use doc_values::{Column, ColumnValue, NumberColumn, Values};
@@ -120,7 +121,7 @@ fn add_numbers(
 
 /// Adds the numbers that the documents of a set have in a column.
 ///
-/// Where the set has most documents of the column its rows are walked over, else each document's row is looked for.
+/// Where the set has most documents of the column its rows are walked over, else each document's row is looked for near the one before.
 fn add_documents(set: &BitSet, column: &NumberColumn, sums: &mut Summary) -> Result<(), NoMemory>
     ensures { (zs : List ℤ) → IsSummary zs sums.old → OnOk result (IsSummary (zs ++ flat_map (λ doc. values_of doc column.now) (marked_places 0 set.now)) sums.new) }
 {
@@ -148,8 +149,11 @@ fn add_each(set: &BitSet, column: &NumberColumn, sums: &mut Summary) -> Result<(
     ensures { (zs : List ℤ) → IsSummary zs sums.old → OnOk result (IsSummary (zs ++ flat_map (λ doc. values_of doc column.now) (marked_places 0 set.now)) sums.new) }
 {
     let mut walk = set.walk();
+    let mut near = 0;
     'documents: while let Some(doc) = walk.next() {
-        add_values(column.values(doc), sums)?;
+        let (values, row) = values_near(column, near, doc);
+        add_values(values, sums)?;
+        near = row;
     }
     Ok(())
 }
@@ -211,11 +215,14 @@ fn column_count<T: ColumnValue>(set: &BitSet, column: &Column<T>) -> Result<u64,
 {
     let mut count: u64 = 0;
     let mut walk = set.walk();
+    let mut near = 0;
     'documents: while let Some(doc) = walk.next() {
-        let Some(more) = count.checked_add(u64::from(column.count(doc))) else {
+        let (values, row) = values_near(column, near, doc);
+        let Some(more) = count.checked_add(u64::from(values.len())) else {
             return Err(NoMemory);
         };
         count = more;
+        near = row;
     }
     Ok(count)
 }
