@@ -10,7 +10,7 @@ use doc_values::{Column, ColumnValue, Values};
 ///
 /// The row is looked for from one on that is near: documents in ascending order cost the way from row to row, and no search
 /// among all of them.
-#[tactic(auto, using(crate::proofs::Near::row_is))]
+#[tactic(auto, using(crate::proofs::NearRows::row_is))]
 pub(crate) fn values_near<'a, T: ColumnValue>(
     column: &Column<'a, T>,
     near: u32,

@@ -14,3 +14,4 @@ pub mod Hits
 pub mod Relations
 pub mod Meeting
 pub mod Related
+pub mod Slots

@@ -16,9 +16,9 @@ use Rattle.query_eval.specs.Sides.{AreTallies, HaveRelations, HaveTallies, Tally
 use Rattle.query_eval.specs.declared.side.Side.{Side}
 use Rattle.query_eval.specs.declared.side.Side.TheVariants.{Parents, Children, ChildrenOf}
 use Rattle.query_eval.specs.declared.answer.Answer.{Answer}
-use Rattle.query_eval.specs.declared.tally.Tally.{Tally}
+use Rattle.query_eval.specs.declared.tally.Tallies.{Tallies}
 use Rattle.query_eval.proofs.Entries.{Scores, map_get, nil_append, or_past, take_more, take_whole}
-use Rattle.query_eval.proofs.Keys.{scores_append}
+use Rattle.query_eval.proofs.Joined.{nothing_given}
 
 -- ---- pairs
 
@@ -41,47 +41,7 @@ told_cut (x ∷ keys) [] (suc n) past = refl
 told_cut (x ∷ keys) (s ∷ scores) zero past = absurd (omega (arith, past))
 told_cut (x ∷ keys) (s ∷ scores) (suc n) past = ap (λ (l : List (ℕ × ℕ)). pair_if x s ++ l) (told_cut keys scores n (omega (arith, past)))
 
-set_own : (ts : List Tally) (k : ℕ) (new d : Tally) → k < length ts → get_or (set ts k new) k d ≡ new
-set_own [] k new d below = absurd (omega (arith, below))
-set_own (t ∷ ts) zero new d below = refl
-set_own (t ∷ ts) (suc k) new d below = set_own ts k new d (omega (arith, below))
-
-set_other : (ts : List Tally) (k j : ℕ) (new d : Tally) → k ≢ j → get_or (set ts k new) j d ≡ get_or ts j d
-set_other [] k j new d apart = refl
-set_other (t ∷ ts) zero zero new d apart = absurd (apart refl)
-set_other (t ∷ ts) zero (suc j) new d apart = refl
-set_other (t ∷ ts) (suc k) zero new d apart = refl
-set_other (t ∷ ts) (suc k) (suc j) new d apart = set_other ts k j new d (λ same. apart (ap suc same))
-
-set_long : (ts : List Tally) (k : ℕ) (new : Tally) → length (set ts k new) ≡ length ts
-set_long [] k new = refl
-set_long (t ∷ ts) zero new = refl
-set_long (t ∷ ts) (suc k) new = ap suc (set_long ts k new)
-
-pub tallies_more : (pairs : List (ℕ × ℕ)) (ts : List Tally) (k s : ℕ) (new : Tally) → AreTallies pairs ts → k < length ts → TallyOf (scores_of k pairs ++ s ∷ []) new → AreTallies (pairs ++ (k, s) ∷ []) (set ts k new)
-tallies_more pairs ts k s new was below own = record {
-  each = λ j d inside. elim (cases_Bool (k == j)) [
-    | inl here ↦
-        let same : k ≡ j = eqb-true k j here in
-        let all : scores_of j (pairs ++ (k, s) ∷ []) ≡ scores_of k pairs ++ s ∷ [] =
-        scores_append j pairs ((k, s) ∷ []) ∙ rw here (ap (λ n. scores_of n pairs ++ s ∷ []) (sym same)) in
-        subst (λ (l : List ℕ). TallyOf l (get_or (set ts k new) j d)) (sym all)
-        (subst (TallyOf (scores_of k pairs ++ s ∷ [])) (sym (set_own ts k new d below) ∙ ap (λ n. get_or (set ts k new) n d) same) own)
-    | inr other ↦
-        let apart : k ≢ j = λ same. absurd (let yes : (k == j) ≡ true = eqb-same k j same in let no : true ≡ false = sym yes ∙ other in cc) in
-        let all : scores_of j (pairs ++ (k, s) ∷ []) ≡ scores_of j pairs = scores_append j pairs ((k, s) ∷ []) ∙ rw other (nil_append (scores_of j pairs)) in
-        subst (λ (l : List ℕ). TallyOf l (get_or (set ts k new) j d)) (sym all)
-        (subst (TallyOf (scores_of j pairs)) (sym (set_other ts k j new d apart)) (was.each j d (omega (arith, inside, set_long ts k new))))
-  ];
-}
-  where
-    eqb-same : (a b : ℕ) → a ≡ b → (a == b) ≡ true
-    eqb-same a b same = grind arith
-
-pub tallies_none : (ts : List Tally) → ((j : ℕ) (d : Tally) → j < length ts → TallyOf [] (get_or ts j d)) → AreTallies [] ts
-tallies_none ts each = record { each = each }
-
-pub tallies_same : (pairs more : List (ℕ × ℕ)) (ts : List Tally) → more ≡ [] → AreTallies pairs ts → AreTallies (pairs ++ more) ts
+pub tallies_same : (pairs more : List (ℕ × ℕ)) (ts : Tallies) → more ≡ [] → AreTallies pairs ts → AreTallies (pairs ++ more) ts
 tallies_same pairs more ts none was = subst (λ (l : List (ℕ × ℕ)). AreTallies l ts) (sym (nil_append pairs) ∙ ap (λ (l : List (ℕ × ℕ)). pairs ++ l) (sym none)) was
 
 -- ---- keys
@@ -304,6 +264,9 @@ module _ (m : Mapping) (ordinals : Ordinals) (side : Side) (c : Columns) (place 
         by : (on : Bool) → answer_for asked pairs (cond on (Some k) None) ≡ None
         by true = sym none
         by false = refl
+
+    pub given_untold : (k : ℕ) → root < length c.roots → would ≡ Some k → scores_of k pairs ≡ [] → None ≡ given_here
+    given_untold k below is none = given_nothing k below is (sym (ap (answer_of asked) none ∙ nothing_given asked))
 
     pub given_off : (k : ℕ) → root < length c.roots → HaveRelations ordinals side c place → would ≡ Some k → kept_on ≡ false → None ≡ given_here
     given_off k below have is off = sym (given_at below ∙ ap (λ (b : Bool). answer_for asked pairs (cond b would None)) (does_is k have is ∙ off))

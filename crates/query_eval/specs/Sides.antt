@@ -1,5 +1,5 @@
 -- Joins of trees by the ordinals of ids: which roots take part, by which id, and what they are given.
-use Rattle.std.specs.Prelude.{◌≡◌, ℕ, ◌+◌, ◌==◌, ◌<◌, ◌≤◌, Bool, true, false, cond, if◌then◌else◌, List, [], ◌∷◌, ◌++◌, length, map, filter_map, get_or, Option, Some, None, is_some, ◌&&◌, IfSome, ⊤}
+use Rattle.std.specs.Prelude.{◌≡◌, ℕ, zero, suc, ◌+◌, ◌==◌, ◌<◌, ◌≤◌, Bool, true, false, cond, if◌then◌else◌, List, [], ◌∷◌, ◌++◌, length, map, filter_map, get_or, Option, Some, None, is_some, ◌&&◌, IfSome, ⊤}
 use Rattle.std.specs.List.{list_any, range_with_len}
 use Rattle.join_ordinals.specs.Ordinals.{Ordinals, ordinal_at, relation_in}
 use Rattle.mapping.specs.Mapping.{Mapping, relation_at}
@@ -20,6 +20,7 @@ use Rattle.query_eval.specs.declared.side.Side.TheVariants.{Parents, Children, C
 use Rattle.query_eval.specs.declared.answer.Answer.{Answer}
 use Rattle.query_eval.specs.declared.answer.Answer.TheVariants as answer
 use Rattle.query_eval.specs.declared.tally.Tally.{Tally}
+use Rattle.query_eval.specs.declared.tally.Tallies.{Tallies}
 
 -- ---- keys
 
@@ -107,9 +108,18 @@ told_by m ordinals side place (entry ∷ entries) (hits ∷ scores) =
 abbrev pub TallyOf : List ℕ → Tally → Type 0
 TallyOf scores t = IsTally scores t.count t.total t.least t.greatest t.first
 
--- a tally for each key
-pub record AreTallies (pairs : List (ℕ × ℕ)) (tallies : List Tally) : Type 0 where
-  pub each : (key : ℕ) (d : Tally) → key < length tallies → TallyOf (scores_of key pairs) (get_or tallies key d)
+-- one more than the index of a tally of the scores, or 0 where there are none
+abbrev pub IsTold : List ℕ → List Tally → ℕ → Type 0
+IsTold scores told zero = scores ≡ []
+IsTold scores told (suc slot) = (d : Tally) → TallyOf scores (get_or told slot d)
+
+-- each key with scores has a tally of its own
+pub record AreTold (pairs : List (ℕ × ℕ)) (slots : List ℕ) (told : List Tally) : Type 0 where
+  pub each : (key : ℕ) → key < length slots → IsTold (scores_of key pairs) told (get_or slots key 0)
+  pub apart : (one other : ℕ) → 0 < get_or slots one 0 → get_or slots one 0 ≡ get_or slots other 0 → one ≡ other
+
+abbrev pub AreTallies : List (ℕ × ℕ) → Tallies → Type 0
+AreTallies pairs tallies = AreTold pairs tallies.slots.items tallies.told.items
 
 -- ---- answers
 

@@ -13,6 +13,7 @@ mod merges;
 mod nests;
 mod no_memory;
 mod side;
+mod tallies;
 mod tally;
 mod trees;
 

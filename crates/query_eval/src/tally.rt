@@ -1,6 +1,6 @@
 //! Scores that are counted, summed and compared one after the other.
 
-ghost use Rattle.std.specs.Prelude.{◌≡◌, ◌≤◌, ◌+◌, ◌*◌, ℕ, List, [], ◌∷◌, ◌++◌, OnOk};
+ghost use Rattle.std.specs.Prelude.{◌≡◌, ◌≤◌, ◌+◌, ◌*◌, ℕ, List, [], ◌∷◌, ◌++◌, length, slice_index_or, OnOk};
 ghost use Rattle.query_eval.specs.Tallies.{IsTally};
 ghost use Rattle.score_math.specs.declared.score.TheConstants.{SCORE_CAP};
 
@@ -18,6 +18,15 @@ pub(crate) struct Tally {
     ghost least_capped: { least ≤ SCORE_CAP },
     ghost greatest_capped: { greatest ≤ SCORE_CAP },
     ghost first_capped: { first ≤ SCORE_CAP },
+}
+
+/// A tally for each key that has scores. A key without any takes four bytes.
+#[derive(Drop)]
+pub(crate) struct Tallies {
+    /// For each key one more than the index of its tally, or 0.
+    pub(crate) slots: Vec<u32>,
+    pub(crate) told: Vec<Tally>,
+    ghost within: { (key : ℕ) → slice_index_or slots.items key 0 ≤ length told.items },
 }
 
 impl Tally {

@@ -15,7 +15,7 @@ use crate::NoMemory;
 use crate::answer::{Answer, answer_of};
 use crate::nests::scope_set;
 use crate::side::{Side, is_kept_on, kept_key, ordinal_by};
-use crate::tally::Tally;
+use crate::tally::Tallies;
 use block_bits::{BitSet, places_are_nearest};
 use block_join::{Builder, Cursor, Matches, Scored};
 use join_ordinals::JoinOrdinals;
@@ -153,15 +153,7 @@ fn joined(
         let segment = entries[place].segment();
         let roots = scope_set(alloc, segment, 0)?;
         let scores = given(
-            alloc,
-            mapping,
-            joins,
-            segment,
-            place,
-            &roots,
-            to,
-            tallies.as_slice(),
-            answer,
+            alloc, mapping, joins, segment, place, &roots, to, &tallies, answer,
         )?;
         made.push(scores)?;
     }
@@ -176,14 +168,14 @@ fn gathered(
     joins: &JoinOrdinals,
     hits: &Matches,
     side: Side,
-) -> Result<Vec<Tally>, NoMemory>
+) -> Result<Tallies, NoMemory>
     requires long { AreLong entries.now hits.now }
     requires ordinals { AreOrdinals entries.now joins.now }
-    ensures long { IfOk result (λ tallies. length tallies.items ≡ joins.now.count) }
-    ensures tallies { IfOk result (λ tallies. AreTallies (told_by mapping.now joins.now side 0 entries.now hits.now) tallies.items) }
+    ensures long { IfOk result (λ tallies. length tallies.slots.items ≡ joins.now.count) }
+    ensures tallies { IfOk result (AreTallies (told_by mapping.now joins.now side 0 entries.now hits.now)) }
 {
     let hits = hits.as_slice();
-    let mut tallies = no_tallies(alloc, joins.count())?;
+    let mut tallies = Tallies::none(alloc, joins.count())?;
     'entries: for place in 0..entries.len() {
         let segment = entries[place].segment();
         let roots = scope_set(alloc, segment, 0)?;
@@ -201,19 +193,9 @@ fn gathered(
     Ok(tallies)
 }
 
-/// So many tallies of no scores.
-fn no_tallies(alloc: Global, count: usize) -> Result<Vec<Tally>, NoMemory>
-    ensures long { IfOk result (λ tallies. length tallies.items ≡ count) }
-    ensures tallies { IfOk result (λ tallies. AreTallies [] tallies.items) }
-{
-    let mut tallies = Vec::with_capacity(alloc, count)?;
-    tallies.resize(count, Tally::none())?;
-    Ok(tallies)
-}
-
 /// Adds the scores of an entry's roots to the tallies of their keys. It goes from hit to hit, and reads of no other root.
 fn tell(
-    tallies: &mut Vec<Tally>,
+    tallies: &mut Tallies,
     mapping: &Mapping,
     joins: &JoinOrdinals,
     segment: &Segment,
@@ -224,11 +206,11 @@ fn tell(
 ) -> Result<(), NoMemory>
     requires documents { length hits.now ≡ length roots.now }
     requires roots { roots.now ≡ documents_of (scopes_in segment.now) 0 }
-    requires keys { HaveTallies joins.now side place (length tallies.old.items) }
+    requires keys { HaveTallies joins.now side place (length tallies.old.slots.items) }
     requires relations { HaveRelations joins.now side segment.now place }
-    ensures long { length tallies.new.items ≡ length tallies.old.items }
-    ensures tallies { (pairs : List (ℕ × ℕ)) → AreTallies pairs tallies.old.items
-        → OnOk result (AreTallies (pairs ++ told (keys_at mapping.now joins.now side segment.now place) (of_roots roots.now hits.now)) tallies.new.items) }
+    ensures long { length tallies.new.slots.items ≡ length tallies.old.slots.items }
+    ensures tallies { (pairs : List (ℕ × ℕ)) → AreTallies pairs tallies.old
+        → OnOk result (AreTallies (pairs ++ told (keys_at mapping.now joins.now side segment.now place) (of_roots roots.now hits.now)) tallies.new) }
 {
     places_are_nearest::<Option<u64>>();
     let _documents = hits.len();
@@ -280,11 +262,11 @@ fn key_if(
 }
 
 /// Adds a score to the tally of its key, where there are both.
-fn tell_one(tallies: &mut Vec<Tally>, key: Option<u32>, score: Option<u64>) -> Result<(), NoMemory>
-    requires key { IfSome key (λ key. key < length tallies.old.items) }
+fn tell_one(tallies: &mut Tallies, key: Option<u32>, score: Option<u64>) -> Result<(), NoMemory>
+    requires key { IfSome key (λ key. key < length tallies.old.slots.items) }
     requires capped { IfSome score (λ score. score ≤ SCORE_CAP) }
-    ensures long { length tallies.new.items ≡ length tallies.old.items }
-    ensures tallies { (pairs : List (ℕ × ℕ)) → AreTallies pairs tallies.old.items → OnOk result (AreTallies (pairs ++ pair_if key score) tallies.new.items) }
+    ensures long { length tallies.new.slots.items ≡ length tallies.old.slots.items }
+    ensures tallies { (pairs : List (ℕ × ℕ)) → AreTallies pairs tallies.old → OnOk result (AreTallies (pairs ++ pair_if key score) tallies.new) }
 {
     let Some(key) = key else {
         return Ok(());
@@ -292,8 +274,7 @@ fn tell_one(tallies: &mut Vec<Tally>, key: Option<u32>, score: Option<u64>) -> R
     let Some(score) = score else {
         return Ok(());
     };
-    let tally = &mut tallies[key as usize];
-    tally.add(score)?;
+    tallies.add(key, score)?;
     Ok(())
 }
 
@@ -306,10 +287,10 @@ fn given(
     place: usize,
     roots: &BitSet,
     side: Side,
-    tallies: &[Tally],
+    tallies: &Tallies,
     answer: Answer,
 ) -> Result<Scored, NoMemory>
-    requires keys { HaveTallies joins.now side place (length tallies.now) }
+    requires keys { HaveTallies joins.now side place (length tallies.now.slots.items) }
     requires relations { HaveRelations joins.now side segment.now place }
     ensures scores { (pairs : List (ℕ × ℕ)) → AreTallies pairs tallies.now → IfOk result (λ scores. scores ≡ at_roots roots.now (map (answer_for answer pairs) (keys_at mapping.now joins.now side segment.now place))) }
     ensures long { IfOk result (λ scores. length scores ≡ length roots.now) }
@@ -327,7 +308,7 @@ fn given(
 }
 
 /// What a root is given. Its relation is looked at only where its ordinal has scores.
-#[tactic(auto, using(crate::proofs::Telling::given_past, crate::proofs::Telling::given_none, crate::proofs::Telling::given_nothing, crate::proofs::Telling::given_off, crate::proofs::Telling::given_some))]
+#[tactic(auto, using(crate::proofs::Telling::given_past, crate::proofs::Telling::given_none, crate::proofs::Telling::given_nothing, crate::proofs::Telling::given_untold, crate::proofs::Telling::given_off, crate::proofs::Telling::given_some))]
 fn given_to(
     mapping: &Mapping,
     joins: &JoinOrdinals,
@@ -335,10 +316,10 @@ fn given_to(
     place: usize,
     root: u32,
     side: Side,
-    tallies: &[Tally],
+    tallies: &Tallies,
     answer: Answer,
 ) -> Option<u64>
-    requires keys { HaveTallies joins.now side place (length tallies.now) }
+    requires keys { HaveTallies joins.now side place (length tallies.now.slots.items) }
     requires relations { HaveRelations joins.now side segment.now place }
     ensures given { (pairs : List (ℕ × ℕ)) → AreTallies pairs tallies.now → result ≡ get_or (map (answer_for answer pairs) (keys_at mapping.now joins.now side segment.now place)) root None }
     ensures capped { IfSome result (λ score. score ≤ SCORE_CAP) }
@@ -349,7 +330,10 @@ fn given_to(
     let Some(ordinal) = ordinal_by(joins, place, root, side) else {
         return None;
     };
-    let Some(score) = answer_of(&tallies[ordinal as usize], answer) else {
+    let Some(tally) = tallies.of(ordinal) else {
+        return None;
+    };
+    let Some(score) = answer_of(tally, answer) else {
         return None;
     };
     if is_kept_on(mapping, joins, place, root, side) {

@@ -7,7 +7,7 @@ use Rattle.segment_parts.specs.Text.{marked_places}
 use Rattle.bucket_aggs.specs.Counts.{has_ordinal}
 use Rattle.bucket_aggs.proofs.Documents.{left_of, sum_off, sum_on}
 use Rattle.std.specs.Ordering.{nat_cmp}
-use Rattle.bucket_aggs.proofs.Near.{values_ascend}
+use Rattle.bucket_aggs.proofs.NearRows.{values_ascend}
 use Rattle.bucket_aggs.proofs.Ordinals.{list_alone}
 use Rattle.bucket_aggs.proofs.Rowed.{count_mapped, one_if}
 use Rattle.bucket_aggs.proofs.columns.count_documents.Goals as goal

@@ -23,7 +23,7 @@ tell-requires c =
       roots = c.in_ok-roots.ensures.set;
       keys =
           tell_keys c.args.mapping.now c.args.joins.now c.args.side c.args.entries.now c.entries.place c.index-entries-place.result c.segment-segment.result.now below c.index-entries-place.is c.segment-segment.ensures
-          c.requires.ordinals (length c.entries.tallies.items) c.entries.invariant.0;
+          c.requires.ordinals (length c.entries.tallies.slots.items) c.entries.invariant.0;
       relations =
           tell_relations c.args.mapping.now c.args.joins.now c.args.side c.args.entries.now c.entries.place c.index-entries-place.result c.segment-segment.result.now below c.index-entries-place.is c.segment-segment.ensures
           c.requires.ordinals;
@@ -33,7 +33,7 @@ pub entries-preserved : goal.entries-preserved
 entries-preserved c =
     let below : c.entries.place < length c.args.entries.now = omega (arith, c.entries-test.true) in
     let before = told_by c.args.mapping.now c.args.joins.now c.args.side 0 (take c.entries.place c.args.entries.now) (take c.entries.place c.args.hits.now) in
-    let tallies = c.tell.new.tallies.items in (
+    let tallies = c.tell.new.tallies in (
       c.in_ok-tell.ensures.long ∙ c.entries.invariant.0,
       subst (λ (pairs : List (ℕ × ℕ)). AreTallies pairs tallies)
           (ap (λ (flags : List Bool). before ++ told (keys_at c.args.mapping.now c.args.joins.now c.args.side c.segment-segment.result.now c.entries.place) (of_roots flags c.index-hits-place.result)) c.in_ok-roots.ensures.set
@@ -45,6 +45,6 @@ entries-preserved c =
 
 pub returns-clause-tallies : goal.returns-clause-tallies
 returns-clause-tallies c =
-    subst (λ (pairs : List (ℕ × ℕ)). AreTallies pairs c.entries.tallies.items)
+    subst (λ (pairs : List (ℕ × ℕ)). AreTallies pairs c.entries.tallies)
     (told_whole c.args.mapping.now c.args.joins.now c.args.side c.args.entries.now c.args.hits.now c.entries.place (long_count c.args.entries.now c.args.hits.now c.requires.long) (omega (arith, c.entries-test.false)))
     c.entries.invariant.1

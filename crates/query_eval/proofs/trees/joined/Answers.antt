@@ -1,7 +1,6 @@
 use Rattle.std.proofs.Common.{◌≡◌, ◌<◌, ◌≤◌, Bool, List, ℕ, Option, length, map, take, sym, ap, subst, ◌∙◌, arith}
 use Rattle.segment_parts.specs.declared.columns.Columns.{Columns}
 use Rattle.query_eval.specs.Sides.{AreTallies, answer_for, at_roots, keys_at, told_by}
-use Rattle.query_eval.specs.declared.tally.Tally.{Tally}
 use Rattle.query_eval.proofs.Entries.{all_long, entry_step}
 use Rattle.query_eval.proofs.Telling.{tell_keys, tell_relations, given_step, given_whole}
 use Rattle.query_eval.proofs.trees.joined.Goals as goal
@@ -12,7 +11,7 @@ given-requires c =
     record {
       keys =
           tell_keys c.args.mapping.now c.args.joins.now c.args.to c.args.entries.now c.entries.place c.index-entries-place.result c.segment-segment.result.now below c.index-entries-place.is c.segment-segment.ensures c.requires.ordinals
-          (length c.as_slice.result.now) (ap length c.as_slice.ensures.value ∙ c.in_ok-tallies.ensures.long);
+          (length c.in_ok-tallies.tallies.slots.items) c.in_ok-tallies.ensures.long;
       relations =
           tell_relations c.args.mapping.now c.args.joins.now c.args.to c.args.entries.now c.entries.place c.index-entries-place.result c.segment-segment.result.now below c.index-entries-place.is c.segment-segment.ensures
           c.requires.ordinals;
@@ -26,7 +25,7 @@ entries-preserved c =
           (c.in_ok-scores.ensures.long ∙ c.in_ok-roots.ensures.long ∙ ap (λ (x : Columns). x.documents) c.segment-segment.ensures) c.in_ok-push.ensures.items,
       given_step c.args.mapping.now c.args.joins.now c.args.to c.args.entries.now c.entries.place c.index-entries-place.result c.segment-segment.result.now below c.index-entries-place.is c.segment-segment.ensures
           c.args.answer pairs c.entries.made.items c.push.new.self.items c.in_ok-scores.scores c.entries.invariant.1
-          (c.in_ok-scores.ensures.scores pairs (subst (λ (l : List Tally). AreTallies pairs l) (sym c.as_slice.ensures.value) c.in_ok-tallies.ensures.tallies)
+          (c.in_ok-scores.ensures.scores pairs c.in_ok-tallies.ensures.tallies
           ∙ ap (λ (flags : List Bool). at_roots flags (map (answer_for c.args.answer pairs) (keys_at c.args.mapping.now c.args.joins.now c.args.to c.segment-segment.result.now c.entries.place))) c.in_ok-roots.ensures.set)
           c.in_ok-push.ensures.items,
     )

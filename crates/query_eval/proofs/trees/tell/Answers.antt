@@ -17,7 +17,7 @@ documents-init c =
       refl,
       λ pairs was.
           let none : told (take c.cursor-left.result.from keys) (take c.cursor-left.result.from hits) ≡ [] = ap (λ n. told (take n keys) (take n hits)) from ∙ told_start keys hits in
-          subst (λ (l : List (ℕ × ℕ)). AreTallies l c.args.tallies.now.items) (sym (nil_append pairs) ∙ ap (λ (l : List (ℕ × ℕ)). pairs ++ l) (sym none)) was,
+          subst (λ (l : List (ℕ × ℕ)). AreTallies l c.args.tallies.now) (sym (nil_append pairs) ∙ ap (λ (l : List (ℕ × ℕ)). pairs ++ l) (sym none)) was,
     )
 
 pub take_at-score-requires : goal.take_at-score-requires
@@ -38,7 +38,7 @@ key_if-key-requires c = record {
 
 pub tell_one-requires : goal.tell_one-requires
 tell_one-requires c = record {
-  key = c.key_if-key.ensures.within (length c.documents.tallies.items) (subst (HaveTallies c.args.joins.now c.args.side c.args.place) (sym c.documents.invariant.2) c.requires.keys);
+  key = c.key_if-key.ensures.within (length c.documents.tallies.slots.items) (subst (HaveTallies c.args.joins.now c.args.side c.args.place) (sym c.documents.invariant.2) c.requires.keys);
   capped = c.take_at-score.ensures.capped;
 }
 
@@ -50,7 +50,7 @@ documents-preserved c =
     let doc = c.in-Some.doc in
     let score = c.take_at-score.result in
     let key = c.key_if-key.result in
-    let tallies = c.tell_one.new.tallies.items in
+    let tallies = c.tell_one.new.tallies in
     let new = c.take_at-score.new.left.from in
     let at : new ≡ doc + 1 = ap (λ (x : Standing). x.from) c.take_at-score.ensures.place in
     let long : length c.documents.left.scores ≡ length hits = ap length c.documents.invariant.0 in
@@ -86,4 +86,4 @@ returns-clause-tallies c = λ pairs was.
     let from = c.documents.left.from in
     let next : next_place is_some from hits ≡ None = ap (next_place is_some from) (sym c.documents.invariant.0) ∙ sym c.peek.ensures.value ∙ c.in_default.is in
     let fail : AllFail is_some (drop from hits) = (c.places_are_nearest.ensures.no_next is_some from hits).0 next in
-    subst (λ (l : List (ℕ × ℕ)). AreTallies (pairs ++ l) c.documents.tallies.items) (told_all (at_roots roots keys) hits from c.documents.invariant.1 fail ∙ sym (told_roots roots keys hits)) (c.documents.invariant.3 pairs was)
+    subst (λ (l : List (ℕ × ℕ)). AreTallies (pairs ++ l) c.documents.tallies) (told_all (at_roots roots keys) hits from c.documents.invariant.1 fail ∙ sym (told_roots roots keys hits)) (c.documents.invariant.3 pairs was)

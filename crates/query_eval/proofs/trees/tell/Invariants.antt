@@ -6,9 +6,9 @@ abbrev pub invariant-documents : goal.invariant-documents
 invariant-documents l =
     (l.left.scores ≡ l.hits)
     × (l.left.from ≤ length l.hits)
-    × (length l.tallies.items ≡ length l.fn.tallies.items)
-    × ((pairs : List (ℕ × ℕ)) → AreTallies pairs l.fn.tallies.items
-    → AreTallies (pairs ++ told (take l.left.from (at_roots l.roots (keys_at l.mapping l.joins l.side l.segment l.place))) (take l.left.from l.hits)) l.tallies.items)
+    × (length l.tallies.slots.items ≡ length l.fn.tallies.slots.items)
+    × ((pairs : List (ℕ × ℕ)) → AreTallies pairs l.fn.tallies
+    → AreTallies (pairs ++ told (take l.left.from (at_roots l.roots (keys_at l.mapping l.joins l.side l.segment l.place))) (take l.left.from l.hits)) l.tallies)
 
 abbrev pub decreases-documents : goal.decreases-documents
 decreases-documents l = length l.hits - l.left.from
