@@ -1,5 +1,5 @@
 -- First keys that are met one after another.
-use Rattle.std.specs.Prelude.{◌≡◌, ℕ, zero, suc, ◌+◌, ◌-◌, ◌≤◌, ℤ, pos, Bool, true, false, not, cond, List, [], ◌∷◌, ◌++◌, take, length, map, slice_get, Option, Some, None, IfSome, option_map, refl}
+use Rattle.std.specs.Prelude.{◌≡◌, ℕ, zero, suc, ◌-◌, ◌≤◌, ℤ, pos, Bool, true, false, not, cond, List, [], ◌∷◌, ◌++◌, take, length, map, slice_get, Option, Some, None, IfSome, option_map, refl}
 use Rattle.std.specs.Cmp.{IsStrictWeakOrder}
 use Rattle.std.specs.List.{AllByRecursion, count_by}
 use Rattle.std.specs.List.Sorted.{IsPermutation, IsSortedBy}
@@ -166,6 +166,7 @@ narrower d o after most bound keys new last old seen near at =
     own [] k all at = absurd (let no : ⊥ = cc in no)
     own (x ∷ ks) zero all at = subst (λ (key : Option ℤ). is_near d (option_map number_or_null bound) (number_or_null key) ≡ true) (let e : x ≡ last = cc in e) all.0
     own (x ∷ ks) (suc k) all at = own ks k all.1 at
+
     by : (bound : Option (Option ℤ)) → is_near d (option_map number_or_null bound) (number_or_null last) ≡ true → (key : Key) → is_near d (Some (number_or_null last)) key ≡ true → is_near d (option_map number_or_null bound) key ≡ true
     by None near key own = refl
     by (Some b) near key own = ap not (o.chain (number_or_null b) (number_or_null last) key (isnt (key_before d (number_or_null b) (number_or_null last)) near) (isnt (key_before d (number_or_null last) key) own))
