@@ -4,7 +4,7 @@ use Rattle.std.specs.List.{AllByRecursion, flat_map}
 use Rattle.std.specs.Option.{option_map_or}
 use Rattle.std.proofs.Common.{arith, ap, sym, subst, ◌∙◌, append_assoc}
 use Rattle.std.proofs.lemmas.Bool.{false≢true}
-use Rattle.std.proofs.lemmas.List.Elements.{All-from_recursion}
+use Rattle.std.proofs.lemmas.List.Elements.{All-from_recursion, recursion_from_All}
 use Rattle.std.proofs.lemmas.Simd.{map-map}
 use Rattle.doc_values.specs.Values.{values_of}
 use Rattle.flattener.specs.Flat.{flat_of as flat_of_object, has_numbers, is_keyword}
@@ -188,7 +188,7 @@ module _ (m : Mapping) (law : IsMapping m → InsideLaw m) (view : List EntrySta
   }
 
   -- the first key of a hit's row
-  pub first_is : (sorts : List Sort) (n : ℕ) (found : List (List (List (Option ℕ)))) (hit : Hit) → IsDocOf view hit.place hit.doc → IsHitAt m n trees hit.place hit.doc → AreSorts m n sorts → AreFound m view (filters_of sorts) found
+  first_is : (sorts : List Sort) (n : ℕ) (found : List (List (List (Option ℕ)))) (hit : Hit) → IsDocOf view hit.place hit.doc → IsHitAt m n trees hit.place hit.doc → AreSorts m n sorts → AreFound m view (filters_of sorts) found
       → first_key (map (sort_key m (live_trees trees) hit.score (object_at m trees hit.place hit.doc)) sorts) ≡ first_key_of m view n found sorts hit
   unfolding sort_key
   first_is [] n found hit doc is sorted filters = refl
@@ -197,3 +197,13 @@ module _ (m : Mapping) (law : IsMapping m → InsideLaw m) (view : List EntrySta
       (All-from_recursion (λ (h : Hit). IsDocOf view h.place h.doc) (hit ∷ []) (doc, tt))
       (All-from_recursion (λ (h : Hit). IsHitAt m n trees h.place h.doc) (hit ∷ []) (is, tt))
       sorted.0 filters)
+
+  pub first_keys : (sorts : List Sort) (n : ℕ) (found : List (List (List (Option ℕ)))) (hits : List Hit) → AreDocs view hits → AreHits m n trees hits → AreSorts m n sorts → AreFound m view (filters_of sorts) found
+      → AllByRecursion (λ (hit : Hit). first_key (map (sort_key m (live_trees trees) hit.score (object_at m trees hit.place hit.doc)) sorts) ≡ first_key_of m view n found sorts hit) hits
+  first_keys sorts n found hits docs are sorted filters =
+      by hits (recursion_from_All (λ (hit : Hit). IsDocOf view hit.place hit.doc) hits docs) (recursion_from_All (λ (hit : Hit). IsHitAt m n trees hit.place hit.doc) hits are)
+    where
+      by : (hs : List Hit) → AllByRecursion (λ (hit : Hit). IsDocOf view hit.place hit.doc) hs → AllByRecursion (λ (hit : Hit). IsHitAt m n trees hit.place hit.doc) hs
+          → AllByRecursion (λ (hit : Hit). first_key (map (sort_key m (live_trees trees) hit.score (object_at m trees hit.place hit.doc)) sorts) ≡ first_key_of m view n found sorts hit) hs
+      by [] docs are = tt
+      by (hit ∷ hs) docs are = (first_is sorts n found hit docs.0 are.0 sorted filters, by hs docs.1 are.1)

@@ -1,12 +1,14 @@
 -- Serves proofs: the hits that a page can show, by their first keys.
-use Rattle.std.specs.Prelude.{◌≡◌, ℕ, List, [], ◌∷◌, filter, length, map, slice_get, IsSomeAnd, Option, false, ⊤}
+use Rattle.std.specs.Prelude.{◌≡◌, ℕ, ◌+◌, ◌≤◌, List, [], ◌∷◌, filter, length, map, slice_get, IsSomeAnd, Option, false, ⊤}
 use Rattle.std.specs.List.{AllByRecursion}
-use Rattle.hit_order.specs.Reach.{AreMet, Met, is_within}
-use Rattle.hit_order.specs.Table.{number_or_null}
+use Rattle.hit_order.specs.Reach.{AreMet, Met, first_of_row, is_within}
+use Rattle.hit_order.specs.Table.{keys_of_row, number_of_row, number_or_null}
 use Rattle.mapping.specs.Mapping.{Mapping}
+use Rattle.query_ast.specs.Page.{direction_of, page_of}
 use Rattle.query_ast.specs.declared.sort.Direction.{Direction}
 use Rattle.query_ast.specs.declared.sort.Key.{Key}
 use Rattle.query_ast.specs.declared.sort.Key.TheVariants.{Null as NoKey}
+use Rattle.query_ast.specs.declared.sort.KeyRow.{KeyRow}
 use Rattle.query_ast.specs.declared.sort.Sort.{Sort}
 use Rattle.segment.specs.Live.{EntryState}
 use Rattle.view_objects.specs.declared.hit.Hit.{Hit}
@@ -46,3 +48,9 @@ pub record AreKept (key : Hit → Key) (direction : Direction) (after : Option K
   pub keyed : AllByRecursion (λ (one : Candidate). number_or_null one.key ≡ key one.hit) kept
   pub same : filter (λ hit. is_within direction after met.bound (key hit)) (hits_of_kept kept) ≡ filter (λ hit. is_within direction after met.bound (key hit)) all
   pub met : AreMet (map key all) met
+
+-- a page of rows of these hits is that of rows of all, where the first keys of rows are those of the hits
+abbrev pub HavePages : Mapping → List EntryState → ℕ → List (List (List (Option ℕ))) → List Sort → Option KeyRow → ℕ → List Hit → List Hit → Type 0
+HavePages m view n filters sorts after most all hits =
+    (row : Hit → KeyRow) (from size : ℕ) → AllByRecursion (λ hit. first_of_row (row hit) ≡ first_key_of m view n filters sorts hit) all → from + size ≤ most
+    → page_of keys_of_row number_of_row (map direction_of sorts) after from size (map row hits) ≡ page_of keys_of_row number_of_row (map direction_of sorts) after from size (map row all)

@@ -1,17 +1,14 @@
 //! The hits that a page can show, by their first keys: those out of reach get no row.
-ghost use Rattle.std.specs.Prelude.{◌≡◌, ◌≤◌, ◌<◌, ◌+◌, ◌++◌, ℕ, Bool, List, [], false, filter, length, map, option_map, slice_get, Option, IfOk, IfSome, IsSomeAnd, OnOk};
+ghost use Rattle.std.specs.Prelude.{◌≡◌, ◌++◌, ◌∷◌, ℕ, Bool, List, [], None, filter, option_map, Option, IfOk, IfSome, OnOk};
 ghost use Rattle.std.specs.List.{All, AllByRecursion};
-ghost use Rattle.hit_order.specs.Reach.{AreMet, first_of_row, is_within};
-ghost use Rattle.hit_order.specs.Table.{keys_of_row, number_of_row, number_or_null};
-ghost use Rattle.mapping_body.specs.declared.kind.Kind.{Kind};
+ghost use Rattle.hit_order.specs.Reach.{is_within};
+ghost use Rattle.hit_order.specs.Table.{number_or_null};
 ghost use Rattle.nested_sort.specs.Documents.{AllLong, clause_key};
 ghost use Rattle.nested_sort.specs.Listed.{IsCapped, IsDocOf};
-ghost use Rattle.nested_sort.specs.Reached.{AreKept, IsAsked, IsLongAt, first_key_of, hits_of_kept, key_by};
-ghost use Rattle.query_ast.specs.Page.{direction_of, page_of};
+ghost use Rattle.nested_sort.specs.Reached.{AreKept, HavePages, IsAsked, IsLongAt, hits_of_kept, key_by};
 ghost use Rattle.query_ast.specs.Resolved.{AreSorts, IsSortKey};
 ghost use Rattle.query_ast.specs.declared.sort.Direction.{Direction as RowDirection};
 ghost use Rattle.query_ast.specs.declared.sort.Key.{Key};
-ghost use Rattle.query_ast.specs.declared.sort.KeyRow.{KeyRow as Row};
 ghost use Rattle.query_eval.specs.Found.{AreLong};
 ghost use Rattle.segment.specs.Live.{EntryState};
 ghost use Rattle.view_objects.specs.Hits.{hits_from, hits_in};
@@ -62,8 +59,7 @@ pub(crate) fn hits_within(
     requires filters { AllLong entries.now filters.now }
     requires found { AreLong entries.now found.now }
     ensures chosen { IfOk result (λ hits. (keep : FoundHit → Bool) × (hits.items ≡ filter keep (hits_in found.now))) }
-    ensures page { IfOk result (λ hits. (row : FoundHit → Row) (from size : ℕ) → AllByRecursion (λ hit. first_of_row (row hit) ≡ first_key_of mapping.now entries.now scope filters.now sorts.now hit) (hits_in found.now) → from + size ≤ most
-        → page_of keys_of_row number_of_row (map direction_of sorts.now) (option_map (λ named. named.now) after.entry) from size (map row hits.items) ≡ page_of keys_of_row number_of_row (map direction_of sorts.now) (option_map (λ named. named.now) after.entry) from size (map row (hits_in found.now))) }
+    ensures pages { IfOk result (λ hits. HavePages mapping.now entries.now scope filters.now sorts.now (option_map (λ row. row.now) after.entry) most (hits_in found.now) hits.items) }
     ensures capped { IfOk result (λ hits. All IsCapped hits.items) }
 {
     pages_are_of_rows_within_reach();
