@@ -1,5 +1,5 @@
 -- Serves proofs: the hits that a page can show, by their first keys.
-use Rattle.std.specs.Prelude.{◌≡◌, ℕ, ◌+◌, ◌≤◌, List, [], ◌∷◌, filter, length, map, slice_get, IsSomeAnd, Option, false, ⊤}
+use Rattle.std.specs.Prelude.{◌≡◌, ℕ, ◌+◌, ◌≤◌, List, [], ◌∷◌, cond, filter, length, map, slice_get, IsSomeAnd, Option, false, ⊤}
 use Rattle.std.specs.List.{AllByRecursion}
 use Rattle.hit_order.specs.Reach.{AreMet, Met, first_of_row, is_within}
 use Rattle.hit_order.specs.Table.{keys_of_row, number_of_row, number_or_null}
@@ -39,6 +39,10 @@ IsLongAt view place scores = IsSomeAnd (slice_get view place) (λ (entry : Entry
 abbrev pub hits_of_kept : List Candidate → List Hit
 hits_of_kept kept = map (λ (one : Candidate). one.hit) kept
 
+-- the hit of one that is within reach
+abbrev pub hit_within : Met → Candidate → List Hit
+hit_within met one = cond (is_within met.direction met.after met.bound (number_or_null one.key)) (one.hit ∷ []) []
+
 -- of all hits that were met, those that are kept are all that are within reach, and perhaps others
 pub record AreKept (key : Hit → Key) (direction : Direction) (after : Option Key) (most : ℕ) (all : List Hit) (kept : List Candidate) (met : Met) : Type 0 where
   pub directed : met.direction ≡ direction
@@ -47,7 +51,7 @@ pub record AreKept (key : Hit → Key) (direction : Direction) (after : Option K
   pub capped : AllByRecursion (λ (one : Candidate). IsCapped one.hit) kept
   pub keyed : AllByRecursion (λ (one : Candidate). number_or_null one.key ≡ key one.hit) kept
   pub same : filter (λ hit. is_within direction after met.bound (key hit)) (hits_of_kept kept) ≡ filter (λ hit. is_within direction after met.bound (key hit)) all
-  pub met : AreMet (map key all) met
+  pub known : AreMet (map key all) met
 
 -- a page of rows of these hits is that of rows of all, where the first keys of rows are those of the hits
 abbrev pub HavePages : Mapping → List EntryState → ℕ → List (List (List (Option ℕ))) → List Sort → Option KeyRow → ℕ → List Hit → List Hit → Type 0

@@ -1,11 +1,10 @@
 //! The hits that a page can show, by their first keys: those out of reach get no row.
 ghost use Rattle.std.specs.Prelude.{◌≡◌, ◌++◌, ◌∷◌, ℕ, Bool, List, [], None, filter, option_map, Option, IfOk, IfSome, OnOk};
-ghost use Rattle.std.specs.List.{All, AllByRecursion};
-ghost use Rattle.hit_order.specs.Reach.{is_within};
+ghost use Rattle.std.specs.List.{All, flat_map};
 ghost use Rattle.hit_order.specs.Table.{number_or_null};
 ghost use Rattle.nested_sort.specs.Documents.{AllLong, clause_key};
 ghost use Rattle.nested_sort.specs.Listed.{IsCapped, IsDocOf};
-ghost use Rattle.nested_sort.specs.Reached.{AreKept, HavePages, IsAsked, IsLongAt, hits_of_kept, key_by};
+ghost use Rattle.nested_sort.specs.Reached.{AreKept, HavePages, IsAsked, IsLongAt, hit_within, key_by};
 ghost use Rattle.query_ast.specs.Resolved.{AreSorts, IsSortKey};
 ghost use Rattle.query_ast.specs.declared.sort.Direction.{Direction as RowDirection};
 ghost use Rattle.query_ast.specs.declared.sort.Key.{Key};
@@ -70,7 +69,8 @@ pub(crate) fn hits_within(
             Some(clause) => {
                 let mut keys = FirstKeys::of(alloc, direction_of(first), after, most);
                 let kept = candidates(alloc, entries, found, &clause, &mut keys)?;
-                within(alloc, kept.as_slice(), &keys)
+                let hits = within(alloc, kept.as_slice(), &keys)?;
+                Ok(hits)
             }
         },
     }
@@ -202,13 +202,25 @@ fn within(
     kept: &[Candidate],
     keys: &FirstKeys<'_>,
 ) -> Result<Vec<Hit>, NoMemory>
-    ensures { IfOk result (λ hits. (key : FoundHit → Key) → AllByRecursion (λ one. number_or_null one.key ≡ key one.hit) kept.now → hits.items ≡ filter (λ hit. is_within keys.now.direction keys.now.after keys.now.bound (key hit)) (hits_of_kept kept.now)) }
+    ensures { IfOk result (λ hits. hits.items ≡ flat_map (hit_within keys.now) kept.now) }
 {
     let mut hits = Vec::new(alloc);
     'kept: for one in kept {
-        if keys.is_within(one.key) {
-            hits.push(one.hit)?;
-        }
+        add_within(keys, *one, &mut hits)?;
     }
     Ok(hits)
+}
+
+/// Adds a hit, if its key is within reach.
+fn add_within(
+    keys: &FirstKeys<'_>,
+    one: Candidate,
+    hits: &mut Vec<Hit>,
+) -> Result<(), NoMemory>
+    ensures { OnOk result (hits.new.items ≡ hits.old.items ++ hit_within keys.now one) }
+{
+    if keys.is_within(one.key) {
+        hits.push(one.hit)?;
+    }
+    Ok(())
 }

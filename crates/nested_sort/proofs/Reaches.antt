@@ -1,22 +1,25 @@
 -- Hits that are met one after another, and the page of those that are left.
-use Rattle.std.specs.Prelude.{◌≡◌, ℕ, zero, suc, ◌+◌, ◌≤◌, ◌<◌, ℤ, Bool, true, false, cond, List, [], ◌∷◌, ◌++◌, filter, length, map, get_or, slice_get, IsSomeAnd, Option, Some, None, option_map, refl}
-use Rattle.std.specs.List.{All, AllByRecursion, count_by}
-use Rattle.std.proofs.Common.{arith, ap, sym, subst, ◌∙◌}
+use Rattle.std.specs.Prelude.{◌≡◌, ℕ, zero, suc, ◌+◌, ◌≤◌, ◌<◌, ℤ, Bool, true, false, cond, List, [], ◌∷◌, ◌++◌, filter, drop, length, map, get_or, slice_get, IsSomeAnd, Option, Some, None, option_map, refl}
+use Rattle.std.specs.List.{All, AllByRecursion, count_by, flat_map}
+use Rattle.std.proofs.Common.{arith, ap, append_assoc, sym, subst, Bor, ◌∙◌}
 use Rattle.std.proofs.lemmas.Bool.{false≢true, true≢false}
-use Rattle.std.proofs.lemmas.List.{append-nil, map-append}
+use Rattle.std.proofs.lemmas.List.{append-nil, drop_more, map-append, take_all}
 use Rattle.std.proofs.lemmas.List.Elements.{All-filter, All-from_recursion, filter-append}
 use Rattle.hit_order.specs.Reach.{AreMet, IsNarrower, IsWide, Met, first_of_row, is_late, is_near, is_within}
 use Rattle.hit_order.specs.Table.{keys_of_row, number_of_row, number_or_null}
-use Rattle.mapping_body.specs.declared.kind.Kind.{Kind}
-use Rattle.query_ast.specs.Page.{page_of}
+use Rattle.mapping.specs.Mapping.{Mapping}
+use Rattle.query_ast.specs.Page.{direction_of, page_of}
 use Rattle.query_ast.specs.declared.sort.Direction.{Direction}
 use Rattle.query_ast.specs.declared.sort.Key.{Key}
 use Rattle.query_ast.specs.declared.sort.KeyRow.{KeyRow}
+use Rattle.query_ast.specs.declared.sort.Sort.{Sort}
 use Rattle.query_eval.specs.Found.{AreLong}
 use Rattle.segment.specs.Live.{EntryState}
+use Rattle.view_objects.specs.Hits.{hits_between, hits_from, hits_in, hits_of}
 use Rattle.view_objects.specs.declared.hit.Hit.{Hit}
+use Rattle.nested_sort.specs.Documents.{clause_key}
 use Rattle.nested_sort.specs.Listed.{IsCapped, IsDocOf}
-use Rattle.nested_sort.specs.Reached.{AreKept, IsLongAt, hits_of_kept}
+use Rattle.nested_sort.specs.Reached.{AreKept, HavePages, IsLongAt, hit_within, hits_of_kept}
 use Rattle.nested_sort.specs.declared.reached.Candidate.{Candidate}
 use Rattle.nested_sort.proofs.Alike.{by_test}
 
@@ -63,7 +66,7 @@ module _ (key : Hit → Key) (d : Direction) (after : Option Key) (most : ℕ) w
     capped = tt;
     keyed = tt;
     same = refl;
-    met = record {
+    known = record {
       counted = λ test. subst (λ (keys : List Key). count_by test keys ≤ 0) (sym none) (omega arith);
       wide = subst (λ (bound : Option Key). IsWide met.most met.direction met.after bound []) (sym unbound) tt;
     };
@@ -83,7 +86,7 @@ module _ (key : Hit → Key) (d : Direction) (after : Option Key) (most : ℕ) w
     same_fewer = fewer_same (reached met.bound) (reached old.bound) (tighter old met are.directed narrow) (hits_of_kept kept) all are.same
 
     met_more : AreMet (map key (all ++ hit ∷ [])) met
-    met_more = subst (λ (ks : List Key). AreMet ks met) (ap (λ k. map key all ++ k ∷ []) own ∙ sym (map-append key all (hit ∷ []))) (meets (map key all) are.met)
+    met_more = subst (λ (ks : List Key). AreMet ks met) (ap (λ k. map key all ++ k ∷ []) own ∙ sym (map-append key all (hit ∷ []))) (meets (map key all) are.known)
 
     pub kept_more : new ≡ kept ++ record { key = one; hit = hit } ∷ [] → AreKept key d after most (all ++ hit ∷ []) new met
     kept_more is =
@@ -100,7 +103,7 @@ module _ (key : Hit → Key) (d : Direction) (after : Option Key) (most : ℕ) w
               ∙ filter-append w (hits_of_kept kept) (hit ∷ [])
               ∙ ap (λ (hs : List Hit). hs ++ filter w (hit ∷ [])) same_fewer
               ∙ sym (filter-append w all (hit ∷ []));
-          met = met_more;
+          known = met_more;
         }
 
     pub kept_passed : is_within old.direction old.after old.bound (number_or_null one) ≡ false → new ≡ kept → AreKept key d after most (all ++ hit ∷ []) new met
@@ -120,10 +123,19 @@ module _ (key : Hit → Key) (d : Direction) (after : Option Key) (most : ℕ) w
               ap (λ (cs : List Candidate). filter w (hits_of_kept cs)) is
               ∙ same_fewer
               ∙ sym (filter-append w all (hit ∷ []) ∙ ap (λ (hs : List Hit). filter w all ++ hs) none ∙ append-nil (filter w all));
-          met = met_more;
+          known = met_more;
         }
 
 -- ---- those that are left
+
+within_are : (key : Hit → Key) (met : Met) (kept : List Candidate) → AllByRecursion (λ (c : Candidate). number_or_null c.key ≡ key c.hit) kept
+    → flat_map (hit_within met) kept ≡ filter (λ hit. is_within met.direction met.after met.bound (key hit)) (hits_of_kept kept)
+within_are key met [] keyed = refl
+within_are key met (c ∷ kept) keyed =
+    let test : Key → Bool = is_within met.direction met.after met.bound in
+    by_test (test (key c.hit))
+    (λ yes. let own : test (number_or_null c.key) ≡ true = ap test keyed.0 ∙ yes in rw (yes, own) (ap (λ (hs : List Hit). c.hit ∷ hs) (within_are key met kept keyed.1)))
+    (λ no. let own : test (number_or_null c.key) ≡ false = ap test keyed.0 ∙ no in rw (no, own) (within_are key met kept keyed.1))
 
 abbrev pub PageLaw : Type 0
 PageLaw =
@@ -145,7 +157,10 @@ module _ (key : Hit → Key) (row : Hit → KeyRow) where
       (λ no. let own : test (first_of_row (row hit)) ≡ false = ap test agree.0 ∙ no in rw (no, own) (rows_chosen test hits agree.1))
 
 module _ (key : Hit → Key) (d : Direction) (after : Option KeyRow) (most : ℕ) (all hits : List Hit) (kept : List Candidate) (met : Met) (are : AreKept key d (option_map first_of_row after) most all kept met)
-    (left : hits ≡ filter (λ hit. is_within met.direction met.after met.bound (key hit)) (hits_of_kept kept)) where
+    (chosen : hits ≡ flat_map (hit_within met) kept) where
+  left : hits ≡ filter (λ hit. is_within met.direction met.after met.bound (key hit)) (hits_of_kept kept)
+  left = chosen ∙ within_are key met kept are.keyed
+
   abbrev pub is_left : Hit → Bool
   is_left hit = is_within d (option_map first_of_row after) met.bound (key hit)
 
@@ -172,7 +187,7 @@ module _ (key : Hit → Key) (d : Direction) (after : Option KeyRow) (most : ℕ
       subst (λ (ks : List Key). IsWide most d (option_map first_of_row after) met.bound ks) (sym (keys_same key row all agree))
       (subst (λ (a : Option Key). IsWide most d a met.bound (map key all)) are.behind
       (subst (λ (e : Direction). IsWide most e met.after met.bound (map key all)) are.directed
-      (subst (λ (n : ℕ). IsWide n met.direction met.after met.bound (map key all)) are.upto are.met.wide))) in
+      (subst (λ (n : ℕ). IsWide n met.direction met.after met.bound (map key all)) are.upto are.known.wide))) in
       ap (λ (hs : List Hit). page_of keys_of_row number_of_row (d ∷ ds) after from size (map row hs)) left_are
       ∙ ap (page_of keys_of_row number_of_row (d ∷ ds) after from size) (rows_chosen key row (is_within d (option_map first_of_row after) met.bound) all agree)
       ∙ law d ds after met.bound most from size (map row all) wide within
@@ -180,3 +195,52 @@ module _ (key : Hit → Key) (d : Direction) (after : Option KeyRow) (most : ℕ
 pub all_chosen : {A : Type 0} (xs : List A) → xs ≡ filter (λ (x : A). true) xs
 all_chosen [] = refl
 all_chosen (x ∷ xs) = ap (λ ys. x ∷ ys) (all_chosen xs)
+
+-- ---- the pages of those that are left
+
+abbrev pub after_of : Option (Bor KeyRow) → Option KeyRow
+after_of after = option_map (λ row. row.now) after
+
+pub after_first : (after : Option (Bor KeyRow)) → option_map (λ row. first_of_row row.now) after ≡ option_map first_of_row (after_of after)
+after_first None = refl
+after_first (Some row) = refl
+
+front_is : (sorts : List Sort) (first : Sort) → 1 ≤ length sorts → first ≡ get_or sorts 0 first → sorts ≡ first ∷ drop 1 sorts
+front_is [] first some is = absurd (omega (arith, some))
+front_is (s ∷ sorts) first some is = ap (λ (t : Sort). t ∷ sorts) (sym is)
+
+module _ (m : Mapping) (view : List EntryState) (n : ℕ) (filters : List (List (List (Option ℕ)))) (sorts : List Sort) (first : Sort) (after : Option KeyRow) (most : ℕ) (all hits : List Hit) (kept : List Candidate) (met made : Met) (key : Hit → Key) (d : Direction) (a : Option Key)
+    (directed : d ≡ direction_of first) (behind : a ≡ option_map first_of_row after) (new : made ≡ record { direction = d; after = a; most = most; bound = None; keys = [] }) (were : AreKept key made.direction made.after made.most all kept met) (chosen : hits ≡ flat_map (hit_within met) kept) where
+  kept_so : AreKept key (direction_of first) (option_map first_of_row after) most all kept met
+  kept_so =
+      subst (λ (b : Option Key). AreKept key (direction_of first) b most all kept met) behind
+      (subst (λ (e : Direction). AreKept key e a most all kept met) directed
+      (subst (λ (k : Met). AreKept key k.direction k.after k.most all kept met) new were))
+
+  pub some_chosen : (keep : Hit → Bool) × (hits ≡ filter keep all)
+  some_chosen = (is_left key (direction_of first) after most all hits kept met kept_so chosen, left_are key (direction_of first) after most all hits kept met kept_so chosen)
+
+  pub some_capped : All IsCapped hits
+  some_capped = left_capped key (direction_of first) after most all hits kept met kept_so chosen
+
+  pub have_pages : PageLaw → 1 ≤ length sorts → first ≡ get_or sorts 0 first → key ≡ clause_key m view n filters first.missing first.key → HavePages m view n filters sorts after most all hits
+  have_pages law some is own =
+      subst (λ (ss : List Sort). HavePages m view n filters ss after most all hits) (sym (front_is sorts first some is))
+      (λ row from size agree within.
+      page_left key (direction_of first) after most all hits kept met kept_so chosen law (map direction_of (drop 1 sorts)) row from size
+      (subst (λ (k : Hit → Key). AllByRecursion (λ hit. first_of_row (row hit) ≡ k hit) all) (sym own) agree) within)
+
+-- ---- entry by entry
+
+pub all_between : (place end : ℕ) (scores : List (Option ℕ)) → end ≡ length scores → hits_between place 0 end scores ≡ hits_from place 0 scores
+all_between place end scores is = ap (hits_from place 0) (take_all end scores (omega (arith, is)))
+
+pub done_all : (done all : List Hit) (rest : List Hit) → rest ≡ [] → done ++ rest ≡ all → done ≡ all
+done_all done all rest none is = sym (ap (λ (hs : List Hit). done ++ hs) none ∙ append-nil done) ∙ is
+
+pub entry_more : (found : List (List (Option ℕ))) (at : ℕ) (scores : List (Option ℕ)) (done : List Hit) → at < length found → scores ≡ get_or found at scores → done ++ hits_of at (drop at found) ≡ hits_in found
+    → (done ++ hits_from at 0 scores) ++ hits_of (at + 1) (drop (at + 1) found) ≡ hits_in found
+entry_more found at scores done low is was =
+    append_assoc done (hits_from at 0 scores) (hits_of (at + 1) (drop (at + 1) found))
+    ∙ ap (λ (hs : List Hit). done ++ hs) (sym (ap (hits_of at) (drop_more found at scores low ∙ ap (λ (s : List (Option ℕ)). s ∷ drop (at + 1) found) (sym is))))
+    ∙ was
