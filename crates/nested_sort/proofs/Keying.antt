@@ -39,7 +39,7 @@ use Rattle.tree_objects.specs.Tree.{Tree}
 use Rattle.tree_objects.specs.Values.{values}
 use Rattle.view_objects.specs.declared.hit.Hit.{Hit}
 use Rattle.view_objects.specs.Hits.{document_object, object_at}
-use Rattle.nested_sort.specs.Documents.{AllLong, Question, all_keys, behind_key, clause_key, clause_keys, key_in, key_of_hit, number_value, score_key, text_value, values_at}
+use Rattle.nested_sort.specs.Documents.{AllLong, Question, all_keys, behind_key, clause_keys, key_in, key_of_hit, number_value, score_key, text_value, values_at}
 use Rattle.nested_sort.specs.Filters.{AreFound, filter_at, filter_of, filters_of, filters_of_key}
 use Rattle.nested_sort.specs.Inside.{AreAt, IsAt, behind_chain, chain_docs, filters_left, later_filters}
 use Rattle.nested_sort.specs.Listed.{AreDocs, AreHits, AreKeyed, IsDocOf, IsHitAt, no_hit}

@@ -1,5 +1,5 @@
 -- Hits that are met one after another, and the page of those that are left.
-use Rattle.std.specs.Prelude.{◌≡◌, ℕ, zero, suc, ◌+◌, ◌≤◌, ◌<◌, ℤ, Bool, true, false, cond, List, [], ◌∷◌, ◌++◌, filter, drop, length, map, get_or, slice_get, IsSomeAnd, Option, Some, None, option_map, refl}
+use Rattle.std.specs.Prelude.{◌≡◌, ℕ, zero, suc, ◌+◌, ◌≤◌, ◌<◌, ℤ, Bool, true, false, List, [], ◌∷◌, ◌++◌, filter, drop, length, map, get_or, Option, Some, None, option_map, refl}
 use Rattle.std.specs.List.{All, AllByRecursion, count_by, flat_map}
 use Rattle.std.proofs.Common.{arith, ap, append_assoc, sym, subst, Bor, ◌∙◌}
 use Rattle.std.proofs.lemmas.Bool.{false≢true, true≢false}

@@ -197,11 +197,7 @@ fn first_key(
 }
 
 /// The hits whose keys are within reach.
-fn within(
-    alloc: Global,
-    kept: &[Candidate],
-    keys: &FirstKeys<'_>,
-) -> Result<Vec<Hit>, NoMemory>
+fn within(alloc: Global, kept: &[Candidate], keys: &FirstKeys<'_>) -> Result<Vec<Hit>, NoMemory>
     ensures { IfOk result (λ hits. hits.items ≡ flat_map (hit_within keys.now) kept.now) }
 {
     let mut hits = Vec::new(alloc);
@@ -212,11 +208,7 @@ fn within(
 }
 
 /// Adds a hit, if its key is within reach.
-fn add_within(
-    keys: &FirstKeys<'_>,
-    one: Candidate,
-    hits: &mut Vec<Hit>,
-) -> Result<(), NoMemory>
+fn add_within(keys: &FirstKeys<'_>, one: Candidate, hits: &mut Vec<Hit>) -> Result<(), NoMemory>
     ensures { OnOk result (hits.new.items ≡ hits.old.items ++ hit_within keys.now one) }
 {
     if keys.is_within(one.key) {

@@ -8,8 +8,7 @@ use Rattle.nested_sort.proofs.reached.add_candidates.Goals as goal
 
 pub found-preserved : goal.found-preserved
 found-preserved c =
-    let was = c.found.invariant in
-    (
+    let was = c.found.invariant in (
       was.0 ++ c.in-Some.hit ∷ [],
       hits_push was.0 (was.0 ++ c.in-Some.hit ∷ []) (hits_between c.args.place 0 c.len-end.result c.args.found.now) c.in-Some.hit
           (hits_between c.args.place c.found.left.from c.len-end.result c.found.left.scores) (hits_between c.args.place c.next_hit.new.left.from c.len-end.result c.next_hit.new.left.scores) refl

@@ -8,8 +8,7 @@ add_candidates-requires-clause-long c = long_at c.args.entries.now c.args.found.
 
 pub entries-preserved : goal.entries-preserved
 entries-preserved c =
-    let was = c.entries.invariant in
-    (
+    let was = c.entries.invariant in (
       was.0 ++ hits_from c.entries.at 0 c.index-found-at.result,
       entry_more c.args.found.now c.entries.at c.index-found-at.result was.0 c.entries-test.true c.index-found-at.is was.1,
       c.in_ok-add_candidates.ensures c.args.keys.now.direction c.args.keys.now.after c.args.keys.now.most was.0 was.2,
