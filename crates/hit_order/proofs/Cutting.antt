@@ -73,7 +73,7 @@ selecting_passed lt laws most all kept row worst was unwanted = record {
 
 -- ---- sorted and cut
 
-sorted_take : (lt : ℕ → ℕ → Bool) (most : ℕ) (rows : List ℕ) → IsSortedBy lt rows → IsSortedBy lt (take most rows)
+pub sorted_take : {A : Type 0} (lt : A → A → Bool) (most : ℕ) (rows : List A) → IsSortedBy lt rows → IsSortedBy lt (take most rows)
 sorted_take lt most rows up k d from to =
     let long = length-take most rows in
     let here : k < most = omega (arith, long, to) in
@@ -86,7 +86,7 @@ first_again lt laws most rows =
     laws.only (first_of lt most rows) (first_of lt most rows) (sorted_take lt most (in_order lt rows) (laws.sorted rows)) (λ x. refl) in
     ap (take most) (sym itself) ∙ take-take most most (in_order lt rows) (omega arith)
 
-last_is_worst : (lt : ℕ → ℕ → Bool) → IsStrictWeakOrder lt → (rows : List ℕ) (worst : ℕ) → IsSortedBy lt rows → slice_get rows (length rows - 1) ≡ Some worst → AllByRecursion (λ row. lt worst row ≡ false) rows
+pub last_is_worst : {A : Type 0} (lt : A → A → Bool) → IsStrictWeakOrder lt → (rows : List A) (worst : A) → IsSortedBy lt rows → slice_get rows (length rows - 1) ≡ Some worst → AllByRecursion (λ row. lt worst row ≡ false) rows
 last_is_worst lt o rows worst up last =
     recursion_from_All (λ row. lt worst row ≡ false) rows
     (λ k d below. let far = sorted_far lt o rows up k (length rows - 1) d (omega arith) (omega arith) in rw (get_or_from_slice_get rows (length rows - 1) worst d last) at far)

@@ -118,7 +118,7 @@ module _ {A : Type 0} where
       (λ no. simp (behind, no) (placed_in lt q up x ys passes)))
       (λ before. let yes : q y ≡ true = up x y before passes in simp (before, yes, passes) refl)
 
-  placed_out : (lt : A → A → Bool) (q : A → Bool) (x : A) (ys : List A) → q x ≡ false → filter q (placed lt x ys) ≡ filter q ys
+  pub placed_out : (lt : A → A → Bool) (q : A → Bool) (x : A) (ys : List A) → q x ≡ false → filter q (placed lt x ys) ≡ filter q ys
   placed_out lt q x [] fails = rw fails refl
   placed_out lt q x (y ∷ ys) fails =
       split (lt y x)

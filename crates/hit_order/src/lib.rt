@@ -6,13 +6,17 @@
 
 mod column;
 mod compare;
+mod first_keys;
 mod keys;
+mod law;
 mod no_memory;
 mod rows;
 mod selection;
 mod table;
 
 pub use column::{Column, ColumnKeys, RowPlace};
+pub use first_keys::FirstKeys;
 pub use keys::{NumberKeys, TextKeys};
+pub use law::pages_are_of_rows_within_reach;
 pub use no_memory::NoMemory;
 pub use rows::{KeyRows, top};

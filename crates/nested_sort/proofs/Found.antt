@@ -1,11 +1,11 @@
 -- The documents that were found: they are documents of the view, and those of live objects.
-use Rattle.std.specs.Prelude.{◌≡◌, ℕ, zero, suc, ◌+◌, ◌<◌, List, [], ◌∷◌, ◌++◌, length, map, get_or, Option, Some, None, refl}
+use Rattle.std.specs.Prelude.{◌≡◌, ℕ, zero, suc, ◌+◌, ◌<◌, Bool, List, [], ◌∷◌, ◌++◌, length, filter, map, get_or, Option, Some, None, refl}
 use Rattle.std.specs.List.{All, AllByRecursion}
 use Rattle.std.proofs.Common.{arith, ap, sym, subst, ◌∙◌, append_assoc}
 use Rattle.std.proofs.Math.ListN.{get_or-map}
 use Rattle.std.proofs.Math.Seq.{get_or-append_seam}
 use Rattle.std.proofs.lemmas.List.{length-append}
-use Rattle.std.proofs.lemmas.List.Elements.{All-from_recursion}
+use Rattle.std.proofs.lemmas.List.Elements.{All-filter, All-from_recursion}
 use Rattle.flattener.specs.StandsFor.{Marked}
 use Rattle.mapping.specs.Mapping.{Mapping}
 use Rattle.query_eval.specs.Found.{AreLong}
@@ -74,3 +74,13 @@ pub hits_found : (m : Mapping) (n : ℕ) (given : Object → Option ℕ) (trees 
 hits_found m n given trees found hits seen_all are =
     subst (AreHits m n trees) (sym are) (weaker (IsTold found) (λ (hit : Hit). IsHitAt m n trees hit.place hit.doc)
     (λ hit is. record { given = given; score = hit.score; is = sym (ap (λ l. get_or l hit.doc None) (ap (λ l. get_or l hit.place []) seen_all ∙ get_or-map (seen m (at_scope n given)) trees hit.place [])) ∙ is }) (hits_in found) (told found))
+
+-- ---- some of them
+
+module _ (keep : Hit → Bool) (found : List (List (Option ℕ))) (hits : List Hit) (are : hits ≡ filter keep (hits_in found)) where
+  pub docs_chosen : (view : List EntryState) → AreLong view found → AreDocs view hits
+  docs_chosen view long = subst (AreDocs view) (sym are) (All-filter keep (λ (hit : Hit). IsDocOf view hit.place hit.doc) (hits_in found) (docs_found view found (hits_in found) long refl))
+
+  pub hits_chosen : (m : Mapping) (n : ℕ) (given : Object → Option ℕ) (trees : List (List (Marked Tree))) → found ≡ map (seen m (at_scope n given)) trees → AreHits m n trees hits
+  hits_chosen m n given trees seen_all =
+      subst (AreHits m n trees) (sym are) (All-filter keep (λ (hit : Hit). IsHitAt m n trees hit.place hit.doc) (hits_in found) (hits_found m n given trees found (hits_in found) seen_all refl))

@@ -4,6 +4,7 @@ use Rattle.std.specs.List.{AllByRecursion, flat_map}
 use Rattle.std.specs.Option.{option_map_or}
 use Rattle.std.proofs.Common.{arith, ap, sym, subst, ◌∙◌, append_assoc}
 use Rattle.std.proofs.lemmas.Bool.{false≢true}
+use Rattle.std.proofs.lemmas.List.Elements.{All-from_recursion, recursion_from_All}
 use Rattle.std.proofs.lemmas.Simd.{map-map}
 use Rattle.doc_values.specs.Values.{values_of}
 use Rattle.flattener.specs.Flat.{flat_of as flat_of_object, has_numbers, is_keyword}
@@ -15,6 +16,7 @@ use Rattle.mapping_body.specs.declared.kind.Kind.TheVariants.{Text, Keyword, Lon
 use Rattle.mapping.specs.IsMapping.{IsMapping}
 use Rattle.mapping.specs.Mapping.{Mapping, kind_at}
 use Rattle.query_ast.specs.Clause.{Clause}
+use Rattle.query_ast.specs.Page.{first_key}
 use Rattle.query_ast.specs.Resolved.{AreSorts, IsChain, IsSortKey}
 use Rattle.query_ast.specs.SortKey.{chain_objects, key_by, key_or_missing, mode_value, sort_key}
 use Rattle.query_ast.specs.Uses.{uses_of}
@@ -40,7 +42,8 @@ use Rattle.view_objects.specs.Hits.{document_object, object_at}
 use Rattle.nested_sort.specs.Documents.{AllLong, Question, all_keys, behind_key, clause_keys, key_in, key_of_hit, number_value, score_key, text_value, values_at}
 use Rattle.nested_sort.specs.Filters.{AreFound, filter_at, filter_of, filters_of, filters_of_key}
 use Rattle.nested_sort.specs.Inside.{AreAt, IsAt, behind_chain, chain_docs, filters_left, later_filters}
-use Rattle.nested_sort.specs.Listed.{AreDocs, AreHits, AreKeyed, IsDocOf, no_hit}
+use Rattle.nested_sort.specs.Listed.{AreDocs, AreHits, AreKeyed, IsDocOf, IsHitAt, no_hit}
+use Rattle.nested_sort.specs.Reached.{first_key_of}
 use Rattle.nested_sort.proofs.Chains.{InsideLaw, chain_is}
 use Rattle.nested_sort.proofs.Documents.{Stands, documents, flat_is, flats_are, stands_if}
 use Rattle.nested_sort.proofs.Alike.{Reordered, mode_each}
@@ -183,3 +186,24 @@ module _ (m : Mapping) (law : IsMapping m → InsideLaw m) (view : List EntrySta
         ∙ ap (map (λ (keys : List Key). get_or keys at NoKey)) same
         ∙ keys_at sorts n found hits at low docs are is filters;
   }
+
+  -- the first key of a hit's row
+  first_is : (sorts : List Sort) (n : ℕ) (found : List (List (List (Option ℕ)))) (hit : Hit) → IsDocOf view hit.place hit.doc → IsHitAt m n trees hit.place hit.doc → AreSorts m n sorts → AreFound m view (filters_of sorts) found
+      → first_key (map (sort_key m (live_trees trees) hit.score (object_at m trees hit.place hit.doc)) sorts) ≡ first_key_of m view n found sorts hit
+  unfolding sort_key
+  first_is [] n found hit doc is sorted filters = refl
+  first_is (sort ∷ sorts) n found hit doc is sorted filters =
+      sym (key_at_hit sort.missing sort.key n found (filters_of sorts) (hit ∷ []) 0 (omega arith)
+      (All-from_recursion (λ (h : Hit). IsDocOf view h.place h.doc) (hit ∷ []) (doc, tt))
+      (All-from_recursion (λ (h : Hit). IsHitAt m n trees h.place h.doc) (hit ∷ []) (is, tt))
+      sorted.0 filters)
+
+  pub first_keys : (sorts : List Sort) (n : ℕ) (found : List (List (List (Option ℕ)))) (hits : List Hit) → AreDocs view hits → AreHits m n trees hits → AreSorts m n sorts → AreFound m view (filters_of sorts) found
+      → AllByRecursion (λ (hit : Hit). first_key (map (sort_key m (live_trees trees) hit.score (object_at m trees hit.place hit.doc)) sorts) ≡ first_key_of m view n found sorts hit) hits
+  first_keys sorts n found hits docs are sorted filters =
+      by hits (recursion_from_All (λ (hit : Hit). IsDocOf view hit.place hit.doc) hits docs) (recursion_from_All (λ (hit : Hit). IsHitAt m n trees hit.place hit.doc) hits are)
+    where
+      by : (hs : List Hit) → AllByRecursion (λ (hit : Hit). IsDocOf view hit.place hit.doc) hs → AllByRecursion (λ (hit : Hit). IsHitAt m n trees hit.place hit.doc) hs
+          → AllByRecursion (λ (hit : Hit). first_key (map (sort_key m (live_trees trees) hit.score (object_at m trees hit.place hit.doc)) sorts) ≡ first_key_of m view n found sorts hit) hs
+      by [] docs are = tt
+      by (hit ∷ hs) docs are = (first_is sorts n found hit docs.0 are.0 sorted filters, by hs docs.1 are.1)

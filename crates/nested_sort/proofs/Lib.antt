@@ -17,3 +17,4 @@ pub mod Scopes
 pub mod Shown
 pub mod Tables
 pub mod Ways
+pub mod Reaches

@@ -140,6 +140,10 @@ module _ (m : Mapping) (c : Columns) (bits : LiveState) (ts : List (Marked Tree)
 
 -- ---- the table
 
+-- the row of a hit
+abbrev pub hit_row : Mapping → List (List (Marked Tree)) → List Sort → Hit → KeyRow
+hit_row m trees sorts hit = keyed_row m (live_trees trees) sorts hit.place hit.doc (object_at m trees hit.place hit.doc, hit.score)
+
 module _ (m : Mapping) (view : List EntryState) (trees : List (List (Marked Tree))) (stand : ViewStandsFor m view trees)
     (scopes_law : (c : Columns) (bits : LiveState) (ts : List (Marked Tree)) → EntryStandsFor m c bits ts → scopes_in c ≡ scopes_of m ts)
     (count_law : (c : Columns) (bits : LiveState) (ts : List (Marked Tree)) → EntryStandsFor m c bits ts → length (objects_in m ts) ≡ c.documents)
@@ -178,24 +182,22 @@ module _ (m : Mapping) (view : List EntryState) (trees : List (List (Marked Tree
       read f (hit ∷ hits) zero d low = refl
       read f (hit ∷ hits) (suc k) d low = read f hits k d (omega arith)
 
-  pub table_rows : (n : ℕ) (given : List Tree → Object → Option ℕ) (sorts : List Sort) (found : List (List (Option ℕ))) (hits : List Hit) (columns : List Column) (places : List RowPlace)
-      → found ≡ map (seen m (at_scope n (given (live_trees trees)))) trees → hits ≡ hits_in found → places ≡ map (place_of_hit view) hits → AreKeyed m trees sorts hits columns → AreDocs view hits
-      → (table_of columns places).rows ≡ keyed_rows m n sorts given trees
-  unfolding table_of keyed_rows
-  table_rows n given sorts found hits columns places seen_all are at_places keyed docs =
-      let live = live_trees trees in
-      let wanted = map (λ (hit : Hit). keyed_row m live sorts hit.place hit.doc (object_at m trees hit.place hit.doc, hit.score)) hits in
+  -- the rows of hits with their keys and places
+  pub table_rows : (sorts : List Sort) (hits : List Hit) (columns : List Column) (places : List RowPlace) → places ≡ map (place_of_hit view) hits → AreKeyed m trees sorts hits columns → AreDocs view hits → (table_of columns places).rows ≡ map (hit_row m trees sorts) hits
+  unfolding table_of
+  table_rows sorts hits columns places at_places keyed docs =
       let made = map (row_at columns (map (place_of_hit view) hits)) (range_with_len 0 (length (map (place_of_hit view) hits))) in
       let long : length made ≡ length hits = length-map-range_with_len (row_at columns (map (place_of_hit view) hits)) 0 (length (map (place_of_hit view) hits)) ∙ length-map hits (place_of_hit view) in
       ap (λ (ps : List RowPlace). map (row_at columns ps) (range_with_len 0 (length ps))) at_places
-      ∙ same_lists made wanted (long ∙ sym (length-map hits (λ (hit : Hit). keyed_row m live sorts hit.place hit.doc (object_at m trees hit.place hit.doc, hit.score))))
-      (λ k d low.
-      row_is sorts hits columns k d keyed docs (omega arith)
-      ∙ sym (read (λ (hit : Hit). keyed_row m live sorts hit.place hit.doc (object_at m trees hit.place hit.doc, hit.score)) hits k d (omega arith)))
-      ∙ ap (λ own. map (λ (hit : Hit). keyed_row m live sorts hit.place hit.doc (object_at m trees hit.place hit.doc, hit.score)) own) (are ∙ ap hits_in seen_all)
-      ∙ sym (rows_by_hits m n live sorts (given live) trees)
+      ∙ same_lists made (map (hit_row m trees sorts) hits) (long ∙ sym (length-map hits (hit_row m trees sorts)))
+      (λ k d low. row_is sorts hits columns k d keyed docs (omega arith) ∙ sym (read (hit_row m trees sorts) hits k d (omega arith)))
     where
       read : (f : Hit → KeyRow) (hits : List Hit) (k : ℕ) (d : KeyRow) → k < length hits → get_or (map f hits) k d ≡ f (get_or hits k no_hit)
       read f [] k d low = absurd (omega arith)
       read f (hit ∷ hits) zero d low = refl
       read f (hit ∷ hits) (suc k) d low = read f hits k d (omega arith)
+
+  -- those of all that was found
+  pub found_rows : (n : ℕ) (given : List Tree → Object → Option ℕ) (sorts : List Sort) (found : List (List (Option ℕ))) → found ≡ map (seen m (at_scope n (given (live_trees trees)))) trees → map (hit_row m trees sorts) (hits_in found) ≡ keyed_rows m n sorts given trees
+  unfolding keyed_rows
+  found_rows n given sorts found seen_all = ap (λ own. map (hit_row m trees sorts) (hits_in own)) seen_all ∙ sym (rows_by_hits m n (live_trees trees) sorts (given (live_trees trees)) trees)

@@ -97,11 +97,14 @@ key_of_hit written view q hit = option_map_or (λ (entry : EntryState). key_in w
 abbrev pub score_key : Hit → Key
 score_key hit = NumberKey (pos hit.score)
 
--- the keys of one clause, where these filters are left
+-- the key of a hit for one clause, where these filters are left
+abbrev pub clause_key : Mapping → List EntryState → ℕ → List (List (List (Option ℕ))) → Missing → SortKey → Hit → Key
+clause_key m view n filters missing Score = score_key
+clause_key m view n filters missing (Field f mode chain) =
+    key_of_hit (is_keyword (kind_at m f)) view (record { field = f; mode = mode; chain = chain; filters = filters; scope = n; missing = missing })
+
 abbrev pub clause_keys : Mapping → List EntryState → List Hit → ℕ → List (List (List (Option ℕ))) → Missing → SortKey → List Key
-clause_keys m view hits n filters missing Score = map score_key hits
-clause_keys m view hits n filters missing (Field f mode chain) =
-    map (key_of_hit (is_keyword (kind_at m f)) view (record { field = f; mode = mode; chain = chain; filters = filters; scope = n; missing = missing })) hits
+clause_keys m view hits n filters missing key = map (clause_key m view n filters missing key) hits
 
 abbrev pub behind_key : SortKey → List (List (List (Option ℕ))) → List (List (List (Option ℕ)))
 behind_key Score filters = filters

@@ -7,3 +7,4 @@ pub mod Listed
 pub mod Inside
 pub mod Documents
 pub mod Best
+pub mod Reached

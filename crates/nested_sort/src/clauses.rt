@@ -142,7 +142,7 @@ fn field_keys(
 }
 
 /// The direction of a clause, and where null stands.
-fn direction_of(sort: &Sort) -> Direction
+pub(crate) fn direction_of(sort: &Sort) -> Direction
     ensures { result ≡ direction_of sort.now }
 {
     Direction {

@@ -36,13 +36,14 @@ fn add_hits(place: u64, found: &Scored, hits: &mut Vec<Hit>) -> Result<(), NoMem
 
 /// The next document with a score, before `end`. The cursor goes on behind it.
 #[tactic(auto, using(crate::proofs::Ranges::next_hits))]
-fn next_hit(left: &mut Cursor, place: u64, end: u32) -> Option<Hit>
+pub(crate) fn next_hit(left: &mut Cursor, place: u64, end: u32) -> Option<Hit>
     requires ordered { left.old.from ≤ end }
     requires within { end ≤ length left.old.scores }
     ensures scores { left.new.scores ≡ left.old.scores }
     ensures later { IfSome result (λ hit. (left.old.from < left.new.from) × (left.new.from ≤ end)) }
     ensures hit { IfSome result (λ hit. hits_between place left.old.from end left.old.scores ≡ hit ∷ hits_between place left.new.from end left.old.scores) }
     ensures capped { IfSome result IsCapped }
+    ensures within { IfSome result (λ hit. (hit.place ≡ place) × (hit.doc < end)) }
     ensures none { IfNone result (hits_between place left.old.from end left.old.scores ≡ []) }
 {
     let doc = left.peek()?;

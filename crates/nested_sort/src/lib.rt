@@ -1,8 +1,8 @@
 //! The keys of hits: what each was found with, made the rows that are put in order.
 //!
 //! Stands on `query_eval` for what was found, on `segment` for the columns of values, on `view_objects` for the documents
-//! inside a document, and on `hit_order` for rows. The contract that others use: `keys` gives each hit the `sort_key` of
-//! each clause; `columns` does so for any list of hits. Begin with `specs/Keyed`, then `rows`.
+//! inside a document, and on `hit_order` for rows. The contract that others use: `keys` gives each hit that a page can show the
+//! `sort_key` of each clause; `columns` does so for any list of hits. Begin with `specs/Keyed`, then `rows`.
 #![tactic(auto)]
 
 mod asked;
@@ -12,6 +12,7 @@ mod inside;
 mod modes;
 mod no_memory;
 mod numbers;
+mod reached;
 mod rows;
 mod texts;
 

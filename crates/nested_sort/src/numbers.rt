@@ -52,7 +52,7 @@ pub(crate) fn number_keys(
 }
 
 /// The number of one hit.
-fn key_of(
+pub(crate) fn key_of(
     entries: &[Entry],
     hit: Hit,
     asked: &Asked<'_>,

@@ -1,14 +1,14 @@
 //! The rows of hits.
-ghost use Rattle.std.specs.Prelude.{◌≡◌, ◌<◌, ℕ, List, map, pos, Option, IfOk};
+ghost use Rattle.std.specs.Prelude.{◌≡◌, ◌+◌, ◌<◌, ◌≤◌, ℕ, List, map, option_map, pos, Option, IfOk};
 ghost use Rattle.std.specs.List.{All};
 ghost use Rattle.flattener.specs.Fits.{EntryFits, SegmentFits, ViewFits};
 ghost use Rattle.flattener.specs.StandsFor.{Marked, ViewStandsFor};
-ghost use Rattle.hit_order.specs.Table.{directions_of};
+ghost use Rattle.hit_order.specs.Table.{directions_of, keys_of_row, number_of_row};
 ghost use Rattle.nested_sort.specs.Documents.{number_in, place_of_hit};
 ghost use Rattle.nested_sort.specs.Filters.{AreFound, filters_of};
 ghost use Rattle.nested_sort.specs.Keyed.{keyed_rows};
 ghost use Rattle.nested_sort.specs.Listed.{AreDocs, AreHits, AreKeyed, IsCapped, IsDocOf};
-ghost use Rattle.query_ast.specs.Page.{direction_of};
+ghost use Rattle.query_ast.specs.Page.{direction_of, page_of};
 ghost use Rattle.query_ast.specs.Resolved.{AreSorts};
 ghost use Rattle.query_eval.specs.Found.{AreLong, IsSeen};
 ghost use Rattle.tree_objects.specs.Object.{Object};
@@ -16,11 +16,11 @@ ghost use Rattle.tree_objects.specs.Tree.{Tree};
 
 use crate::NoMemory;
 use crate::clauses::clause_columns;
-use crate::hits::hits_found;
+use crate::reached::hits_within;
 use block_join::Matches;
 use hit_order::{Column, KeyRows, RowPlace};
 use mapping::Mapping;
-use query_ast::SortList;
+use query_ast::{KeyRow, SortList};
 use segment::{Segment, scopes_are_of_documents};
 use segment_view::{Entry, View};
 use source_steps::Steps;
@@ -28,7 +28,8 @@ use std::alloc::Global;
 use std::sync::ledger::Ledger;
 use view_objects::{Hit, documents_are_of_objects, hits_are_objects};
 
-/// The rows of the documents that were found, in the order of the view: for each sort clause the key of each document.
+/// The rows of the documents that were found, in the order of the view, for a page that ends at so many rows behind one, if
+/// it is named: for each sort clause the key of each document. Those that no such page can show are left out.
 ///
 /// The clauses were resolved under the mapping in the scope of what was found. `filters` holds, for each `nested` of a
 /// clause that has a filter, what that filter finds in the scope of its path: clauses in order, each from the outermost in.
@@ -40,18 +41,22 @@ pub fn keys<L: Ledger>(
     filters: &[Matches],
     scope: u32,
     sorts: &SortList,
+    after: Option<&KeyRow>,
+    most: usize,
     steps: &mut Steps<L>,
 ) -> Result<KeyRows, NoMemory>
     requires fits { ViewFits mapping.now view.now }
     requires sorts { AreSorts mapping.now scope sorts.now }
     requires found { AreLong view.now found.now }
     requires filters { AreFound mapping.now view.now (filters_of sorts.now) filters.now }
-    ensures rows { IfOk result (λ rows. (given : List Tree → Object → Option ℕ) (trees : List (List (Marked Tree))) → IsSeen mapping.now view.now scope given found.now → ViewStandsFor mapping.now view.now trees
-        → rows.rows ≡ keyed_rows mapping.now scope sorts.now given trees) }
+    ensures rows { IfOk result (λ rows. (given : List Tree → Object → Option ℕ) (trees : List (List (Marked Tree))) (from size : ℕ) → IsSeen mapping.now view.now scope given found.now → ViewStandsFor mapping.now view.now trees → from + size ≤ most
+        → page_of keys_of_row number_of_row (map direction_of sorts.now) (option_map (λ row. row.now) after.entry) from size rows.rows ≡ page_of keys_of_row number_of_row (map direction_of sorts.now) (option_map (λ row. row.now) after.entry) from size (keyed_rows mapping.now scope sorts.now given trees)) }
     ensures directions { IfOk result (λ rows. rows.directions ≡ map direction_of sorts.now) }
     ensures steps { steps.new ≡ steps.old }
 {
-    Ok(rows_of(alloc, view, mapping, found, filters, scope, sorts)?)
+    Ok(rows_of(
+        alloc, view, mapping, found, filters, scope, sorts, after, most,
+    )?)
 }
 
 /// The same without a counter.
@@ -63,17 +68,30 @@ fn rows_of(
     filters: &[Matches],
     scope: u32,
     sorts: &SortList,
+    after: Option<&KeyRow>,
+    most: usize,
 ) -> Result<KeyRows, NoMemory>
     requires fits { ViewFits mapping.now view.now }
     requires sorts { AreSorts mapping.now scope sorts.now }
     requires found { AreLong view.now found.now }
     requires filters { AreFound mapping.now view.now (filters_of sorts.now) filters.now }
-    ensures rows { IfOk result (λ rows. (given : List Tree → Object → Option ℕ) (trees : List (List (Marked Tree))) → IsSeen mapping.now view.now scope given found.now → ViewStandsFor mapping.now view.now trees
-        → rows.rows ≡ keyed_rows mapping.now scope sorts.now given trees) }
+    ensures rows { IfOk result (λ rows. (given : List Tree → Object → Option ℕ) (trees : List (List (Marked Tree))) (from size : ℕ) → IsSeen mapping.now view.now scope given found.now → ViewStandsFor mapping.now view.now trees → from + size ≤ most
+        → page_of keys_of_row number_of_row (map direction_of sorts.now) (option_map (λ row. row.now) after.entry) from size rows.rows ≡ page_of keys_of_row number_of_row (map direction_of sorts.now) (option_map (λ row. row.now) after.entry) from size (keyed_rows mapping.now scope sorts.now given trees)) }
     ensures directions { IfOk result (λ rows. rows.directions ≡ map direction_of sorts.now) }
 {
     documents_are_of_objects();
-    let hits = hits_found(alloc, found.as_slice())?;
+    hits_are_objects();
+    let hits = hits_within(
+        alloc,
+        view.entries(),
+        mapping,
+        found.as_slice(),
+        filters,
+        scope,
+        sorts.as_slice(),
+        after,
+        most,
+    )?;
     let listed = hits.as_slice();
     let columns = columns(alloc, view, mapping, listed, filters, scope, sorts)?;
     let places = places(alloc, view.entries(), mapping, listed)?;

@@ -24,12 +24,6 @@ module _ {A B : Type 0} (R : A → B → Type 0) where
   agree_append (x ∷ xs) [] more others own rest = absurd own
   agree_append (x ∷ xs) (y ∷ ys) more others own rest = (own.0, agree_append xs ys more others own.1 rest)
 
-  pub agree_length : (xs : Seq A) (ys : Seq B) → Agree xs ys → length xs ≡ length ys
-  agree_length [] [] own = refl
-  agree_length [] (y ∷ ys) own = absurd own
-  agree_length (x ∷ xs) [] own = absurd own
-  agree_length (x ∷ xs) (y ∷ ys) own = ap suc (agree_length xs ys own.1)
-
   -- what the elements give is the same, and each of the first gives something
   pub agree_shown : {C : Type 0} (f : A → Option C) (g : B → C) → ((x : A) (y : B) → R x y → f x ≡ Some (g y)) → (xs : Seq A) (ys : Seq B) → Agree xs ys → filter_map f xs ≡ map g ys
   agree_shown f g shown [] [] own = refl

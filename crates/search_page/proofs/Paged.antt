@@ -8,9 +8,11 @@ use Rattle.nested_sort.specs.Keyed.{keyed_rows}
 use Rattle.inner_hits.specs.Steps.{joined_in}
 use Rattle.query_ast.specs.Definition.{definitions_of}
 use Rattle.query_ast.specs.InnerHits.{inner_pages}
+use Rattle.query_ast.specs.Hit.{those_hit}
+use Rattle.query_ast.specs.Joined.{roots}
 use Rattle.query_ast.specs.Page.{direction_of, page_of}
 use Rattle.query_ast.specs.Pages.{pages_of}
-use Rattle.query_ast.specs.Rows.{Row, keys_of, number_of, paged}
+use Rattle.query_ast.specs.Rows.{Row, keys_of, number_of, paged, rows_of}
 use Rattle.query_ast.specs.Search.{found_rows, hit_of, hit_page}
 use Rattle.query_ast.specs.declared.hit.Hit.{Hit}
 use Rattle.query_ast.specs.declared.search.SearchBody.{SearchBody}
@@ -22,7 +24,8 @@ use Rattle.tree_objects.specs.Object.{Object}
 use Rattle.tree_objects.specs.Tree.{Tree}
 use Rattle.search_page.specs.Hits.{AreRootRows, row_reads, shown_at}
 use Rattle.search_page.specs.Searched.{hit_reads, page_reads}
-use Rattle.search_page.proofs.Agreeing.{Agree, agree_length, agree_page, agree_shown}
+use Rattle.search_page.proofs.Agreeing.{Agree, agree_page, agree_shown}
+use Rattle.search_page.proofs.Empty.{rows_long}
 use Rattle.search_page.proofs.Rows.{OneRoot, Same, Scores, rows_agree}
 use Rattle.search_page.proofs.Shown.{sum_first}
 
@@ -67,26 +70,27 @@ module _ (m : Mapping) (one_root : OneRoot m) (view : Seq EntryState) (found : S
       ∙ sym (sum_first hit_reads (hit_of m live body o) (map (hit_of m live body) own))
 
   -- from rows that were made for the query, with the directions of the clauses and the row to go on behind
-  module _ (all page : Seq KeyRow) (directions : Seq Direction) (after : Option KeyRow) (are : all ≡ rows) (own : directions ≡ map direction_of body.sort) (behind : after ≡ body.after)
+  module _ (all page : Seq KeyRow) (directions : Seq Direction) (after : Option KeyRow) (own : directions ≡ map direction_of body.sort) (behind : after ≡ body.after)
+      (are : page_of keys_of_row number_of_row (map direction_of body.sort) after body.from body.size all ≡ page_of keys_of_row number_of_row (map direction_of body.sort) after body.from body.size rows)
       (cut : page ≡ page_of keys_of_row number_of_row directions after body.from body.size all) where
     page_is : page ≡ shown
     page_is =
         cut
         ∙ ap (λ (ds : Seq Direction). page_of keys_of_row number_of_row ds after body.from body.size all) own
-        ∙ ap (λ (row : Option KeyRow). page_of keys_of_row number_of_row (map direction_of body.sort) row body.from body.size all) behind
-        ∙ ap (page_of keys_of_row number_of_row (map direction_of body.sort) body.after body.from body.size) are
+        ∙ are
+        ∙ ap (λ (row : Option KeyRow). page_of keys_of_row number_of_row (map direction_of body.sort) row body.from body.size rows) behind
 
     pub page_at_roots : AreRootRows m trees page
     page_at_roots = subst (AreRootRows m trees) (sym page_is) (at_roots shown own_shown shown_are)
 
-    pub page_found : (hits : Seq Hit) (total : ℕ) → hits ≡ filter_map (shown_at m view found trees body) page → total ≡ length all → record { hits = hits; total = total } ≡ hit_page m live body
-    unfolding hit_page
+    pub page_found : (hits : Seq Hit) (total : ℕ) → hits ≡ filter_map (shown_at m view found trees body) page → total ≡ length (those_hit m live body.query (roots live)) → record { hits = hits; total = total } ≡ hit_page m live body
+    unfolding hit_page rows_of
     page_found hits total shown_by count =
         ap (λ (hs : Seq Hit). record { hits = hs; total = total })
         (shown_by ∙ ap (filter_map (shown_at m view found trees body)) page_is
         ∙ agree_shown Pair (shown_at m view found trees body) (hit_of m live body) (λ row own it. it.shown) shown own_shown shown_are)
         ∙ ap (λ (n : ℕ). record { hits = map (hit_of m live body) own_shown; total = n })
-        (count ∙ ap length are ∙ agree_length Pair rows (found_rows m live body) rows_are)
+        (count ∙ sym (rows_long m live body.query body.sort (roots live)))
 
     pub page_reads_are : sum_by (row_reads m trees body) page ≡ page_reads (hit_page m live body)
     unfolding hit_page

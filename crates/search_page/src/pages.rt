@@ -187,7 +187,7 @@ fn empty_page(
     Ok(HitPage { hits, total })
 }
 
-/// The page, by the rows of all hits.
+/// The page, by the rows of the hits that it can hold.
 fn shown_page<L: Ledger>(
     alloc: Global,
     view: &View,
@@ -206,6 +206,8 @@ fn shown_page<L: Ledger>(
     ensures unread { search.now.source ≡ false → search.now.inner ≡ [] → steps.new ≡ steps.old }
 {
     objects_nest();
+    let total = found_count(view, mapping, matched)?;
+    let after = search.after.as_ref();
     let sorts = search.sort.as_slice();
     let filters = filters_found(alloc, view, mapping, ordinals, sorts, steps)?;
     let prepared = prepare(alloc, view, mapping, ordinals, &search.inner, 0, steps)?;
@@ -217,10 +219,11 @@ fn shown_page<L: Ledger>(
         filters.as_slice(),
         0,
         &search.sort,
+        after,
+        search.from as usize + search.size as usize,
         steps,
     )?;
-    let total = rows.len() as u64;
-    let shown = top(alloc, rows, search.after.as_ref(), search.from, search.size)?;
+    let shown = top(alloc, rows, after, search.from, search.size)?;
     let hits = hits_of(
         alloc, view, mapping, ordinals, search, &prepared, matched, &shown, steps,
     )?;

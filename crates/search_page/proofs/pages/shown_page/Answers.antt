@@ -15,13 +15,13 @@ returns-clause-page g c = λ trees searched.
     let found = c.args.matched.now in
     let rows = c.in_ok-rows.rows in
     let one_root = c.objects_nest.ensures.at_root m in
-    let are = c.in_ok-rows.ensures.rows (score_by m body.query) trees c.requires.matched searched.stands in
+    let are = c.in_ok-rows.ensures.rows (score_by m body.query) trees body.from body.size c.requires.matched searched.stands (omega arith) in
     let page = c.in_ok-shown.shown.rows in
-    page_found m one_root view found body c.requires.matched trees searched.stands rows.rows page rows.directions _ are c.in_ok-rows.ensures.directions c.as_ref.ensures.value c.in_ok-shown.ensures.page
-    c.of.result c.len-total.result
+    page_found m one_root view found body c.requires.matched trees searched.stands rows.rows page rows.directions _ c.in_ok-rows.ensures.directions c.as_ref-after.ensures.value are c.in_ok-shown.ensures.page
+    c.of.result c.in_ok-total.total
     (c.of.ensures
-    ∙ c.in_ok-hits.ensures.hits trees searched (page_at_roots m one_root view found body c.requires.matched trees searched.stands rows.rows page rows.directions _ are c.in_ok-rows.ensures.directions c.as_ref.ensures.value c.in_ok-shown.ensures.page))
-    c.len-total.ensures
+    ∙ c.in_ok-hits.ensures.hits trees searched (page_at_roots m one_root view found body c.requires.matched trees searched.stands rows.rows page rows.directions _ c.in_ok-rows.ensures.directions c.as_ref-after.ensures.value are c.in_ok-shown.ensures.page))
+    (c.in_ok-total.ensures body.query trees c.requires.matched searched.stands)
 
 pub returns-in_err-hits-clause-reads : goal.returns-in_err-hits-clause-reads
 returns-in_err-hits-clause-reads g c = λ trees searched.
@@ -31,11 +31,11 @@ returns-in_err-hits-clause-reads g c = λ trees searched.
     let found = c.args.matched.now in
     let rows = c.in_ok-rows.rows in
     let one_root = c.objects_nest.ensures.at_root m in
-    let are = c.in_ok-rows.ensures.rows (score_by m body.query) trees c.requires.matched searched.stands in
+    let are = c.in_ok-rows.ensures.rows (score_by m body.query) trees body.from body.size c.requires.matched searched.stands (omega arith) in
     let page = c.in_ok-shown.shown.rows in
-    let reads = c.in_err-hits.ensures.reads trees searched (page_at_roots m one_root view found body c.requires.matched trees searched.stands rows.rows page rows.directions _ are c.in_ok-rows.ensures.directions c.as_ref.ensures.value c.in_ok-shown.ensures.page) in
+    let reads = c.in_err-hits.ensures.reads trees searched (page_at_roots m one_root view found body c.requires.matched trees searched.stands rows.rows page rows.directions _ c.in_ok-rows.ensures.directions c.as_ref-after.ensures.value are c.in_ok-shown.ensures.page) in
     let costs : sum_by (row_reads m trees body) page ≡ page_reads (hit_page m (live_trees trees) body) =
-    page_reads_are m one_root view found body c.requires.matched trees searched.stands rows.rows page rows.directions _ are c.in_ok-rows.ensures.directions c.as_ref.ensures.value c.in_ok-shown.ensures.page in
+    page_reads_are m one_root view found body c.requires.matched trees searched.stands rows.rows page rows.directions _ c.in_ok-rows.ensures.directions c.as_ref-after.ensures.value are c.in_ok-shown.ensures.page in
     omega (arith, reads, costs, c.in_ok-rows.ensures.steps, c.in_ok-prepared.ensures.steps, c.in_ok-filters.ensures.steps)
 
 pub returns-clause-reads : goal.returns-clause-reads
@@ -46,9 +46,9 @@ returns-clause-reads g c = λ trees searched.
     let found = c.args.matched.now in
     let rows = c.in_ok-rows.rows in
     let one_root = c.objects_nest.ensures.at_root m in
-    let are = c.in_ok-rows.ensures.rows (score_by m body.query) trees c.requires.matched searched.stands in
+    let are = c.in_ok-rows.ensures.rows (score_by m body.query) trees body.from body.size c.requires.matched searched.stands (omega arith) in
     let page = c.in_ok-shown.shown.rows in
-    let reads = c.in_ok-hits.ensures.reads trees searched (page_at_roots m one_root view found body c.requires.matched trees searched.stands rows.rows page rows.directions _ are c.in_ok-rows.ensures.directions c.as_ref.ensures.value c.in_ok-shown.ensures.page) in
+    let reads = c.in_ok-hits.ensures.reads trees searched (page_at_roots m one_root view found body c.requires.matched trees searched.stands rows.rows page rows.directions _ c.in_ok-rows.ensures.directions c.as_ref-after.ensures.value are c.in_ok-shown.ensures.page) in
     let costs : sum_by (row_reads m trees body) page ≡ page_reads (hit_page m (live_trees trees) body) =
-    page_reads_are m one_root view found body c.requires.matched trees searched.stands rows.rows page rows.directions _ are c.in_ok-rows.ensures.directions c.as_ref.ensures.value c.in_ok-shown.ensures.page in
+    page_reads_are m one_root view found body c.requires.matched trees searched.stands rows.rows page rows.directions _ c.in_ok-rows.ensures.directions c.as_ref-after.ensures.value are c.in_ok-shown.ensures.page in
     omega (arith, reads, costs, c.in_ok-rows.ensures.steps, c.in_ok-prepared.ensures.steps, c.in_ok-filters.ensures.steps)

@@ -1,0 +1,218 @@
+//! The hits that a page can show, by their first keys: those out of reach get no row.
+ghost use Rattle.std.specs.Prelude.{◌≡◌, ◌++◌, ◌∷◌, ℕ, Bool, List, [], None, filter, option_map, Option, IfOk, IfSome, OnOk};
+ghost use Rattle.std.specs.List.{All, flat_map};
+ghost use Rattle.hit_order.specs.Table.{number_or_null};
+ghost use Rattle.nested_sort.specs.Documents.{AllLong, clause_key};
+ghost use Rattle.nested_sort.specs.Listed.{IsCapped, IsDocOf};
+ghost use Rattle.nested_sort.specs.Reached.{AreKept, HavePages, IsAsked, IsLongAt, hit_within, key_by};
+ghost use Rattle.query_ast.specs.Resolved.{AreSorts, IsSortKey};
+ghost use Rattle.query_ast.specs.declared.sort.Direction.{Direction as RowDirection};
+ghost use Rattle.query_ast.specs.declared.sort.Key.{Key};
+ghost use Rattle.query_eval.specs.Found.{AreLong};
+ghost use Rattle.segment.specs.Live.{EntryState};
+ghost use Rattle.view_objects.specs.Hits.{hits_from, hits_in};
+ghost use Rattle.view_objects.specs.declared.hit.Hit.{Hit as FoundHit};
+
+use crate::NoMemory;
+use crate::asked::Asked;
+use crate::clauses::direction_of;
+use crate::hits::{hits_found, next_hit};
+use crate::numbers::key_of;
+use block_join::{Matches, Scored};
+use hit_order::{FirstKeys, pages_are_of_rows_within_reach};
+use mapping::{Kind, Mapping};
+use query_ast::{KeyRow, Sort, SortKey};
+use segment_view::Entry;
+use std::alloc::Global;
+use view_objects::Hit;
+
+/// A first clause whose keys are numbers or null.
+#[derive(Drop)]
+pub(crate) enum NumberClause<'a> {
+    Score,
+    Field(Asked<'a>),
+}
+
+/// A hit with its key for the first clause.
+#[derive(Clone, Copy, Debug, PartialEq, Eq)]
+pub(crate) struct Candidate {
+    pub(crate) key: Option<i64>,
+    pub(crate) hit: Hit,
+}
+
+/// Of the documents with a score those that a page can show that ends at so many rows behind one, if it is named.
+///
+/// All are kept where the first clause is on a text, and where there is none.
+pub(crate) fn hits_within(
+    alloc: Global,
+    entries: &[Entry],
+    mapping: &Mapping,
+    found: &[Scored],
+    filters: &[Matches],
+    scope: u32,
+    sorts: &[Sort],
+    after: Option<&KeyRow>,
+    most: usize,
+) -> Result<Vec<Hit>, NoMemory>
+    requires sorts { AreSorts mapping.now scope sorts.now }
+    requires filters { AllLong entries.now filters.now }
+    requires found { AreLong entries.now found.now }
+    ensures chosen { IfOk result (λ hits. (keep : FoundHit → Bool) × (hits.items ≡ filter keep (hits_in found.now))) }
+    ensures pages { IfOk result (λ hits. HavePages mapping.now entries.now scope filters.now sorts.now (option_map (λ row. row.now) after.entry) most (hits_in found.now) hits.items) }
+    ensures capped { IfOk result (λ hits. All IsCapped hits.items) }
+{
+    pages_are_of_rows_within_reach();
+    match sorts {
+        [] => Ok(hits_found(alloc, found)?),
+        [first, ..] => match number_clause(mapping, filters, scope, first) {
+            None => Ok(hits_found(alloc, found)?),
+            Some(clause) => {
+                let mut keys = FirstKeys::of(alloc, direction_of(first), after, most);
+                let kept = candidates(alloc, entries, found, &clause, &mut keys)?;
+                let hits = within(alloc, kept.as_slice(), &keys)?;
+                Ok(hits)
+            }
+        },
+    }
+}
+
+/// What a clause asks, where its keys are numbers or null.
+fn number_clause<'a>(
+    mapping: &Mapping,
+    filters: &'a [Matches],
+    scope: u32,
+    sort: &'a Sort,
+) -> Option<NumberClause<'a>>
+    requires sort { IsSortKey mapping.now scope sort.now.missing sort.now.key }
+    ensures keys { IfSome result (λ clause. (entries : List EntryState) → key_by entries clause ≡ clause_key mapping.now entries scope filters.now sort.now.missing sort.now.key) }
+    ensures asked { IfSome result (λ clause. (entries : List EntryState) → AllLong entries filters.now → IsAsked entries clause) }
+{
+    match &sort.key {
+        SortKey::Score => Some(NumberClause::Score),
+        SortKey::Field { field, mode, chain } => {
+            if mapping.kind(*field) == Kind::Keyword {
+                return None;
+            }
+            Some(NumberClause::Field(Asked {
+                field: *field,
+                mode: *mode,
+                chain: chain.as_slice(),
+                filters,
+                scope,
+                missing: &sort.missing,
+            }))
+        }
+    }
+}
+
+/// The documents with a score that were within reach when they were met, each with its key.
+fn candidates(
+    alloc: Global,
+    entries: &[Entry],
+    found: &[Scored],
+    clause: &NumberClause<'_>,
+    keys: &mut FirstKeys<'_>,
+) -> Result<Vec<Candidate>, NoMemory>
+    requires asked { IsAsked entries.now clause.now }
+    requires found { AreLong entries.now found.now }
+    requires none { keys.old.bound ≡ None }
+    requires new { keys.old.keys ≡ [] }
+    ensures { IfOk result (λ kept. AreKept (key_by entries.now clause.now) keys.old.direction keys.old.after keys.old.most (hits_in found.now) kept.items keys.new) }
+{
+    let mut kept = Vec::new(alloc);
+    let mut values = Vec::new(alloc);
+    'entries: for at in 0..found.len() {
+        add_candidates(
+            entries,
+            at as u64,
+            &found[at],
+            clause,
+            keys,
+            &mut kept,
+            &mut values,
+        )?;
+    }
+    Ok(kept)
+}
+
+/// Adds those of the entry at a place.
+fn add_candidates(
+    entries: &[Entry],
+    place: u64,
+    found: &Scored,
+    clause: &NumberClause<'_>,
+    keys: &mut FirstKeys<'_>,
+    kept: &mut Vec<Candidate>,
+    values: &mut Vec<i64>,
+) -> Result<(), NoMemory>
+    requires asked { IsAsked entries.now clause.now }
+    requires long { IsLongAt entries.now place found.now }
+    ensures { OnOk result ((direction : RowDirection) (after : Option Key) (most : ℕ) (all : List FoundHit) → AreKept (key_by entries.now clause.now) direction after most all kept.old.items keys.old → AreKept (key_by entries.now clause.now) direction after most (all ++ hits_from place 0 found.now) kept.new.items keys.new) }
+{
+    let end = found.len();
+    let mut left = found.cursor();
+    'found: while let Some(hit) = next_hit(&mut left, place, end) {
+        offer(entries, hit, clause, keys, kept, values)?;
+    }
+    Ok(())
+}
+
+/// Adds a hit, if it is within reach.
+fn offer(
+    entries: &[Entry],
+    hit: Hit,
+    clause: &NumberClause<'_>,
+    keys: &mut FirstKeys<'_>,
+    kept: &mut Vec<Candidate>,
+    values: &mut Vec<i64>,
+) -> Result<(), NoMemory>
+    requires asked { IsAsked entries.now clause.now }
+    requires doc { IsDocOf entries.now hit.place hit.doc }
+    requires capped { IsCapped hit }
+    ensures { OnOk result ((direction : RowDirection) (after : Option Key) (most : ℕ) (all : List FoundHit) → AreKept (key_by entries.now clause.now) direction after most all kept.old.items keys.old → AreKept (key_by entries.now clause.now) direction after most (all ++ hit ∷ []) kept.new.items keys.new) }
+{
+    let key = first_key(entries, hit, clause, values)?;
+    if keys.offer(key)? {
+        kept.push(Candidate { key, hit })?;
+    }
+    Ok(())
+}
+
+/// The key of a hit for a clause.
+fn first_key(
+    entries: &[Entry],
+    hit: Hit,
+    clause: &NumberClause<'_>,
+    values: &mut Vec<i64>,
+) -> Result<Option<i64>, NoMemory>
+    requires asked { IsAsked entries.now clause.now }
+    requires doc { IsDocOf entries.now hit.place hit.doc }
+    requires capped { IsCapped hit }
+    ensures { IfOk result (λ key. number_or_null key ≡ key_by entries.now clause.now hit) }
+{
+    match clause {
+        NumberClause::Score => Ok(Some(hit.score as i64)),
+        NumberClause::Field(asked) => Ok(key_of(entries, hit, asked, values)?),
+    }
+}
+
+/// The hits whose keys are within reach.
+fn within(alloc: Global, kept: &[Candidate], keys: &FirstKeys<'_>) -> Result<Vec<Hit>, NoMemory>
+    ensures { IfOk result (λ hits. hits.items ≡ flat_map (hit_within keys.now) kept.now) }
+{
+    let mut hits = Vec::new(alloc);
+    'kept: for one in kept {
+        add_within(keys, *one, &mut hits)?;
+    }
+    Ok(hits)
+}
+
+/// Adds a hit, if its key is within reach.
+fn add_within(keys: &FirstKeys<'_>, one: Candidate, hits: &mut Vec<Hit>) -> Result<(), NoMemory>
+    ensures { OnOk result (hits.new.items ≡ hits.old.items ++ hit_within keys.now one) }
+{
+    if keys.is_within(one.key) {
+        hits.push(one.hit)?;
+    }
+    Ok(())
+}
