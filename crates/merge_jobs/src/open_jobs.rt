@@ -9,7 +9,6 @@ ghost use Rattle.layout.specs.Layout.{OpenMerge, shifted};
 ghost use Rattle.layout.specs.Merges.{advanced_if, merge_id};
 ghost use Rattle.mapping.specs.Mapping.{Mapping};
 ghost use Rattle.merge_jobs.specs.Job.{AreLater, live_in_all};
-ghost use Rattle.merge_jobs.specs.Made.{IsMadeOf};
 ghost use Rattle.merge_jobs.specs.Open.{OpenState, at_rows, is_named, is_other_than, merge_shown, merges_in, merges_shown, parts_in, placeless, with_merge};
 ghost use Rattle.segment_builder.specs.Blocks.{blocks_of, objects_of};
 ghost use Rattle.segment_builder.specs.Given.{IsNumbered};
@@ -87,7 +86,9 @@ impl OpenJob {
         requires same { AreLater self.old.parts entries.now }
         requires few { objects_of (live_in_all entries.now) ≤ most_live }
         requires made { (m : Mapping) × IsNumbered m × All (λ entry. SegmentFits m entry.columns) entries.now }
-        ensures merged { IfOk result (IsMadeOf entries.now) }
+        ensures none { IfOk result (λ found. IsNone found ↔ (live_in_all entries.now ≡ [])) }
+        ensures blocks { IfOk result (λ found. IfSome found (λ segment. blocks_of segment ≡ live_in_all entries.now)) }
+        ensures fits { (m : Mapping) → All (λ entry. SegmentFits m entry.columns) entries.now → IfOk result (λ found. IfSome found (λ segment. SegmentFits m segment)) }
         ensures same { self.new ≡ self.old }
     {
         self.job.finish(alloc, entries)
@@ -285,7 +286,9 @@ fn finish_at(
     requires same { (job : OpenState) → slice_get jobs.old.items index ≡ Some job → AreLater job.parts entries.now }
     requires few { objects_of (live_in_all entries.now) ≤ most_live }
     requires made { (m : Mapping) × IsNumbered m × All (λ entry. SegmentFits m entry.columns) entries.now }
-    ensures merged { IfOk result (IsMadeOf entries.now) }
+    ensures none { IfOk result (λ found. IsNone found ↔ (live_in_all entries.now ≡ [])) }
+    ensures blocks { IfOk result (λ found. IfSome found (λ segment. blocks_of segment ≡ live_in_all entries.now)) }
+    ensures fits { (m : Mapping) → All (λ entry. SegmentFits m entry.columns) entries.now → IfOk result (λ found. IfSome found (λ segment. SegmentFits m segment)) }
     ensures same { jobs.new.items ≡ jobs.old.items }
 {
     let open = &mut jobs[index];
