@@ -61,12 +61,7 @@ impl MergeJob {
 
     /// Walks so many roots further, or those that are left, whether they died since the start or not. How many are left then.
     /// Once none is left, the segment of what is live in the entries now is made, and kept until the finish.
-    pub fn advance(
-        &mut self,
-        alloc: Global,
-        entries: &[Entry],
-        roots: u64,
-    ) -> Result<u64, NoMemory>
+    pub fn advance(&mut self, alloc: Global, entries: &[Entry], roots: u64) -> Result<u64, NoMemory>
         requires same { AreLater self.old.parts entries.now }
         requires few { objects_of (live_in_all entries.now) ≤ most_live }
         requires made { (m : Mapping) × IsNumbered m × All (λ entry. SegmentFits m entry.columns) entries.now }
@@ -84,11 +79,7 @@ impl MergeJob {
 
     /// The segment of the blocks that are live in the entries now, once no root is left; None where none is live. It is the one
     /// that was made by then, if no root died since, and is made now otherwise. In both cases it is kept no longer.
-    pub fn finish(
-        &mut self,
-        alloc: Global,
-        entries: &[Entry],
-    ) -> Result<Option<Segment>, NoMemory>
+    pub fn finish(&mut self, alloc: Global, entries: &[Entry]) -> Result<Option<Segment>, NoMemory>
         requires done { self.old.left ≡ 0 }
         requires same { AreLater self.old.parts entries.now }
         requires few { objects_of (live_in_all entries.now) ≤ most_live }

@@ -64,12 +64,7 @@ impl OpenJob {
     }
 
     /// Walks so many roots further, or those that are left. How many are left then.
-    fn advance(
-        &mut self,
-        alloc: Global,
-        entries: &[Entry],
-        roots: u64,
-    ) -> Result<u64, NoMemory>
+    fn advance(&mut self, alloc: Global, entries: &[Entry], roots: u64) -> Result<u64, NoMemory>
         requires same { AreLater self.old.parts entries.now }
         requires few { objects_of (live_in_all entries.now) ≤ most_live }
         requires made { (m : Mapping) × IsNumbered m × All (λ entry. SegmentFits m entry.columns) entries.now }

@@ -1,5 +1,4 @@
-use Rattle.std.proofs.Common.{List, refl, sym, subst, ◌∙◌}
-use Rattle.segment.specs.Live.{EntryState}
+use Rattle.std.proofs.Common.{refl, sym, subst, ◌∙◌}
 use Rattle.merge_jobs.specs.Job.{AreLater}
 use Rattle.merge_jobs.proofs.Later.{one_segment, same_all, same_next}
 use Rattle.merge_jobs.proofs.made.Made.is_of.Goals as goal
