@@ -1,15 +1,15 @@
 -- Open merges beside entries: each keeps its neighbours while others give way and roots die.
 use Rattle.std.proofs.Common.{◌≡◌, ◌≢◌, inl, inr, ℕ, zero, suc, ◌<◌, Bool, true, false, List, [], ◌∷◌, length, map, take, drop, set, slice_get, slice_index_or, Contains, Some, refl, sym, ap, subst, ◌∙◌, arith}
-use Rattle.std.specs.List.{All, AllByRecursion, AllZip, take-map, drop-map}
+use Rattle.std.specs.List.{All, AllByRecursion, AllZip, find, take-map, drop-map}
 use Rattle.std.proofs.lemmas.List.Elements.{All-head, All-tail}
 use Rattle.layout.proofs.Merging.{AreDistinct, AreUnder, HaveIds, all_weaker, range_of, ranges_of, segment_id}
 use Rattle.layout.specs.Layout.{OpenMerge}
 use Rattle.merge_jobs.specs.Job.{AreLater, IsLater, segment_kept, segments_kept}
-use Rattle.merge_jobs.specs.Open.{OpenState, merges_in, parts_in}
+use Rattle.merge_jobs.specs.Open.{OpenState, is_named, merges_in, parts_in}
 use Rattle.segment.specs.Live.{EntryState}
 use Rattle.segment_view.specs.Views.{HaveOwnIds, is_live_root, with_dead}
 use Rattle.view_merge.specs.Given.{IsKeptOrMade}
-use Rattle.index_core.specs.Found.{AreBelow, AreKept, ComesLater, IsJobOver, IsLaterOf, entry_id}
+use Rattle.index_core.specs.Found.{AreBelow, AreKept, ComesLater, HasJob, IsJobOver, IsLaterOf, entry_id}
 use Rattle.layout.specs.Merges.{AreOpen}
 
 -- ---- lists
@@ -154,6 +154,17 @@ are_later entries parts same later = zipped parts entries same (all_weaker (Come
       all.0.0 (sym (heads p.id x.id (map entry_id ps) (map entry_id es) e)),
       zipped ps es (tails p.id x.id (map entry_id ps) (map entry_id es) e) (all_weaker (ComesLater (x ∷ es)) (ComesLater es) (λ part l. l.1) ps all.1),
     )
+
+-- the parts of the merge with an id are the entries of its range, later on
+pub range_later : (view : List EntryState) (jobs : List OpenState) (id : ℕ) (own job : OpenState) (range : ℕ × ℕ) (entries : List EntryState) → HasJob view jobs id own → find (is_named id) jobs ≡ Some job → range ≡ (job.merge.from, job.merge.count)
+    → entries ≡ take range.1 (drop range.0 view) → AreLater job.parts entries
+range_later view jobs id own job range entries has named is at =
+    let same : own ≡ job = some_is own job (sym has.named ∙ named) in
+    let later = subst (λ (j : OpenState). AreLater j.parts (take j.merge.count (drop j.merge.from view))) same has.same in
+    subst (AreLater job.parts) (sym at) (subst (λ (r : ℕ × ℕ). AreLater job.parts (take r.1 (drop r.0 view))) (sym is) later)
+  where
+    some_is : (x y : OpenState) → Some x ≡ Some y → x ≡ y
+    some_is x y e = cc (e)
 
 -- ---- a root dies
 

@@ -11,7 +11,7 @@ use Rattle.layout.proofs.Keeps.{remade_keeps, sealed_keeps}
 use Rattle.layout.proofs.Merging.{AreDistinct, IsClear, all_both, all_filter, all_weaker, ranges_of, settled_by, shifted_open, shifted_ranges}
 use Rattle.layout.proofs.Settling.{sealed_after}
 use Rattle.layout.specs.Layout.{Layout, OpenMerge, live_in, live_items, live_of_range, remade, sealed, segment_of, settled, shifted, with_buffer_last}
-use Rattle.layout.specs.Merges.{AreOpen, IsWithin, advanced_if, closed, factor_of, finish_fault, finished, has_merge_id, is_other, left_fault, merge_named, not_done, shares, start_fault, unknown, unknown_fault}
+use Rattle.layout.specs.Merges.{AreOpen, IsWithin, advanced_if, closed, factor_of, finish_fault, finished, has_merge_id, is_other, left_fault, merge_named, not_done, shares, start_fault, step_fault, unknown, unknown_fault}
 use Rattle.merge_jobs.specs.Job.{IsLater, live_in_all, segment_kept, segments_kept}
 use Rattle.merge_jobs.specs.Open.{OpenState, is_named, is_other_than, merge_in, merges_in, merges_shown, parts_in, placeless, with_merge}
 use Rattle.segment.specs.Live.{EntryState}
@@ -346,10 +346,44 @@ found_all P test (y ∷ xs) x found all =
     goes : test y ≡ false → find test (y ∷ xs) ≡ find test xs
     goes isnt = rw isnt refl
 
+-- the job of a merge that is open
+pub record IsOpen (it : BlocksState) (id : ℕ) (merge : OpenMerge) : Type 0 where
+  pub job : OpenState
+  pub has : HasJob it.entries it.jobs id job
+  pub merge_is : job.merge ≡ merge
+  pub named : merge_named id (layout_of it) ≡ Some merge
+
+open_job : (it : BlocksState) (id : ℕ) (merge : OpenMerge) → AreKept it.made it.started it.factor it.entries it.jobs → merge_named id (layout_of it) ≡ Some merge → IsOpen it id merge
+open_job it id merge kept named =
+    let own = job_of id it.jobs merge named in
+    let over = found_all (IsJobOver it.entries) (is_named id) it.jobs own.job own.found kept.over in
+    let range = take own.job.merge.count (drop own.job.merge.from it.entries) in
+    let within = found_all (IsWithin (length it.entries)) (has_merge_id id) (merges_in it.jobs) merge named kept.open_are.within in
+    record {
+      job = own.job;
+      has = record {
+        named = own.found;
+        within = omega (arith, within.within, ap (λ (x : OpenMerge). x.from) own.merge_is, ap (λ (x : OpenMerge). x.count) own.merge_is);
+        same = are_later range own.job.parts over.ids
+            (all_weaker (ComesLater it.entries) (ComesLater range) (λ part later. all_take (IsLaterOf part) own.job.merge.count (drop own.job.merge.from it.entries) (all_drop (IsLaterOf part) own.job.merge.from it.entries later)) own.job.parts over.later);
+      };
+      merge_is = own.merge_is;
+      named = named;
+    }
+
+-- the job of a merge that a step is taken of
+pub stepped_job : (it : BlocksState) (id : ℕ) → AreKept it.made it.started it.factor it.entries it.jobs → step_fault id (layout_of it) ≡ None → (merge : OpenMerge) × IsOpen it id merge
+stepped_job it id kept none = at (merge_named id (layout_of it)) refl none
+  where
+    at : (o : Option OpenMerge) → merge_named id (layout_of it) ≡ o → unknown_fault o ≡ None → (merge : OpenMerge) × IsOpen it id merge
+    at None e f = absurd (cc (f))
+    at (Some m) e f = (m, open_job it id m kept e)
+
 -- the job of a merge that can be finished
 pub record IsFinished (it : BlocksState) (id : ℕ) (merge : OpenMerge) : Type 0 where
   pub job : OpenState
   pub has : HasJob it.entries it.jobs id job
+  pub done : job.merge.left ≡ 0
   pub merge_is : job.merge ≡ merge
   pub named : merge_named id (layout_of it) ≡ Some merge
 
@@ -364,22 +398,8 @@ finished_job it id kept none = at (merge_named id (layout_of it)) refl none
 
     of : (m : OpenMerge) → merge_named id (layout_of it) ≡ Some m → left_fault (Some m) ≡ None → IsFinished it id m
     of m named e =
-        let own = job_of id it.jobs m named in
-        let over = found_all (IsJobOver it.entries) (is_named id) it.jobs own.job own.found kept.over in
-        let range = take own.job.merge.count (drop own.job.merge.from it.entries) in
-        let within = found_all (IsWithin (length it.entries)) (has_merge_id id) (merges_in it.jobs) m named kept.open_are.within in
-        record {
-          job = own.job;
-          has = record {
-            named = own.found;
-            done = ap (λ (x : OpenMerge). x.left) own.merge_is ∙ done m e;
-            within = omega (arith, within.within, ap (λ (x : OpenMerge). x.from) own.merge_is, ap (λ (x : OpenMerge). x.count) own.merge_is);
-            same = are_later range own.job.parts over.ids
-                (all_weaker (ComesLater it.entries) (ComesLater range) (λ part later. all_take (IsLaterOf part) own.job.merge.count (drop own.job.merge.from it.entries) (all_drop (IsLaterOf part) own.job.merge.from it.entries later)) own.job.parts over.later);
-          };
-          merge_is = own.merge_is;
-          named = named;
-        }
+        let own = open_job it id m kept named in
+        record { job = own.job; has = own.has; done = ap (λ (x : OpenMerge). x.left) own.merge_is ∙ done m e; merge_is = own.merge_is; named = own.named }
 
     at : (o : Option OpenMerge) → merge_named id (layout_of it) ≡ o → left_fault o ≡ None → (merge : OpenMerge) × IsFinished it id merge
     at None e f = absurd (no f)

@@ -187,10 +187,9 @@ pub record AreKept (made started factor : ℕ) (entries : List EntryState) (jobs
   pub over : AllByRecursion (IsJobOver entries) jobs
   pub factor_is : factor ≤ most_factor
 
--- an open merge with an id has no root left, and its neighbours stand as it has them
+-- an open merge has an id, and its neighbours stand as it has them
 pub record HasJob (entries : List EntryState) (jobs : List OpenState) (id : ℕ) (job : OpenState) : Type 0 where
   pub named : find (is_named id) jobs ≡ Some job
-  pub done : job.merge.left ≡ 0
   pub within : job.merge.from + job.merge.count ≤ length entries
   pub same : AreLater job.parts (take job.merge.count (drop job.merge.from entries))
 

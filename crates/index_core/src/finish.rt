@@ -1,11 +1,13 @@
-//! The end of an open merge: one entry takes the place of its neighbours, or none.
+//! The steps of an open merge, and its end: one entry takes the place of its neighbours, or none.
 
-ghost use Rattle.std.specs.Prelude.{◌≡◌, ℕ, ◌+◌, ◌<◌, ◌≤◌, length, take, drop, IfSome, IfOk, OnOk, OnErr};
+ghost use Rattle.std.specs.Prelude.{◌≡◌, ℕ, ◌+◌, ◌-◌, ◌<◌, ◌≤◌, find, length, map, take, drop, Some, IsSome, IfSome, IfOk, OnOk, OnErr};
 ghost use Rattle.flattener.specs.Fits.{SegmentFits, most_live};
+ghost use Rattle.layout.specs.Ascending.{Ascend};
 ghost use Rattle.layout.specs.Layout.{segment_of};
+ghost use Rattle.layout.specs.Merges.{advanced_if, merge_id};
 ghost use Rattle.mapping.specs.Mapping.{Mapping as Mappings};
 ghost use Rattle.merge_jobs.specs.Job.{live_in_all};
-ghost use Rattle.merge_jobs.specs.Open.{OpenState};
+ghost use Rattle.merge_jobs.specs.Open.{OpenState, is_named, merges_in, with_merge};
 ghost use Rattle.segment_builder.specs.Blocks.{objects_of};
 ghost use Rattle.segment_builder.specs.Given.{IsNumbered};
 ghost use Rattle.segment_view.specs.Views.{replaced};
@@ -32,48 +34,76 @@ pub(crate) struct Finished {
     pub(crate) entry: Option<Entry>,
 }
 
-/// What finishes the merge with an id.
+/// Walks so many roots of the merge with an id further, or those that are left. How many are left then.
+pub(crate) fn advancing(
+    alloc: Global,
+    jobs: &mut OpenJobs,
+    view: &View,
+    id: u64,
+    roots: u64,
+) -> Result<u64, NoMemory>
+    requires job { (job : OpenState) × HasJob view.now jobs.old id job }
+    requires ids { (end : ℕ) × Ascend 1 (map merge_id (merges_in jobs.old)) end }
+    requires few { objects_of (live_in_all view.now) ≤ most_live }
+    requires fit { (m : Mappings) × IsNumbered m × AreFit m view.now }
+    ensures advanced { OnOk result (jobs.new ≡ map (with_merge (advanced_if id roots)) jobs.old) }
+    ensures left { (job : OpenState) → find (is_named id) jobs.old ≡ Some job → IfOk result (λ left. left ≡ job.merge.left - roots) }
+    ensures same { OnErr result (jobs.new ≡ jobs.old) }
+{
+    let (from, count) = range_of(jobs, id);
+    let now = neighbours(view.entries(), from, count);
+    Ok(jobs.advance(alloc, id, now, roots)?)
+}
+
+/// What finishes the merge with an id. It stays open.
 pub(crate) fn finishing(
     alloc: Global,
-    jobs: &OpenJobs,
+    jobs: &mut OpenJobs,
     view: &View,
     made: u128,
     id: u64,
 ) -> Result<Finished, NoMemory>
-    requires job { (job : OpenState) × HasJob view.now jobs.now id job }
+    requires job { (job : OpenState) × HasJob view.now jobs.old id job × (job.merge.left ≡ 0) }
     requires few { objects_of (live_in_all view.now) ≤ most_live }
     requires fit { (m : Mappings) × IsNumbered m × AreFit m view.now }
-    ensures range { (job : OpenState) → HasJob view.now jobs.now id job → IfOk result (λ end. (end.from ≡ job.merge.from) × (end.count ≡ job.merge.count)) }
+    ensures range { (job : OpenState) → HasJob view.now jobs.old id job → IfOk result (λ end. (end.from ≡ job.merge.from) × (end.count ≡ job.merge.count)) }
     ensures live { IfOk result (λ end. end.live ≡ length (live_in_all (take end.count (drop end.from view.now)))) }
     ensures entry { IfOk result (λ end. segments_of end.entry ≡ segment_of made (live_in_all (take end.count (drop end.from view.now)))) }
     ensures id { IfOk result (λ end. IfSome end.entry (λ entry. entry.id ≡ made)) }
     ensures fits { (m : Mappings) → AreFit m view.now → IfOk result (λ end. IfSome end.entry (λ entry. SegmentFits m entry.columns)) }
+    ensures same { jobs.new ≡ jobs.old }
+{
+    let (from, count) = range_of(jobs, id);
+    let range = neighbours(view.entries(), from, count);
+    match jobs.finish(alloc, id, range)? {
+        Some(segment) => {
+            let live = segment.roots() as u64;
+            blocks_are_whole(&segment);
+            let entry = Some(alive_entry(alloc, made, segment)?);
+            Ok(Finished {
+                from,
+                count,
+                live,
+                entry,
+            })
+        }
+        None => Ok(Finished {
+            from,
+            count,
+            live: 0,
+            entry: None,
+        }),
+    }
+}
+
+/// The place of the first neighbour of the merge with an id, and how many there are.
+fn range_of(jobs: &OpenJobs, id: u64) -> (u64, u64)
+    requires { IsSome (find (is_named id) jobs.now) }
+    ensures { (job : OpenState) → find (is_named id) jobs.now ≡ Some job → result ≡ (job.merge.from, job.merge.count) }
 {
     match jobs.named(id) {
-        Some(open) => {
-            let (from, count) = (open.from(), open.count());
-            let range = neighbours(view.entries(), from, count);
-            match open.job().finish(alloc, range)? {
-                Some(segment) => {
-                    let live = segment.roots() as u64;
-                    blocks_are_whole(&segment);
-                    let entry = Some(alive_entry(alloc, made, segment)?);
-                    Ok(Finished {
-                        from,
-                        count,
-                        live,
-                        entry,
-                    })
-                }
-                None => Ok(Finished {
-                    from,
-                    count,
-                    live: 0,
-                    entry: None,
-                }),
-            }
-        }
-        None => Err(NoMemory),
+        Some(open) => (open.from(), open.count()),
+        None => (0, 0),
     }
 }
 

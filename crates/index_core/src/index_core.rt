@@ -226,7 +226,7 @@ impl IndexCore {
             return Err(refusal);
         }
         self.blocks.take_sealed(ready);
-        Ok(self.blocks.advance(id, roots)?)
+        Ok(self.blocks.advance(mapping, id, roots)?)
     }
 
     /// Replaces the neighbours of an open merge, which has no root left, by one segment of those of their blocks that are live

@@ -15,7 +15,7 @@ ghost use Rattle.view_merge.specs.Given.{IsKeptOrMade};
 ghost use Rattle.index_core.specs.Found.{AreBelow, AreFit, AreOpenOf, IsLive, IsLiveNumber, IsRelaid, IsRootAt, IsWhole, columns_of, layout_of, layout_ready, live_blocks};
 ghost use Rattle.index_core.specs.Kept.{AreBlocks, HaveOwnIds, has_block_id, most_factor};
 
-use crate::finish::{Finished, finishing, give_way};
+use crate::finish::{Finished, advancing, finishing, give_way};
 use crate::place::{Place, entry_is_whole, place_of};
 use crate::ready::{
     Ready, made_after, made_is_below, mapping_is_numbered, next_merge, settled_ready,
@@ -285,8 +285,15 @@ impl KeptBlocks {
     }
 
     /// Walks so many roots of an open merge further. How many are left then.
-    pub(crate) fn advance(&mut self, id: u64, roots: u64) -> Result<MergeDone, NoMemory>
-        requires { step_fault id (layout_of self.old) ≡ None }
+    pub(crate) fn advance(
+        &mut self,
+        mapping: &Mapping,
+        id: u64,
+        roots: u64,
+    ) -> Result<MergeDone, NoMemory>
+        requires fault { step_fault id (layout_of self.old) ≡ None }
+        requires segments { AreFit mapping.now self.old.entries }
+        requires few { objects_of (live_blocks self.old.entries self.old.buffer) ≤ most_live }
         ensures layout { OnOk result (layout_of self.new ≡ advanced id roots (layout_of self.old)) }
         ensures done { (merge : OpenMerge) → merge_named id (layout_of self.old) ≡ Some merge → IfOk result (λ done. done ≡ record { id = id; count = merge.left - roots }) }
         ensures entries { self.new.entries ≡ self.old.entries }
@@ -294,7 +301,8 @@ impl KeptBlocks {
         ensures relaid { IsRelaid self.old self.new }
         ensures same { OnErr result (self.new ≡ self.old) }
     {
-        let left = self.jobs.advance(id, roots)?;
+        mapping_is_numbered(mapping);
+        let left = advancing(self.alloc, &mut self.jobs, &self.view, id, roots)?;
         Ok(MergeDone { id, count: left })
     }
 
@@ -327,7 +335,7 @@ impl KeptBlocks {
             count,
             live,
             entry,
-        } = finishing(self.alloc, &self.jobs, &self.view, self.made, id)?;
+        } = finishing(self.alloc, &mut self.jobs, &self.view, self.made, id)?;
         let by = give_way(&mut self.view, &mut self.made, from, count, entry)?;
         self.jobs.close(id);
         self.jobs.shift(from, count, by);

@@ -1,7 +1,7 @@
 -- One element of a list whose keys ascend is changed or goes.
-use Rattle.std.proofs.Common.{◌≡◌, ℕ, zero, suc, ◌+◌, ◌-◌, ◌==◌, ◌<◌, ◌≤◌, Bool, true, false, not, cond, List, [], ◌∷◌, ◌++◌, length, map, filter, take, drop, set, slice_get, Some, refl, sym, ap, subst, ◌∙◌, arith, eqb-true}
+use Rattle.std.proofs.Common.{◌≡◌, ℕ, zero, suc, ◌+◌, ◌==◌, ◌<◌, ◌≤◌, Bool, true, false, not, cond, List, [], ◌∷◌, ◌++◌, map, filter, take, drop, set, slice_get, Some, refl, sym, ap, ◌∙◌, arith, eqb-true}
 use Rattle.std.proofs.lemmas.Bool.{eqb-false}
-use Rattle.layout.proofs.Goes.{split, true_false}
+use Rattle.layout.proofs.Goes.{split}
 use Rattle.layout.specs.Ascending.{Ascend}
 
 some_is : {A : Type 0} (x y : A) → Some x ≡ Some y → x ≡ y

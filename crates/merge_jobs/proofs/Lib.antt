@@ -1,3 +1,4 @@
 pub mod Keyed
+pub mod Later
 pub mod LiveRoots
 pub mod Moved

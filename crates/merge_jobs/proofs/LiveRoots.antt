@@ -1,17 +1,17 @@
 -- How many roots of entries are live.
-use Rattle.std.proofs.Common.{◌≡◌, ℕ, ◌+◌, ◌-◌, ◌==◌, ◌≤◌, Bool, true, false, List, [], ◌∷◌, ◌++◌, length, map, filter, refl, ap, ◌∙◌, arith}
-use Rattle.std.specs.List.{AllByRecursion, count_by, flat_map}
+use Rattle.std.proofs.Common.{◌≡◌, ◌==◌, ◌≤◌, Bool, true, false, List, [], ◌∷◌, ◌++◌, length, map, filter, refl, ap, arith}
+use Rattle.std.specs.List.{AllByRecursion, count_by}
 use Rattle.std.proofs.lemmas.List.{length-append, length-map}
 use Rattle.std.proofs.lemmas.List.Sums.{sum_by-cons}
 use Rattle.block_bits.specs.Flags.{is_marked}
 use Rattle.flattener.specs.Block.{BlockState}
 use Rattle.layout.proofs.Goes.{counted, split}
 use Rattle.layout.proofs.Merging.{all_both}
-use Rattle.layout.specs.Layout.{Marked, is_live, item_in}
+use Rattle.layout.specs.Layout.{is_live, item_in}
 use Rattle.segment.specs.Flat.{FlatDocument, FlatRoot, flat_root, flats_of, roots_of}
 use Rattle.segment.specs.Live.{EntryState, IsLiveOver}
 use Rattle.segment_parts.specs.declared.columns.Columns.{Columns}
-use Rattle.segment_builder.specs.Blocks.{block_objects, blocks_in, blocks_of, cut_from, live_blocks, marked_by, objects_of}
+use Rattle.segment_builder.specs.Blocks.{block_objects, blocks_of, cut_from, live_blocks, marked_by, objects_of}
 use Rattle.merge_jobs.specs.Job.{live_in_all}
 
 marked_count : (blocks : List BlockState) (marks : List Bool) → length blocks ≡ length marks → count_by is_marked marks ≡ length (map item_in (filter is_live (marked_by blocks marks)))

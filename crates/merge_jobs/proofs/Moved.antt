@@ -1,5 +1,5 @@
 -- Merges one after the other, as they are moved or changed.
-use Rattle.std.proofs.Common.{◌≡◌, ℕ, zero, suc, ◌+◌, ◌-◌, ◌==◌, ◌<◌, Bool, true, false, not, cond, List, [], ◌∷◌, ◌++◌, length, map, filter, take, drop, set, get_or, slice_get, Option, Some, None, refl, sym, ap, subst, ◌∙◌, arith, eqb-true}
+use Rattle.std.proofs.Common.{◌≡◌, ℕ, zero, suc, ◌+◌, ◌-◌, ◌==◌, ◌<◌, true, false, cond, List, [], ◌∷◌, ◌++◌, length, map, filter, take, drop, set, get_or, slice_get, Option, Some, None, refl, sym, ap, subst, ◌∙◌, arith, eqb-true}
 use Rattle.std.specs.List.{find}
 use Rattle.std.proofs.lemmas.Bool.{eqb-false}
 use Rattle.std.proofs.lemmas.List.{drop_more}
@@ -8,7 +8,7 @@ use Rattle.layout.proofs.Looked.{find_passes}
 use Rattle.layout.specs.Ascending.{Ascend}
 use Rattle.layout.specs.Layout.{OpenMerge}
 use Rattle.layout.specs.Merges.{advanced_if, merge_id}
-use Rattle.merge_jobs.specs.Open.{OpenState, at_rows, is_named, is_other_than, merge_in, merge_shown, merges_in, merges_shown, parts_in, placeless, with_merge}
+use Rattle.merge_jobs.specs.Open.{OpenState, at_rows, is_named, is_other_than, merge_shown, merges_in, merges_shown, parts_in, placeless, with_merge}
 use Rattle.merge_jobs.specs.declared.rows.MergeRow.{MergeRow}
 use Rattle.merge_jobs.proofs.Keyed.{changed_if, map_same, one_changed, one_out}
 

@@ -5,30 +5,38 @@ ghost use Rattle.std.specs.List.{All};
 ghost use Rattle.flattener.specs.Fits.{SegmentFits, most_live};
 ghost use Rattle.mapping.specs.Mapping.{Mapping};
 ghost use Rattle.merge_jobs.specs.Job.{AreLater, live_in_all};
+ghost use Rattle.merge_jobs.specs.Made.{IsMadeLater};
+ghost use Rattle.segment.specs.Live.{EntryState};
 ghost use Rattle.segment_builder.specs.Blocks.{blocks_of, objects_of};
 ghost use Rattle.segment_builder.specs.Given.{IsNumbered};
 
 use crate::NoMemory;
 use crate::counted::live_roots_in;
+use crate::made::{Made, pinned};
 use segment::Segment;
 use segment_merge::merged;
 use segment_view::Entry;
 use std::alloc::Global;
 use std::marker::Model;
 
-/// The entries that a merge was started on, pinned as they were then, and how many of their live roots are left to walk.
+/// The entries that a merge was started on, pinned as they were then, how many of their live roots are left to walk, and what
+/// was made when none was left.
 #[derive(Drop)]
 pub struct MergeJob {
     parts: Vec<Entry>,
     left: u64,
+    made: Option<Made>,
 }
 
 impl Model for MergeJob {
     ghost use Rattle.merge_jobs.specs.Job.{JobState};
+    ghost use Rattle.merge_jobs.specs.Made.{IsMadeLater};
 
     ghost Value = { JobState };
 
     ghost view = { λ job. record { parts = job.parts.items; left = job.left } };
+
+    ghost invariant = { λ job. IsMadeLater job.parts.items job.made };
 }
 
 impl MergeJob {
@@ -37,13 +45,10 @@ impl MergeJob {
         requires { objects_of (live_in_all entries.now) ≤ most_live }
         ensures { IfOk result (λ job. job ≡ record { parts = entries.now; left = length (live_in_all entries.now) }) }
     {
-        let mut parts = Vec::with_capacity(alloc, entries.len())?;
-        'entries: for entry in entries {
-            parts.push(entry.share()?)?;
-        }
         Ok(MergeJob {
-            parts,
+            parts: pinned(alloc, entries)?,
             left: live_roots_in(entries),
+            made: None,
         })
     }
 
@@ -55,26 +60,58 @@ impl MergeJob {
     }
 
     /// Walks so many roots further, or those that are left, whether they died since the start or not. How many are left then.
-    pub fn advance(&mut self, roots: u64) -> Result<u64, NoMemory>
+    /// Once none is left, the segment of what is live in the entries now is made, and kept until the finish.
+    pub fn advance(&mut self, alloc: Global, entries: &[Entry], roots: u64) -> Result<u64, NoMemory>
+        requires same { AreLater self.old.parts entries.now }
+        requires few { objects_of (live_in_all entries.now) ≤ most_live }
+        requires made { (m : Mapping) × IsNumbered m × All (λ entry. SegmentFits m entry.columns) entries.now }
         ensures left { OnOk result (self.new ≡ record self.old { left = self.old.left - roots }) }
         ensures told { IfOk result (λ left. left ≡ self.old.left - roots) }
         ensures same { OnErr result (self.new ≡ self.old) }
     {
-        self.left = self.left.saturating_sub(roots);
-        Ok(self.left)
+        let left = self.left.saturating_sub(roots);
+        if left == 0 {
+            make(alloc, &mut self.made, entries)?;
+        }
+        self.left = left;
+        Ok(left)
     }
 
-    /// The segment of the blocks that are live in the entries now, once no root is left; None where none is live.
-    pub fn finish(&self, alloc: Global, entries: &[Entry]) -> Result<Option<Segment>, NoMemory>
-        requires done { self.now.left ≡ 0 }
-        requires same { AreLater self.now.parts entries.now }
+    /// The segment of the blocks that are live in the entries now, once no root is left; None where none is live. It is the one
+    /// that was made by then, if no root died since, and is made now otherwise. In both cases it is kept no longer.
+    pub fn finish(&mut self, alloc: Global, entries: &[Entry]) -> Result<Option<Segment>, NoMemory>
+        requires done { self.old.left ≡ 0 }
+        requires same { AreLater self.old.parts entries.now }
         requires few { objects_of (live_in_all entries.now) ≤ most_live }
         requires made { (m : Mapping) × IsNumbered m × All (λ entry. SegmentFits m entry.columns) entries.now }
         ensures none { IfOk result (λ found. IsNone found ↔ (live_in_all entries.now ≡ [])) }
         ensures blocks { IfOk result (λ found. IfSome found (λ segment. blocks_of segment ≡ live_in_all entries.now)) }
         ensures fits { (m : Mapping) → All (λ entry. SegmentFits m entry.columns) entries.now → IfOk result (λ found. IfSome found (λ segment. SegmentFits m segment)) }
+        ensures same { self.new ≡ self.old }
     {
-        let _ = self.left;
+        if let Some(made) = self.made.take() {
+            if made.is_of(entries) {
+                return Ok(made.into_segment());
+            }
+        }
         Ok(merged(alloc, entries)?)
     }
+}
+
+/// Makes what is live in entries now, unless it was made of entries as these are.
+fn make(alloc: Global, made: &mut Option<Made>, entries: &[Entry]) -> Result<(), NoMemory>
+    requires later { (parts : List EntryState) × IsMadeLater parts made.old × AreLater parts entries.now }
+    requires few { objects_of (live_in_all entries.now) ≤ most_live }
+    requires made { (m : Mapping) × IsNumbered m × All (λ entry. SegmentFits m entry.columns) entries.now }
+    ensures { (parts : List EntryState) → IsMadeLater parts made.old → AreLater parts entries.now → IsMadeLater parts made.new }
+{
+    if let Some(kept) = made {
+        if kept.is_of(entries) {
+            return Ok(());
+        }
+    }
+    // what was made before is of no use, and leaves its room to what is made now
+    *made = None;
+    *made = Some(Made::of(alloc, entries)?);
+    Ok(())
 }

@@ -3,11 +3,12 @@
 //! It stands on `segment_merge`, which makes a segment of live blocks, and on `segment_view` (Lucene's `OneMerge`, package
 //! `org.apache.lucene.index`). A `MergeJob` is seen as the entries that it was started on and the roots that it has left; what
 //! others use is that `finish` gives a segment of exactly the blocks that are live at the finish, whatever died since the
-//! start. Begin reading with `specs/Job.antt`, then `MergeJob`.
+//! start, also where `advance` had made one before. Begin reading with `specs/Job.antt`, then `MergeJob`.
 #![tactic(auto)]
 
 mod counted;
 mod job;
+mod made;
 mod open_jobs;
 mod refusal;
 mod rows;

@@ -1,13 +1,21 @@
 //! The merges that are open, by ascending ids.
 
-ghost use Rattle.std.specs.Prelude.{◌≡◌, ℕ, ◌+◌, ◌-◌, ◌<◌, ◌≤◌, ◌++◌, ◌∷◌, [], List, drop, filter, find, length, map, set, slice_get, take, vec_len, IsSome, Some, IfOk, OnOk, OnErr};
+ghost use Rattle.std.specs.Prelude.{◌≡◌, ◌↔◌, ℕ, ◌+◌, ◌-◌, ◌<◌, ◌≤◌, ◌++◌, ◌∷◌, [], List, drop, filter, find, length, map, set, slice_get, take, vec_len, IsNone, IsSome, Some, IfSome, IfOk, OnOk, OnErr};
+ghost use Rattle.std.specs.List.{All};
 ghost use Rattle.std.specs.Option.{option_map};
+ghost use Rattle.flattener.specs.Fits.{SegmentFits, most_live};
 ghost use Rattle.layout.specs.Ascending.{Ascend};
 ghost use Rattle.layout.specs.Layout.{OpenMerge, shifted};
 ghost use Rattle.layout.specs.Merges.{advanced_if, merge_id};
+ghost use Rattle.mapping.specs.Mapping.{Mapping};
+ghost use Rattle.merge_jobs.specs.Job.{AreLater, live_in_all};
 ghost use Rattle.merge_jobs.specs.Open.{OpenState, at_rows, is_named, is_other_than, merge_shown, merges_in, merges_shown, parts_in, placeless, with_merge};
+ghost use Rattle.segment_builder.specs.Blocks.{blocks_of, objects_of};
+ghost use Rattle.segment_builder.specs.Given.{IsNumbered};
 
 use crate::{MergeJob, MergeRow, NoMemory};
+use segment::Segment;
+use segment_view::Entry;
 use std::alloc::Global;
 use std::marker::Model;
 
@@ -43,13 +51,6 @@ impl OpenJob {
         self.count
     }
 
-    /// The job.
-    pub fn job(&self) -> &MergeJob
-        ensures { result.now ≡ record { parts = self.now.parts; left = self.now.merge.left } }
-    {
-        &self.job
-    }
-
     /// Its row.
     fn row(&self) -> MergeRow
         ensures { merge_shown result ≡ self.now.merge }
@@ -63,12 +64,29 @@ impl OpenJob {
     }
 
     /// Walks so many roots further, or those that are left. How many are left then.
-    fn advance(&mut self, roots: u64) -> Result<u64, NoMemory>
+    fn advance(&mut self, alloc: Global, entries: &[Entry], roots: u64) -> Result<u64, NoMemory>
+        requires same { AreLater self.old.parts entries.now }
+        requires few { objects_of (live_in_all entries.now) ≤ most_live }
+        requires made { (m : Mapping) × IsNumbered m × All (λ entry. SegmentFits m entry.columns) entries.now }
         ensures advanced { OnOk result (self.new ≡ record self.old { merge = record self.old.merge { left = self.old.merge.left - roots } }) }
         ensures left { IfOk result (λ left. left ≡ self.old.merge.left - roots) }
         ensures same { OnErr result (self.new ≡ self.old) }
     {
-        self.job.advance(roots)
+        self.job.advance(alloc, entries, roots)
+    }
+
+    /// The segment of the blocks that are live in the entries now, or None where none is live.
+    fn finish(&mut self, alloc: Global, entries: &[Entry]) -> Result<Option<Segment>, NoMemory>
+        requires done { self.old.merge.left ≡ 0 }
+        requires same { AreLater self.old.parts entries.now }
+        requires few { objects_of (live_in_all entries.now) ≤ most_live }
+        requires made { (m : Mapping) × IsNumbered m × All (λ entry. SegmentFits m entry.columns) entries.now }
+        ensures none { IfOk result (λ found. IsNone found ↔ (live_in_all entries.now ≡ [])) }
+        ensures blocks { IfOk result (λ found. IfSome found (λ segment. blocks_of segment ≡ live_in_all entries.now)) }
+        ensures fits { (m : Mapping) → All (λ entry. SegmentFits m entry.columns) entries.now → IfOk result (λ found. IfSome found (λ segment. SegmentFits m segment)) }
+        ensures same { self.new ≡ self.old }
+    {
+        self.job.finish(alloc, entries)
     }
 
     /// Moves where a range before it gave way to so many segments.
@@ -144,16 +162,48 @@ impl OpenJobs {
         Ok(())
     }
 
-    /// Walks so many roots of the merge with an id further, or those that are left. How many are left then.
-    pub fn advance(&mut self, id: u64, roots: u64) -> Result<u64, NoMemory>
+    /// Walks so many roots of the merge with an id further, or those that are left, given its neighbours as they are now. How
+    /// many are left then.
+    pub fn advance(
+        &mut self,
+        alloc: Global,
+        id: u64,
+        entries: &[Entry],
+        roots: u64,
+    ) -> Result<u64, NoMemory>
         requires open { IsSome (find (is_named id) self.old) }
         requires ids { (end : ℕ) × Ascend 1 (map merge_id (merges_in self.old)) end }
+        requires same { (job : OpenState) → find (is_named id) self.old ≡ Some job → AreLater job.parts entries.now }
+        requires few { objects_of (live_in_all entries.now) ≤ most_live }
+        requires made { (m : Mapping) × IsNumbered m × All (λ entry. SegmentFits m entry.columns) entries.now }
         ensures advanced { OnOk result (self.new ≡ map (with_merge (advanced_if id roots)) self.old) }
         ensures left { (job : OpenState) → find (is_named id) self.old ≡ Some job → IfOk result (λ left. left ≡ job.merge.left - roots) }
         ensures same { OnErr result (self.new ≡ self.old) }
     {
         let index = place_of(self.jobs.as_slice(), id);
-        advance_at(&mut self.jobs, index, roots)
+        advance_at(alloc, &mut self.jobs, index, entries, roots)
+    }
+
+    /// The segment of the blocks that are live now in the neighbours of the merge with an id, which has no root left; None where
+    /// none is live. The merge stays open.
+    pub fn finish(
+        &mut self,
+        alloc: Global,
+        id: u64,
+        entries: &[Entry],
+    ) -> Result<Option<Segment>, NoMemory>
+        requires open { IsSome (find (is_named id) self.old) }
+        requires done { (job : OpenState) → find (is_named id) self.old ≡ Some job → job.merge.left ≡ 0 }
+        requires same { (job : OpenState) → find (is_named id) self.old ≡ Some job → AreLater job.parts entries.now }
+        requires few { objects_of (live_in_all entries.now) ≤ most_live }
+        requires made { (m : Mapping) × IsNumbered m × All (λ entry. SegmentFits m entry.columns) entries.now }
+        ensures none { IfOk result (λ found. IsNone found ↔ (live_in_all entries.now ≡ [])) }
+        ensures blocks { IfOk result (λ found. IfSome found (λ segment. blocks_of segment ≡ live_in_all entries.now)) }
+        ensures fits { (m : Mapping) → All (λ entry. SegmentFits m entry.columns) entries.now → IfOk result (λ found. IfSome found (λ segment. SegmentFits m segment)) }
+        ensures same { self.new ≡ self.old }
+    {
+        let index = place_of(self.jobs.as_slice(), id);
+        finish_at(alloc, &mut self.jobs, index, entries)
     }
 
     /// Closes the merge with an id, and lets go of what its job keeps.
@@ -200,14 +250,44 @@ fn place_of(jobs: &[OpenJob], id: u64) -> usize
 }
 
 /// Walks so many roots of the merge at an index further.
-fn advance_at(jobs: &mut Vec<OpenJob>, index: usize, roots: u64) -> Result<u64, NoMemory>
-    requires { index < vec_len jobs.old }
+fn advance_at(
+    alloc: Global,
+    jobs: &mut Vec<OpenJob>,
+    index: usize,
+    entries: &[Entry],
+    roots: u64,
+) -> Result<u64, NoMemory>
+    requires within { index < vec_len jobs.old }
+    requires same { (job : OpenState) → slice_get jobs.old.items index ≡ Some job → AreLater job.parts entries.now }
+    requires few { objects_of (live_in_all entries.now) ≤ most_live }
+    requires made { (m : Mapping) × IsNumbered m × All (λ entry. SegmentFits m entry.columns) entries.now }
     ensures advanced { (job : OpenState) → slice_get jobs.old.items index ≡ Some job → OnOk result (jobs.new.items ≡ set jobs.old.items index (record job { merge = record job.merge { left = job.merge.left - roots } })) }
     ensures left { (job : OpenState) → slice_get jobs.old.items index ≡ Some job → IfOk result (λ left. left ≡ job.merge.left - roots) }
     ensures same { OnErr result (jobs.new.items ≡ jobs.old.items) }
 {
     let open = &mut jobs[index];
-    open.advance(roots)
+    open.advance(alloc, entries, roots)
+}
+
+/// The segment of the blocks that are live now in the neighbours of the merge at an index, or None where none is live.
+fn finish_at(
+    alloc: Global,
+    jobs: &mut Vec<OpenJob>,
+    index: usize,
+    entries: &[Entry],
+) -> Result<Option<Segment>, NoMemory>
+    requires within { index < vec_len jobs.old }
+    requires done { (job : OpenState) → slice_get jobs.old.items index ≡ Some job → job.merge.left ≡ 0 }
+    requires same { (job : OpenState) → slice_get jobs.old.items index ≡ Some job → AreLater job.parts entries.now }
+    requires few { objects_of (live_in_all entries.now) ≤ most_live }
+    requires made { (m : Mapping) × IsNumbered m × All (λ entry. SegmentFits m entry.columns) entries.now }
+    ensures none { IfOk result (λ found. IsNone found ↔ (live_in_all entries.now ≡ [])) }
+    ensures blocks { IfOk result (λ found. IfSome found (λ segment. blocks_of segment ≡ live_in_all entries.now)) }
+    ensures fits { (m : Mapping) → All (λ entry. SegmentFits m entry.columns) entries.now → IfOk result (λ found. IfSome found (λ segment. SegmentFits m segment)) }
+    ensures same { jobs.new.items ≡ jobs.old.items }
+{
+    let open = &mut jobs[index];
+    open.finish(alloc, entries)
 }
 
 /// Takes the merge at an index out.

@@ -1,6 +1,5 @@
-use Rattle.std.proofs.Common.{◌≡◌, ◌+◌, ◌≤◌, length, drop, arith}
+use Rattle.std.proofs.Common.{arith}
 use Rattle.std.proofs.lemmas.Grind.{common_steps}
-use Rattle.merge_jobs.specs.Job.{live_in_all}
 use Rattle.merge_jobs.proofs.LiveRoots.{few_live}
 use Rattle.merge_jobs.proofs.counted.live_roots_in.Goals as goal
 

@@ -1,4 +1,4 @@
-use Rattle.std.proofs.Common.{◌≡◌, ◌<◌, ℕ, List, length, map, set, slice_index_or, ap, ◌∙◌, arith}
+use Rattle.std.proofs.Common.{◌<◌, ℕ, length, slice_index_or, ap, ◌∙◌, arith}
 use Rattle.std.proofs.lemmas.List.{length-map, map-set}
 use Rattle.layout.specs.Layout.{OpenMerge}
 use Rattle.merge_policy.specs.Runs.{moved}

@@ -1,16 +1,24 @@
-use Rattle.std.proofs.Common.{◌≡◌, ◌-◌, ℕ, List, None, Some, sym, ap, subst, ◌∙◌}
+use Rattle.std.proofs.Common.{◌≡◌, ◌-◌, ℕ, List, None, Some, sym, ap, subst, ◌∙◌, arith}
 use Rattle.layout.specs.Layout.{Layout, OpenMerge}
 use Rattle.layout.specs.Merges.{advanced, advanced_if, merge_named, step_fault}
 use Rattle.merge_jobs.specs.Open.{OpenState}
 use Rattle.flattener.specs.Block.{BlockState}
-use Rattle.index_core.specs.Found.{AreKept, BlocksState, layout_of}
+use Rattle.segment_builder.specs.Blocks.{objects_of}
+use Rattle.index_core.specs.Found.{AreKept, BlocksState, layout_of, live_blocks}
 use Rattle.index_core.specs.contracts.kept_blocks.KeptBlocks.{the_view}
 use Rattle.index_core.specs.declared.merge.MergeDone.{MergeDone}
-use Rattle.index_core.proofs.Relaying.{advanced_kept, job_of, merges_changed, same_relaid, some_named}
+use Rattle.index_core.proofs.Relaying.{advanced_kept, few_entries, job_of, merges_changed, same_relaid, stepped_job}
 use Rattle.index_core.proofs.kept_blocks.KeptBlocks.advance.Goals as goal
 
-pub advance-requires-clause-open : goal.advance-requires-clause-open
-advance-requires-clause-open c = some_named c.args.id c.self.inside.jobs (subst (λ (s : BlocksState). step_fault c.args.id (layout_of s) ≡ None) (sym c.self.view_is) c.requires)
+pub advancing-requires-clause-job : goal.advancing-requires-clause-job
+advancing-requires-clause-job c =
+    let own = stepped_job (the_view c.self.inside) c.args.id c.self.invariant (subst (λ (s : BlocksState). step_fault c.args.id (layout_of s) ≡ None) (sym c.self.view_is) c.requires.fault) in
+    (own.1.job, own.1.has)
+
+pub advancing-requires-clause-few : goal.advancing-requires-clause-few
+advancing-requires-clause-few c =
+    let it : BlocksState = the_view c.self.inside in
+    omega (arith, c.requires.few, ap (λ (s : BlocksState). objects_of (live_blocks s.entries s.buffer)) c.self.view_is, few_entries it.entries it.buffer)
 
 pub invariant_of-self-2 : goal.invariant_of-self-2
 invariant_of-self-2 c =
@@ -31,4 +39,4 @@ returns-clause-done c = λ merge named.
 
 pub returns-clause-relaid : goal.returns-clause-relaid
 returns-clause-relaid c =
-    same_relaid c.args.self.now (record (the_view c.self.inside) { jobs = c.advance.new.self }) (ap (λ (s : BlocksState). s.entries) c.self.view_is) (ap (λ (s : BlocksState). s.buffer) c.self.view_is) (ap (λ (s : BlocksState). s.made) c.self.view_is)
+    same_relaid c.args.self.now (record (the_view c.self.inside) { jobs = c.advancing.new.jobs }) (ap (λ (s : BlocksState). s.entries) c.self.view_is) (ap (λ (s : BlocksState). s.buffer) c.self.view_is) (ap (λ (s : BlocksState). s.made) c.self.view_is)

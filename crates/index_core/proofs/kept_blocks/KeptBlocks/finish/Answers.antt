@@ -17,7 +17,7 @@ use Rattle.index_core.proofs.kept_blocks.KeptBlocks.finish.Goals as goal
 pub finishing-requires-clause-job : goal.finishing-requires-clause-job
 finishing-requires-clause-job c =
     let end = finished_job (the_view c.self.inside) c.args.id c.self.invariant (subst (λ (s : BlocksState). finish_fault c.args.id (layout_of s) ≡ None) (sym c.self.view_is) c.requires.fault) in
-    (end.1.job, end.1.has)
+    (end.1.job, end.1.has, end.1.done)
 
 pub finishing-requires-clause-few : goal.finishing-requires-clause-few
 finishing-requires-clause-few c =

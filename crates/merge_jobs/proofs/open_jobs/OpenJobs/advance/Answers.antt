@@ -6,6 +6,11 @@ use Rattle.merge_jobs.specs.Open.{OpenState, is_named, merges_in, with_merge}
 use Rattle.merge_jobs.proofs.Moved.{found_at, walked_at}
 use Rattle.merge_jobs.proofs.open_jobs.OpenJobs.advance.Goals as goal
 
+pub advance_at-requires-clause-same : goal.advance_at-requires-clause-same
+advance_at-requires-clause-same c = λ job is.
+    let found = subst (λ (js : List OpenState). slice_get js c.place_of-index.result ≡ find (is_named c.args.id) js) c.as_slice.ensures.value c.place_of-index.ensures.found in
+    c.requires.same job (sym (found ∙ ap (find (is_named c.args.id)) c.self.view_is) ∙ is)
+
 pub returns-clause-advanced : goal.returns-clause-advanced
 returns-clause-advanced c =
     let items = c.self.inside.jobs.items in
