@@ -1,4 +1,6 @@
 pub mod Firsts
 pub mod Twice
 pub mod Partless
+pub mod KnownPaths
+pub mod Walked
 pub mod Examples

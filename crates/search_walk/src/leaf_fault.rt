@@ -7,7 +7,7 @@ ghost use Rattle.search_walk.specs.Kinds.{is_taken};
 ghost use Rattle.search_walk.specs.Fault.{bad_value_unless, asked_value, all_taken, elements_taken, bound_taken, bounds_taken, asked_taken, fits_field, leaf_fault};
 
 use crate::kinds::{is_taken, may_ask};
-use crate::names::kind_named;
+use crate::known::KnownFields;
 use crate::refusal::SearchRefusal;
 use mapping::{Kind, Mapping};
 use search_form::{ChosenName, Form, chosen};
@@ -104,12 +104,17 @@ pub(crate) fn fits_field(kind: Option<Kind>, form: Form, value: &Json) -> bool
 }
 
 /// What a leaf is refused for.
-pub(crate) fn leaf_fault(mapping: &Mapping, form: Form, leaf: &JsonObject) -> Option<SearchRefusal>
+pub(crate) fn leaf_fault(
+    mapping: &Mapping,
+    form: Form,
+    leaf: &JsonObject,
+    known: &mut KnownFields,
+) -> Option<SearchRefusal>
     ensures { result ≡ leaf_fault mapping.now form (chosen form (members_of leaf.now)) }
 {
     match chosen(form, leaf) {
         Some(ChosenName { name, value, .. }) => {
-            bad_value_unless(fits_field(kind_named(mapping, name), form, value))
+            bad_value_unless(fits_field(known.kind(mapping, name), form, value))
         }
         None => None,
     }

@@ -124,7 +124,8 @@ pub fn buckets_in(object: &JsonObject) -> Option<&Json>
     }
 }
 
-fn root_if(relation: Option<u32>) -> Option<u32>
+/// The scope of roots, where a relation leads to some.
+pub fn root_if(relation: Option<u32>) -> Option<u32>
     ensures { result ≡ root_if relation }
 {
     match relation {
