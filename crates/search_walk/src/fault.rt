@@ -12,7 +12,7 @@ ghost use Rattle.search_walk.specs.Walk.{inside_at};
 use crate::after::keys_are_taken;
 use crate::bucket_fault::bucket_fault;
 use crate::kinds::{is_keyword, is_sortable, is_taken};
-use crate::known::KnownFields;
+use crate::known::KnownNames;
 use crate::leaf_fault::{bad_value_unless, leaf_fault};
 use crate::names::{child_under, flag_under, kind_named, text_of};
 use crate::node::Node;
@@ -151,7 +151,7 @@ fn object_fault(
     inside: Option<u32>,
     form: Form,
     object: &JsonObject,
-    known: &mut KnownFields,
+    known: &mut KnownNames,
 ) -> Option<SearchRefusal>
     requires { inside ≡ scope_in mapping.now scope form (members_of object.now) }
     ensures { result ≡ object_fault mapping.now scope form (members_of object.now) }
@@ -176,7 +176,7 @@ fn fault_at(
     inside: Option<u32>,
     form: Form,
     value: &Json,
-    known: &mut KnownFields,
+    known: &mut KnownNames,
 ) -> Option<SearchRefusal>
     requires { inside ≡ inside_at mapping.now (Some scope) form (view value.now) }
     ensures { result ≡ fault_at mapping.now scope form (view value.now) }
@@ -194,7 +194,7 @@ fn fault_at(
 pub(crate) fn fault_of(
     mapping: &Mapping,
     node: &Node<'_>,
-    known: &mut KnownFields,
+    known: &mut KnownNames,
 ) -> Option<SearchRefusal>
     requires { node.now.inside ≡ inside_at mapping.now node.now.scope node.now.form (view node.now.value.now) }
     ensures { result ≡ fault_of mapping.now (node_of node.now) }

@@ -1,24 +1,33 @@
-//! Fields that were looked up before. A body asks the same few fields again and again.
+//! Names that were looked up before. A body asks the same few fields and paths again and again.
 ghost use Rattle.std.specs.Prelude.{◌≡◌, ◌<◌, IsTrue, IfSome, Some, length};
 ghost use Rattle.mapping.specs.Mapping.{field_named};
-ghost use Rattle.search_walk.specs.Names.{kind_named};
+ghost use Rattle.tree_json.specs.Value.{members_of};
+ghost use Rattle.search_walk.specs.Names.{kind_named, nested_scope, scope_inside};
 
+use crate::names::{nested_scope, scope_inside, text_under};
 use mapping::{Kind, Mapping, names_lead_to_fields};
+use search_form::Form;
+use tree_json::JsonObject;
 
 /// So many fields are remembered.
 const SLOTS: usize = 128;
 
-/// The fields that were found last, each in a slot that its path gives. A slot says where to look first: what stands there
-/// counts only where it is the field of the path, so it may be of another path, or of another mapping.
+/// The fields that were found last, each in a slot that its path gives, and the nested path that was found last. They say
+/// where to look first: what stands there counts only where it has the path that is sought, so it may be of another path,
+/// or of another mapping.
 #[derive(Drop)]
-pub struct KnownFields {
-    slots: [u32; 128],
+pub struct KnownNames {
+    fields: [u32; 128],
+    scope: u32,
 }
 
-impl KnownFields {
+impl KnownNames {
     /// None yet.
-    pub fn new() -> KnownFields {
-        KnownFields { slots: [0; 128] }
+    pub fn new() -> KnownNames {
+        KnownNames {
+            fields: [0; 128],
+            scope: 0,
+        }
     }
 
     /// The number of the field at a path.
@@ -27,13 +36,13 @@ impl KnownFields {
         ensures bound { IfSome result (λ field. field < length mapping.now.fields) }
     {
         let slot = slot_of(path);
-        let known = self.slots[slot];
+        let known = self.fields[slot];
         if stands_at(mapping, known, path) {
             return Some(known);
         }
         let found = mapping.field(path);
         if let Some(field) = found {
-            self.slots[slot] = field;
+            self.fields[slot] = field;
         }
         found
     }
@@ -45,6 +54,39 @@ impl KnownFields {
         match self.field(mapping, path) {
             Some(field) => Some(mapping.kind(field)),
             None => None,
+        }
+    }
+
+    /// The number of a nested path. The empty path is the root's, which is no nested one.
+    fn nested_scope(&mut self, mapping: &Mapping, path: &[u8]) -> Option<u32>
+        ensures { result ≡ nested_scope mapping.now path.now }
+    {
+        if is_scope_at(mapping, self.scope, path) {
+            return Some(self.scope);
+        }
+        let found = nested_scope(mapping, path);
+        if let Some(scope) = found {
+            self.scope = scope;
+        }
+        found
+    }
+
+    /// The scope in which the parts of an object stand; none inside an ignored clause.
+    pub fn scope_inside(
+        &mut self,
+        mapping: &Mapping,
+        scope: Option<u32>,
+        form: Form,
+        object: &JsonObject,
+    ) -> Option<u32>
+        ensures { result ≡ scope_inside mapping.now scope form (members_of object.now) }
+    {
+        match form {
+            Form::Nested => match scope {
+                Some(_) => self.nested_scope(mapping, text_under(object, b"path")),
+                None => None,
+            },
+            _ => scope_inside(mapping, scope, form, object),
         }
     }
 }
@@ -74,4 +116,18 @@ fn stands_at(mapping: &Mapping, field: u32, path: &[u8]) -> bool
     mapping.generation();
     names_lead_to_fields();
     mapping.path(field) == path
+}
+
+// Whether a number is that of the nested scope at a path.
+#[tactic(auto, using(crate::proofs::KnownPaths::known_scope))]
+fn is_scope_at(mapping: &Mapping, scope: u32, path: &[u8]) -> bool
+    ensures { IsTrue result → nested_scope mapping.now path.now ≡ Some scope }
+{
+    if path.is_empty() {
+        return false;
+    }
+    if mapping.scope_count() <= scope {
+        return false;
+    }
+    mapping.scope_path(scope) == path
 }

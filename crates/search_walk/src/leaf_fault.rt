@@ -7,7 +7,7 @@ ghost use Rattle.search_walk.specs.Kinds.{is_taken};
 ghost use Rattle.search_walk.specs.Fault.{bad_value_unless, asked_value, all_taken, elements_taken, bound_taken, bounds_taken, asked_taken, fits_field, leaf_fault};
 
 use crate::kinds::{is_taken, may_ask};
-use crate::known::KnownFields;
+use crate::known::KnownNames;
 use crate::refusal::SearchRefusal;
 use mapping::{Kind, Mapping};
 use search_form::{ChosenName, Form, chosen};
@@ -108,7 +108,7 @@ pub(crate) fn leaf_fault(
     mapping: &Mapping,
     form: Form,
     leaf: &JsonObject,
-    known: &mut KnownFields,
+    known: &mut KnownNames,
 ) -> Option<SearchRefusal>
     ensures { result ≡ leaf_fault mapping.now form (chosen form (members_of leaf.now)) }
 {

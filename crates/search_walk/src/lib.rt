@@ -20,7 +20,7 @@ mod refusal;
 mod sorts;
 
 pub use judge::judged;
-pub use known::KnownFields;
+pub use known::KnownNames;
 pub use mapping::NoMemory;
 pub use names::{
     buckets_in, child_under, flag_under, nested_under, parent_under, path_or_root, root_if,

@@ -41,7 +41,7 @@ pub fn flag_under(object: &JsonObject, name: &[u8]) -> bool
 }
 
 /// The number of a nested path. The empty path is the root's, which is no nested one.
-fn nested_scope(mapping: &Mapping, path: &[u8]) -> Option<u32>
+pub(crate) fn nested_scope(mapping: &Mapping, path: &[u8]) -> Option<u32>
     ensures { result ≡ nested_scope mapping.now path.now }
 {
     if path.is_empty() {

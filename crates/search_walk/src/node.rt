@@ -2,7 +2,7 @@
 ghost use Rattle.std.specs.Prelude.{◌≡◌};
 ghost use Rattle.search_walk.specs.Walk.{walk_of, no_walk};
 
-use crate::known::KnownFields;
+use crate::known::KnownNames;
 use crate::refusal::SearchRefusal;
 use search_form::Form;
 use std::alloc::Global;
@@ -24,7 +24,7 @@ pub(crate) struct Node<'a> {
 /// What was met on a walk so far.
 #[derive(Drop)]
 pub(crate) struct Walk<'a> {
-    pub known: KnownFields,
+    pub known: KnownNames,
     /// The first fault.
     pub fault: Option<SearchRefusal>,
     /// The names of inner hits, in the order of the walk.
@@ -42,7 +42,7 @@ impl<'a> Walk<'a> {
         ensures { walk_of result ≡ no_walk }
     {
         Walk {
-            known: KnownFields::new(),
+            known: KnownNames::new(),
             fault: None,
             names: Vec::new(alloc),
             clauses: 0,

@@ -14,9 +14,9 @@ ghost use Rattle.search_walk.specs.View.{node_of};
 ghost use Rattle.search_walk.specs.Walk.{walk_of, walked, inside_at};
 
 use crate::fault::fault_of;
-use crate::known::KnownFields;
+use crate::known::KnownNames;
 use crate::limit::{has_large_window, has_many_terms, inner_name_at, is_clause, is_deep};
-use crate::names::{buckets_in, scope_inside};
+use crate::names::buckets_in;
 use crate::node::{Node, Walk};
 use crate::refusal::SearchRefusal;
 use mapping::{Mapping, NoMemory};
@@ -107,7 +107,7 @@ fn fault_with(
     mapping: &Mapping,
     node: &Node<'_>,
     fault: Option<SearchRefusal>,
-    known: &mut KnownFields,
+    known: &mut KnownNames,
 ) -> Option<SearchRefusal>
     requires { node.now.inside ≡ inside_at mapping.now node.now.scope node.now.form (view node.now.value.now) }
     ensures { result ≡ option_or fault (fault_of mapping.now (node_of node.now)) }
@@ -207,7 +207,7 @@ fn nodes_at<'a>(
         )?),
         Json::Object(object) => {
             let form = single_of(form);
-            let inside = scope_inside(mapping, scope, form, object);
+            let inside = walk.known.scope_inside(mapping, scope, form, object);
             meet_here(mapping, scope, inside, level, form, value, walk)?;
             if !has_parts(form) {
                 return Ok(());
