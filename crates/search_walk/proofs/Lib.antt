@@ -3,4 +3,5 @@ pub mod Twice
 pub mod Partless
 pub mod KnownPaths
 pub mod Walked
+pub mod Rooted
 pub mod Examples

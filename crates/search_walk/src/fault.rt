@@ -145,6 +145,32 @@ fn sort_fault(mapping: &Mapping, clause: &Json) -> Option<SearchRefusal>
     }
 }
 
+// What `nested` is refused for, inside which stand parts of a scope.
+fn nested_fault(
+    mapping: &Mapping,
+    scope: u32,
+    inside: Option<u32>,
+    clause: &JsonObject,
+) -> Option<SearchRefusal>
+    ensures { result ≡ below_fault mapping.now scope (ignores (members_of clause.now)) inside }
+{
+    match inside {
+        Some(below) => below_fault(mapping, scope, false, Some(below)),
+        None => below_fault(mapping, scope, ignores(clause), None),
+    }
+}
+
+// What a clause of a join is refused for, inside which stand roots if its relation is known.
+fn joined_fault(inside: Option<u32>, clause: &JsonObject) -> Option<SearchRefusal>
+    ensures { result ≡ relation_fault (ignores (members_of clause.now)) inside }
+{
+    match inside {
+        Some(_) => None,
+        None => relation_fault(ignores(clause), None),
+    }
+}
+
+#[tactic(auto, using(crate::proofs::Rooted::rooted))]
 fn object_fault(
     mapping: &Mapping,
     scope: u32,
@@ -159,9 +185,9 @@ fn object_fault(
     match form {
         Form::Term | Form::Terms | Form::Range | Form::Prefix | Form::Match | Form::MatchPhrase =>
             leaf_fault(mapping, form, object, known),
-        Form::Nested => below_fault(mapping, scope, ignores(object), inside),
+        Form::Nested => nested_fault(mapping, scope, inside, object),
         Form::ToChild => above_fault(mapping, scope, inside),
-        Form::HasChild | Form::HasParent => relation_fault(ignores(object), inside),
+        Form::HasChild | Form::HasParent => joined_fault(inside, object),
         Form::ParentId => relation_fault(ignores(object), child_under(mapping, object)),
         Form::SortNested => below_fault(mapping, scope, false, inside),
         Form::SearchAfter => bad_value_unless(keys_are_taken(mapping, object)),

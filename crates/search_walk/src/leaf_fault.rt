@@ -8,6 +8,7 @@ ghost use Rattle.search_walk.specs.Fault.{bad_value_unless, asked_value, all_tak
 
 use crate::kinds::{is_taken, may_ask};
 use crate::known::KnownNames;
+use crate::names::member;
 use crate::refusal::SearchRefusal;
 use mapping::{Kind, Mapping};
 use search_form::{ChosenName, Form, chosen};
@@ -28,7 +29,7 @@ fn asked_value_taken(kind: Kind, name: &[u8], value: &Json) -> bool
     ensures { result ≡ is_taken kind (asked_value name.now (view value.now)) }
 {
     match value {
-        Json::Object(object) => match object.member(name) {
+        Json::Object(object) => match member(object, name) {
             Some(value) => is_taken(kind, value),
             None => true,
         },
@@ -61,7 +62,7 @@ fn elements_taken(kind: Kind, value: &Json) -> bool
 fn bound_taken(kind: Kind, bounds: &JsonObject, name: &[u8]) -> bool
     ensures { result ≡ bound_taken kind (member_of (members_of bounds.now) name.now) }
 {
-    match bounds.member(name) {
+    match member(bounds, name) {
         Some(bound) => matches!(bound, Json::Null) || is_taken(kind, bound),
         None => true,
     }

@@ -23,7 +23,7 @@ pub use judge::judged;
 pub use known::KnownNames;
 pub use mapping::NoMemory;
 pub use names::{
-    buckets_in, child_under, flag_under, nested_under, parent_under, path_or_root, root_if,
+    buckets_in, child_under, flag_under, member, nested_under, parent_under, path_or_root, root_if,
     scope_inside, text_of, text_under,
 };
 pub use parts::has_parts;

@@ -6,10 +6,11 @@ ghost use Rattle.tree_json.specs.View.{view};
 ghost use Rattle.search_form.specs.Form.{chosen, has};
 ghost use Rattle.search_form.specs.declared.form.Form.TheVariants.{Terms};
 ghost use Rattle.search_walk.specs.Refusal.{name_or, inner_name_in, inner_name_of, inner_name_at, inner_names, has_twice, natural_or, window, has_large_window_at, has_large_window, is_clause, most_clauses, is_deep, are_many, are_many_if, has_many_terms_at, has_many_terms, limit_refusal};
+ghost use Rattle.search_walk.specs.Names.{text_under};
 ghost use Rattle.search_walk.specs.Node.{nodes_of};
 ghost use Rattle.search_walk.specs.View.{node_of};
 
-use crate::names::{text_of, text_under};
+use crate::names::{member, text_of, text_under};
 use crate::node::{Node, Walk};
 use crate::refusal::SearchRefusal;
 use mapping::{Mapping, NoMemory};
@@ -33,22 +34,22 @@ const MOST_TERMS: usize = 65_536;
 
 // ---- names of inner hits
 
-// The name that the inner hits of a clause have, if it has some.
-fn inner_name_in<'a>(default: &'a [u8], clause: &'a JsonObject) -> Option<&'a [u8]>
-    ensures { option_map (λ n. n.now) result ≡ inner_name_in default.now (member_of (members_of clause.now) (codes "inner_hits")) }
+// The name that the inner hits of a clause have, if it has some: their own, or that which stands under a name of the clause.
+fn inner_name_in<'a>(default: &[u8], clause: &'a JsonObject) -> Option<&'a [u8]>
+    ensures { option_map (λ n. n.now) result ≡ inner_name_in (text_under (members_of clause.now) default.now) (member_of (members_of clause.now) (codes "inner_hits")) }
 {
-    match clause.member(b"inner_hits") {
-        Some(Json::Object(inner)) => Some(name_or(default, inner)),
+    match member(clause, b"inner_hits") {
+        Some(Json::Object(inner)) => Some(name_or(default, clause, inner)),
         _ => None,
     }
 }
 
-fn name_or<'a>(default: &'a [u8], inner: &'a JsonObject) -> &'a [u8]
-    ensures { result.now ≡ name_or default.now (member_of (members_of inner.now) (codes "name")) }
+fn name_or<'a>(default: &[u8], clause: &'a JsonObject, inner: &'a JsonObject) -> &'a [u8]
+    ensures { result.now ≡ name_or (text_under (members_of clause.now) default.now) (member_of (members_of inner.now) (codes "name")) }
 {
-    match inner.member(b"name") {
+    match member(inner, b"name") {
         Some(name) => text_of(name),
-        None => default,
+        None => text_under(clause, default),
     }
 }
 
@@ -56,9 +57,9 @@ fn inner_name_of<'a>(form: Form, clause: &'a JsonObject) -> Option<&'a [u8]>
     ensures { option_map (λ n. n.now) result ≡ inner_name_of form (members_of clause.now) }
 {
     match form {
-        Form::Nested => inner_name_in(text_under(clause, b"path"), clause),
-        Form::HasChild => inner_name_in(text_under(clause, b"type"), clause),
-        Form::HasParent => inner_name_in(text_under(clause, b"parent_type"), clause),
+        Form::Nested => inner_name_in(b"path", clause),
+        Form::HasChild => inner_name_in(b"type", clause),
+        Form::HasParent => inner_name_in(b"parent_type", clause),
         _ => None,
     }
 }
@@ -93,7 +94,7 @@ fn natural_or(default: u64, object: &JsonObject, name: &[u8]) -> u64
     ensures natural { result ≡ natural_or default (member_of (members_of object.now) name.now) }
     ensures small { result < 2 ^ 63 }
 {
-    match object.member(name) {
+    match member(object, name) {
         Some(Json::Whole(number)) => { if *number < 0 { default } else { *number as u64 } }
         _ => default,
     }
