@@ -12,3 +12,4 @@ pub mod InnerDefinitions
 pub mod BucketDefinitions
 pub mod Searches
 pub mod NoInner
+pub mod Joined

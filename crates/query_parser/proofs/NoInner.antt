@@ -97,4 +97,8 @@ no_inner_hits m body h =
     (rw (none_if m Sort (member_of body (codes "sort")) (none_before sort after (none_behind query (sort ++ after) hits)))
     (none_if m Buckets (buckets_in body) (none_behind (query ++ (sort ++ after)) buckets h)))
 
+-- nor are there where no part of an object is judged
+pub no_inner_among : (m : Mapping) (scope : Option ℕ) (form : Form) (ms : Members) → ((level : ℕ) → nodes_among m scope level form ms ≡ []) → inner_among m scope form ms ≡ []
+no_inner_among m scope form ms none = none_among m scope 0 form ms (ap count (none 0))
+
 pub ruleset no_inner = (no_inner_hits)

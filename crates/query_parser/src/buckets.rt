@@ -13,7 +13,7 @@ use crate::readings::{child_in, copied, field_in, number_under};
 use mapping::Mapping;
 use query_ast::{AggDef, AggForm, AggList, NoMemory, Query, QueryBox};
 use search_form::{ChosenName, Form, chosen};
-use search_walk::{scope_inside, text_of, text_under};
+use search_walk::{KnownNames, scope_inside, text_of, text_under};
 use std::alloc::Global;
 use tree_json::{Json, JsonObject, JsonText};
 
@@ -118,7 +118,11 @@ fn object_form(
         Form::Metric => Ok(metric_form(name, field_under(mapping, scope, bucket))),
         Form::ValueCount => Ok(AggForm::ValueCount(field_under(mapping, scope, bucket))),
         Form::JoinBucket => Ok(join_form(name, or_root(child_in(mapping, scope, bucket)))),
-        _ => Ok(filter_form(alloc, clause_at(alloc, mapping, scope, value)?)?),
+        _ => {
+            let mut known = KnownNames::new();
+            let query = clause_at(alloc, mapping, &mut known, scope, value)?;
+            Ok(filter_form(alloc, query)?)
+        }
     }
 }
 

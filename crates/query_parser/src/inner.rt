@@ -1,11 +1,14 @@
 //! The definitions of inner hits that a body has.
-ghost use Rattle.std.specs.Prelude.{◌≡◌, ◌++◌, ◌∷◌, [], map, codes, Option, Some, IfOk, OnOk};
+ghost use Rattle.std.specs.Prelude.{◌≡◌, ◌++◌, ◌∷◌, [], ℕ, List, false, map, codes, Option, Some, IfOk, OnOk};
+ghost use Rattle.mapping.specs.Mapping.{Mapping};
 ghost use Rattle.tree_json.specs.Value.{members_of, member_of, elements_of, object as object_value};
 ghost use Rattle.tree_json.specs.View.{view, values, entries};
-ghost use Rattle.query_ast.specs.Definition.{definition, definitions_of};
+ghost use Rattle.query_ast.specs.Definition.{Definition, definition, definitions_of};
+ghost use Rattle.query_ast.specs.Inner.{Inner};
 ghost use Rattle.query_ast.specs.Inner.View.{inner_of as seen};
-ghost use Rattle.search_walk.specs.Names.{buckets_in as buckets_value};
+ghost use Rattle.search_walk.specs.Names.{buckets_in as buckets_value, scope_inside};
 ghost use Rattle.search_walk.specs.Refusal.{name_or, inner_count};
+ghost use Rattle.search_form.specs.Form.{form_at};
 ghost use Rattle.search_form.specs.declared.form.Form.TheVariants.{Query, Sort, Buckets};
 ghost use Rattle.query_parser.specs.InnerHits.{below_if, children_if, parents_if, inner_of, held_by, owned_by, inner_at, inner_in, inner_among, inner_if, inner_of_body};
 
@@ -15,7 +18,7 @@ use crate::sorts::sorts_under;
 use mapping::Mapping;
 use query_ast::{InnerDef, InnerList, InnerOver, NoMemory};
 use search_form::{Form, element_of, form_at, single_of};
-use search_walk::{buckets_in, scope_inside, text_of, text_under};
+use search_walk::{KnownNames, buckets_in, has_parts, member, text_of, text_under};
 use std::alloc::Global;
 use tree_json::{Json, JsonObject, JsonText};
 
@@ -49,7 +52,7 @@ fn parents_if(relation: Option<u32>) -> InnerOver
 fn name_or<'a>(default: &'a [u8], inner: &'a JsonObject) -> &'a [u8]
     ensures { result.now ≡ name_or default.now (member_of (members_of inner.now) (codes "name")) }
 {
-    match inner.member(b"name") {
+    match member(inner, b"name") {
         Some(name) => text_of(name),
         None => default,
     }
@@ -59,6 +62,7 @@ fn name_or<'a>(default: &'a [u8], inner: &'a JsonObject) -> &'a [u8]
 fn defined(
     alloc: Global,
     mapping: &Mapping,
+    known: &mut KnownNames,
     inside: Option<u32>,
     over: InnerOver,
     default: &[u8],
@@ -71,7 +75,7 @@ fn defined(
     Ok(InnerDef {
         name: copied(alloc, name_or(default, inner))?,
         over,
-        query: clause_under(alloc, mapping, inside, b"query", clause)?,
+        query: clause_under(alloc, mapping, known, inside, b"query", clause)?,
         from: number_under(100, 0, inner, b"from"),
         size: number_under(100, 3, inner, b"size"),
         sort: sorts_under(alloc, mapping, inside, inner)?,
@@ -80,63 +84,80 @@ fn defined(
     })
 }
 
+// Appends the definition of a clause that has inner hits, and else those inside it.
 fn held_by(
     alloc: Global,
     mapping: &Mapping,
+    known: &mut KnownNames,
     inside: Option<u32>,
     over: InnerOver,
     default: &[u8],
     clause: &JsonObject,
     owned: Vec<InnerDef>,
-) -> Result<Vec<InnerDef>, NoMemory>
-    ensures { IfOk result (λ defs. map seen defs.items ≡ held_by mapping.now inside over default.now (members_of clause.now) (member_of (members_of clause.now) (codes "inner_hits")) (map seen owned.items)) }
+    found: &mut Vec<InnerDef>,
+) -> Result<(), NoMemory>
+    ensures { OnOk result (map seen found.new.items ≡ map seen found.old.items ++ held_by mapping.now inside over default.now (members_of clause.now) (member_of (members_of clause.now) (codes "inner_hits")) (map seen owned.items)) }
 {
-    match clause.member(b"inner_hits") {
+    match member(clause, b"inner_hits") {
         Some(Json::Object(inner)) => {
-            let mut held = Vec::with_capacity(alloc, 1)?;
-            held.push(defined(alloc, mapping, inside, over, default, clause, inner, owned)?)?;
-            Ok(held)
+            found.push(defined(
+                alloc, mapping, known, inside, over, default, clause, inner, owned,
+            )?)?;
+            Ok(())
         }
-        _ => Ok(owned),
+        _ => Ok(append(found, owned)?),
     }
 }
 
-// The definitions of an object, of which it owns those inside it where it has inner hits.
+// The same for an object of a form.
 fn owned_by(
     alloc: Global,
     mapping: &Mapping,
+    known: &mut KnownNames,
     scope: Option<u32>,
+    inside: Option<u32>,
     form: Form,
     object: &JsonObject,
     owned: Vec<InnerDef>,
-) -> Result<Vec<InnerDef>, NoMemory>
-    ensures { IfOk result (λ defs. map seen defs.items ≡ owned_by mapping.now scope form (members_of object.now) (map seen owned.items)) }
+    found: &mut Vec<InnerDef>,
+) -> Result<(), NoMemory>
+    requires { inside ≡ scope_inside mapping.now scope form (members_of object.now) }
+    ensures { OnOk result (map seen found.new.items ≡ map seen found.old.items ++ owned_by mapping.now scope form (members_of object.now) (map seen owned.items)) }
 {
-    let inside = scope_inside(mapping, scope, form, object);
     match form {
         Form::Nested => {
             let path = text_under(object, b"path");
+            let over = below_if(inside);
             Ok(held_by(
-                alloc,
-                mapping,
-                inside,
-                below_if(inside),
-                path,
-                object,
-                owned,
+                alloc, mapping, known, inside, over, path, object, owned, found,
             )?)
         }
         Form::HasChild => {
             let over = children_if(child_in(mapping, scope, object));
             let name = text_under(object, b"type");
-            Ok(held_by(alloc, mapping, inside, over, name, object, owned)?)
+            Ok(held_by(
+                alloc, mapping, known, inside, over, name, object, owned, found,
+            )?)
         }
         Form::HasParent => {
             let over = parents_if(parent_in(mapping, scope, object));
             let name = text_under(object, b"parent_type");
-            Ok(held_by(alloc, mapping, inside, over, name, object, owned)?)
+            Ok(held_by(
+                alloc, mapping, known, inside, over, name, object, owned, found,
+            )?)
         }
-        _ => Ok(owned),
+        _ => Ok(append(found, owned)?),
+    }
+}
+
+// Whether an object of a form may have inner hits; one that doesn't owns nothing.
+#[tactic(auto, using(crate::proofs::NoInner::no_inner))]
+fn may_own(form: Form, object: &JsonObject) -> bool
+    ensures { result ≡ false → (m : Mapping) (scope : Option ℕ) (owned : List (Definition Inner)) → owned_by m scope form (members_of object.now) owned ≡ owned }
+{
+    match form {
+        Form::Nested | Form::HasChild | Form::HasParent => member(object, b"inner_hits").is_some(),
+        _ => false,
     }
 }
 
@@ -153,6 +174,7 @@ fn append(found: &mut Vec<InnerDef>, mut more: Vec<InnerDef>) -> Result<(), NoMe
 fn inner_at(
     alloc: Global,
     mapping: &Mapping,
+    known: &mut KnownNames,
     scope: Option<u32>,
     form: Form,
     value: &Json,
@@ -164,21 +186,69 @@ fn inner_at(
         Json::List(list) => Ok(inner_in(
             alloc,
             mapping,
+            known,
             scope,
             element_of(form),
             list.as_slice(),
             found,
         )?),
-        Json::Object(object) => {
-            let form = single_of(form);
-            let inside = scope_inside(mapping, scope, form, object);
-            let mut owned = Vec::new(alloc);
-            inner_among(alloc, mapping, inside, form, object.as_slice(), &mut owned)?;
-            let held = owned_by(alloc, mapping, scope, form, object, owned)?;
-            Ok(append(found, held)?)
-        }
+        Json::Object(object) => Ok(inner_inside(
+            alloc,
+            mapping,
+            known,
+            scope,
+            single_of(form),
+            object,
+            found,
+        )?),
         Json::Null | Json::Bool(_) | Json::Whole(_) | Json::Text(_) => Ok(()),
     }
+}
+
+#[cycle(inner)]
+#[tactic(auto, using(search_form::specs::Sizes::sizes, crate::proofs::NoInner::no_inner))]
+fn inner_inside(
+    alloc: Global,
+    mapping: &Mapping,
+    known: &mut KnownNames,
+    scope: Option<u32>,
+    form: Form,
+    object: &JsonObject,
+    found: &mut Vec<InnerDef>,
+) -> Result<(), NoMemory>
+    ensures { OnOk result (map seen found.new.items ≡ map seen found.old.items ++ owned_by mapping.now scope form (members_of object.now) (inner_among mapping.now (scope_inside mapping.now scope form (members_of object.now)) form (members_of object.now))) }
+{
+    if !may_own(form, object) {
+        if !has_parts(form) {
+            return Ok(());
+        }
+        let inside = known.scope_inside(mapping, scope, form, object);
+        inner_among(
+            alloc,
+            mapping,
+            known,
+            inside,
+            form,
+            object.as_slice(),
+            found,
+        )?;
+        return Ok(());
+    }
+    let inside = known.scope_inside(mapping, scope, form, object);
+    let mut owned = Vec::new(alloc);
+    inner_among(
+        alloc,
+        mapping,
+        known,
+        inside,
+        form,
+        object.as_slice(),
+        &mut owned,
+    )?;
+    owned_by(
+        alloc, mapping, known, scope, inside, form, object, owned, found,
+    )?;
+    Ok(())
 }
 
 #[cycle(inner)]
@@ -186,6 +256,7 @@ fn inner_at(
 fn inner_in(
     alloc: Global,
     mapping: &Mapping,
+    known: &mut KnownNames,
     scope: Option<u32>,
     form: Form,
     elements: &[Json],
@@ -194,7 +265,7 @@ fn inner_in(
     ensures { OnOk result (map seen found.new.items ≡ map seen found.old.items ++ inner_in mapping.now scope form (elements_of (values elements.now))) }
 {
     'elements: for element in elements {
-        inner_at(alloc, mapping, scope, form, element, found)?;
+        inner_at(alloc, mapping, known, scope, form, element, found)?;
     }
     Ok(())
 }
@@ -204,6 +275,7 @@ fn inner_in(
 fn inner_among(
     alloc: Global,
     mapping: &Mapping,
+    known: &mut KnownNames,
     scope: Option<u32>,
     form: Form,
     members: &[(JsonText, Json)],
@@ -212,11 +284,13 @@ fn inner_among(
     ensures { OnOk result (map seen found.new.items ≡ map seen found.old.items ++ inner_among mapping.now scope form (members_of (entries members.now))) }
 {
     'members: for (name, value) in members {
-        inner_at(
+        inner_part(
             alloc,
             mapping,
+            known,
             scope,
-            form_at(form, name.as_slice()),
+            form,
+            name.as_slice(),
             value,
             found,
         )?;
@@ -224,9 +298,39 @@ fn inner_among(
     Ok(())
 }
 
+// Appends those that stand under a name. A single value has none, and its name isn't looked up.
+#[cycle(inner)]
+#[tactic(auto, using(search_form::specs::Sizes::sizes))]
+fn inner_part(
+    alloc: Global,
+    mapping: &Mapping,
+    known: &mut KnownNames,
+    scope: Option<u32>,
+    form: Form,
+    name: &[u8],
+    value: &Json,
+    found: &mut Vec<InnerDef>,
+) -> Result<(), NoMemory>
+    ensures { OnOk result (map seen found.new.items ≡ map seen found.old.items ++ inner_at mapping.now scope (form_at form name.now) (view value.now)) }
+{
+    match value {
+        Json::List(_) | Json::Object(_) => Ok(inner_at(
+            alloc,
+            mapping,
+            known,
+            scope,
+            form_at(form, name),
+            value,
+            found,
+        )?),
+        Json::Null | Json::Bool(_) | Json::Whole(_) | Json::Text(_) => Ok(()),
+    }
+}
+
 fn inner_under(
     alloc: Global,
     mapping: &Mapping,
+    known: &mut KnownNames,
     form: Form,
     name: &[u8],
     body: &JsonObject,
@@ -235,7 +339,7 @@ fn inner_under(
     ensures { OnOk result (map seen found.new.items ≡ map seen found.old.items ++ inner_if mapping.now form (member_of (members_of body.now) name.now)) }
 {
     match body.member(name) {
-        Some(value) => Ok(inner_at(alloc, mapping, Some(0), form, value, found)?),
+        Some(value) => Ok(inner_at(alloc, mapping, known, Some(0), form, value, found)?),
         None => Ok(()),
     }
 }
@@ -243,13 +347,14 @@ fn inner_under(
 fn inner_of_buckets(
     alloc: Global,
     mapping: &Mapping,
+    known: &mut KnownNames,
     body: &JsonObject,
     found: &mut Vec<InnerDef>,
 ) -> Result<(), NoMemory>
     ensures { OnOk result (map seen found.new.items ≡ map seen found.old.items ++ inner_if mapping.now Buckets (buckets_value (members_of body.now))) }
 {
     match buckets_in(body) {
-        Some(value) => Ok(inner_at(alloc, mapping, Some(0), Form::Buckets, value, found)?),
+        Some(value) => Ok(inner_at(alloc, mapping, known, Some(0), Form::Buckets, value, found)?),
         None => Ok(()),
     }
 }
@@ -259,18 +364,27 @@ fn inner_of_buckets(
 pub(crate) fn inner_of_body(
     alloc: Global,
     mapping: &Mapping,
+    known: &mut KnownNames,
     body: &JsonObject,
     count: usize,
 ) -> Result<InnerList, NoMemory>
     requires { count ≡ inner_count mapping.now (object_value (members_of body.now)) }
     ensures { IfOk result (λ defs. defs ≡ inner_of_body mapping.now (members_of body.now)) }
 {
-    let mut found = Vec::new(alloc);
+    let mut found = Vec::with_capacity(alloc, count)?;
     if count == 0 {
         return Ok(InnerList::of(found));
     }
-    inner_under(alloc, mapping, Form::Query, b"query", body, &mut found)?;
-    inner_under(alloc, mapping, Form::Sort, b"sort", body, &mut found)?;
-    inner_of_buckets(alloc, mapping, body, &mut found)?;
+    inner_under(
+        alloc,
+        mapping,
+        known,
+        Form::Query,
+        b"query",
+        body,
+        &mut found,
+    )?;
+    inner_under(alloc, mapping, known, Form::Sort, b"sort", body, &mut found)?;
+    inner_of_buckets(alloc, mapping, known, body, &mut found)?;
     Ok(InnerList::of(found))
 }

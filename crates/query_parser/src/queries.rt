@@ -11,14 +11,14 @@ ghost use Rattle.query_parser.specs.Readings.{boost_of as boost_value};
 ghost use Rattle.query_parser.specs.Queries.{closed_of, past_of, end_of, range_of, is_and_of, test_of, leaf_boost, field_leaf, leaf_named, least_of, form_named, clause_at, clause_among, clause_named, clause_under, clauses_under, clauses_at, clauses_in};
 
 use crate::readings::{
-    asked_by, boost_in, boost_of, child_in, copied, field_in, kind_of_field, mode_in,
+    asked_by, boost_in, boost_of, child_in, copied, kind_of_field, known_field_in, mode_in,
     natural_under, parent_in, texts_under, value_by, values_of,
 };
 use mapping::{Kind, Mapping};
 use query_ast::{NoMemory, Query, QueryBox, QueryList, RangeEnd};
 use score_math::ScoreMode;
 use search_form::{ChosenName, Form, chosen, form_at};
-use search_walk::{flag_under, scope_inside, text_of, text_under};
+use search_walk::{KnownNames, flag_under, member, root_if, scope_inside, text_of, text_under};
 use std::alloc::Global;
 use tree_json::{Json, JsonObject};
 
@@ -30,7 +30,7 @@ fn closed_of(
 ) -> Result<RangeEnd, NoMemory>
     ensures { IfOk result (λ end. end ≡ closed_of kind (member_of (members_of bounds.now) name.now)) }
 {
-    match bounds.member(name) {
+    match member(bounds, name) {
         None => Ok(RangeEnd::Free),
         Some(bound) => match bound {
             Json::Null => Ok(RangeEnd::Free),
@@ -61,7 +61,7 @@ fn end_of(
 ) -> Result<RangeEnd, NoMemory>
     ensures { IfOk result (λ end. end ≡ end_of kind (member_of (members_of bounds.now) past.now) (member_of (members_of bounds.now) closed.now)) }
 {
-    match bounds.member(past) {
+    match member(bounds, past) {
         Some(bound) => Ok(past_of(alloc, kind, bound)?),
         None => Ok(closed_of(alloc, kind, bounds, closed)?),
     }
@@ -164,6 +164,7 @@ fn tested_leaf(
 fn field_leaf(
     alloc: Global,
     mapping: &Mapping,
+    known: &mut KnownNames,
     scope: Option<u32>,
     form: Form,
     object: &JsonObject,
@@ -172,7 +173,7 @@ fn field_leaf(
 {
     match chosen(form, object) {
         Some(ChosenName { name, value, .. }) => {
-            let field = field_in(mapping, scope, name);
+            let field = known_field_in(mapping, known, scope, name);
             Ok(tested_leaf(
                 alloc,
                 kind_of_field(mapping, field),
@@ -189,6 +190,7 @@ fn field_leaf(
 fn leaf_named(
     alloc: Global,
     mapping: &Mapping,
+    known: &mut KnownNames,
     scope: Option<u32>,
     form: Form,
     object: &JsonObject,
@@ -205,7 +207,7 @@ fn leaf_named(
             boost: boost_in(object),
         }),
         Form::Exists => Ok(Query::Exists {
-            field: field_in(mapping, scope, text_under(object, b"field")),
+            field: known_field_in(mapping, known, scope, text_under(object, b"field")),
             boost: boost_in(object),
         }),
         Form::ParentId => Ok(Query::ParentId {
@@ -213,7 +215,7 @@ fn leaf_named(
             id: copied(alloc, text_under(object, b"id"))?,
             boost: boost_in(object),
         }),
-        _ => Ok(field_leaf(alloc, mapping, scope, form, object)?),
+        _ => Ok(field_leaf(alloc, mapping, known, scope, form, object)?),
     }
 }
 
@@ -239,6 +241,7 @@ fn form_named(name: &[u8]) -> Form
 pub(crate) fn clause_at(
     alloc: Global,
     mapping: &Mapping,
+    known: &mut KnownNames,
     scope: Option<u32>,
     value: &Json,
 ) -> Result<Query, NoMemory>
@@ -248,7 +251,14 @@ pub(crate) fn clause_at(
         Json::Object(object) => match object.as_slice() {
             [] => Ok(Query::MatchAll { boost: 1 }),
             [(name, value), ..] => {
-                Ok(clause_named(alloc, mapping, scope, form_named(name.as_slice()), value)?)
+                Ok(clause_named(
+                    alloc,
+                    mapping,
+                    known,
+                    scope,
+                    form_named(name.as_slice()),
+                    value,
+                )?)
             }
         },
         Json::Null | Json::Bool(_) | Json::Whole(_) | Json::Text(_) | Json::List(_) => Ok(
@@ -262,6 +272,7 @@ pub(crate) fn clause_at(
 fn clause_named(
     alloc: Global,
     mapping: &Mapping,
+    known: &mut KnownNames,
     scope: Option<u32>,
     form: Form,
     value: &Json,
@@ -269,7 +280,7 @@ fn clause_named(
     ensures { IfOk result (λ q. clause_of q ≡ clause_named mapping.now scope form (view value.now)) }
 {
     match value {
-        Json::Object(object) => Ok(clause_in(alloc, mapping, scope, form, object)?),
+        Json::Object(object) => Ok(clause_in(alloc, mapping, known, scope, form, object)?),
         Json::Null | Json::Bool(_) | Json::Whole(_) | Json::Text(_) | Json::List(_) => Ok(
             Query::MatchAll { boost: 1 },
         ),
@@ -277,55 +288,67 @@ fn clause_named(
 }
 
 #[cycle(clauses)]
-#[tactic(auto, using(search_form::specs::Sizes::sizes, crate::proofs::Members::members), unfolding(crate::specs::Queries::clause_by))]
+#[tactic(auto, using(search_form::specs::Sizes::sizes, crate::proofs::Members::members, crate::proofs::Joined::joined), unfolding(crate::specs::Queries::clause_by))]
 fn clause_in(
     alloc: Global,
     mapping: &Mapping,
+    known: &mut KnownNames,
     scope: Option<u32>,
     form: Form,
     object: &JsonObject,
 ) -> Result<Query, NoMemory>
     ensures { IfOk result (λ q. clause_of q ≡ clause_named mapping.now scope form (object_value (members_of object.now))) }
 {
-    let inside = scope_inside(mapping, scope, form, object);
     match form {
         Form::BoolQuery => Ok(Query::Bool {
-            must: clauses_under(alloc, mapping, scope, b"must", object)?,
-            filter: clauses_under(alloc, mapping, scope, b"filter", object)?,
-            should: clauses_under(alloc, mapping, scope, b"should", object)?,
-            must_not: clauses_under(alloc, mapping, scope, b"must_not", object)?,
+            must: clauses_under(alloc, mapping, known, scope, b"must", object)?,
+            filter: clauses_under(alloc, mapping, known, scope, b"filter", object)?,
+            should: clauses_under(alloc, mapping, known, scope, b"should", object)?,
+            must_not: clauses_under(alloc, mapping, known, scope, b"must_not", object)?,
             least: natural_under(object, b"minimum_should_match"),
         }),
         Form::ConstantScore => Ok(Query::ConstantScore {
-            filter: clause_under(alloc, mapping, scope, b"filter", object)?,
+            filter: clause_under(alloc, mapping, known, scope, b"filter", object)?,
             boost: boost_in(object),
         }),
         Form::DisMax => Ok(Query::DisMax {
-            queries: clauses_under(alloc, mapping, scope, b"queries", object)?,
+            queries: clauses_under(alloc, mapping, known, scope, b"queries", object)?,
         }),
-        Form::Nested => Ok(Query::Nested {
-            scope: inside,
-            query: clause_under(alloc, mapping, inside, b"query", object)?,
-            mode: mode_in(ScoreMode::Avg, object),
-        }),
-        Form::ToChild => Ok(Query::ToChild {
-            scope: inside,
-            query: clause_under(alloc, mapping, inside, b"query", object)?,
-        }),
-        Form::HasChild => Ok(Query::HasChild {
-            child: child_in(mapping, scope, object),
-            query: clause_under(alloc, mapping, inside, b"query", object)?,
-            mode: mode_in(ScoreMode::Zero, object),
-            least: least_of(natural_under(object, b"min_children")),
-            most: natural_under(object, b"max_children"),
-        }),
-        Form::HasParent => Ok(Query::HasParent {
-            parent: parent_in(mapping, scope, object),
-            query: clause_under(alloc, mapping, inside, b"query", object)?,
-            score: flag_under(object, b"score"),
-            boost: boost_in(object),
-        }),
-        _ => Ok(leaf_named(alloc, mapping, scope, form, object)?),
+        Form::Nested => {
+            let inside = known.scope_inside(mapping, scope, form, object);
+            Ok(Query::Nested {
+                scope: inside,
+                query: clause_under(alloc, mapping, known, inside, b"query", object)?,
+                mode: mode_in(ScoreMode::Avg, object),
+            })
+        }
+        Form::ToChild => {
+            let inside = scope_inside(mapping, scope, form, object);
+            Ok(Query::ToChild {
+                scope: inside,
+                query: clause_under(alloc, mapping, known, inside, b"query", object)?,
+            })
+        }
+        Form::HasChild => {
+            let child = child_in(mapping, scope, object);
+            Ok(Query::HasChild {
+                child,
+                query: clause_under(alloc, mapping, known, root_if(child), b"query", object)?,
+                mode: mode_in(ScoreMode::Zero, object),
+                least: least_of(natural_under(object, b"min_children")),
+                most: natural_under(object, b"max_children"),
+            })
+        }
+        Form::HasParent => {
+            let parent = parent_in(mapping, scope, object);
+            Ok(Query::HasParent {
+                parent,
+                query: clause_under(alloc, mapping, known, root_if(parent), b"query", object)?,
+                score: flag_under(object, b"score"),
+                boost: boost_in(object),
+            })
+        }
+        _ => Ok(leaf_named(alloc, mapping, known, scope, form, object)?),
     }
 }
 
@@ -335,14 +358,15 @@ fn clause_in(
 pub(crate) fn clause_under(
     alloc: Global,
     mapping: &Mapping,
+    known: &mut KnownNames,
     scope: Option<u32>,
     name: &[u8],
     object: &JsonObject,
 ) -> Result<QueryBox, NoMemory>
     ensures { IfOk result (λ q. q ≡ clause_under mapping.now scope name.now (members_of object.now)) }
 {
-    match object.member(name) {
-        Some(value) => Ok(QueryBox::of(alloc, clause_at(alloc, mapping, scope, value)?)?),
+    match member(object, name) {
+        Some(value) => Ok(QueryBox::of(alloc, clause_at(alloc, mapping, known, scope, value)?)?),
         None => Ok(QueryBox::of(alloc, Query::MatchAll { boost: 1 })?),
     }
 }
@@ -352,14 +376,15 @@ pub(crate) fn clause_under(
 fn clauses_under(
     alloc: Global,
     mapping: &Mapping,
+    known: &mut KnownNames,
     scope: Option<u32>,
     name: &[u8],
     object: &JsonObject,
 ) -> Result<QueryList, NoMemory>
     ensures { IfOk result (λ qs. qs ≡ clauses_under mapping.now scope name.now (members_of object.now)) }
 {
-    match object.member(name) {
-        Some(value) => Ok(QueryList::of(clauses_at(alloc, mapping, scope, value)?)),
+    match member(object, name) {
+        Some(value) => Ok(QueryList::of(clauses_at(alloc, mapping, known, scope, value)?)),
         None => Ok(QueryList::of(Vec::new(alloc))),
     }
 }
@@ -369,16 +394,17 @@ fn clauses_under(
 fn clauses_at(
     alloc: Global,
     mapping: &Mapping,
+    known: &mut KnownNames,
     scope: Option<u32>,
     value: &Json,
 ) -> Result<Vec<Query>, NoMemory>
     ensures { IfOk result (λ qs. map clause_of qs.items ≡ clauses_at mapping.now scope (view value.now)) }
 {
     match value {
-        Json::List(list) => Ok(clauses_in(alloc, mapping, scope, list.as_slice())?),
+        Json::List(list) => Ok(clauses_in(alloc, mapping, known, scope, list.as_slice())?),
         Json::Null | Json::Bool(_) | Json::Whole(_) | Json::Text(_) | Json::Object(_) => {
             let mut found = Vec::with_capacity(alloc, 1)?;
-            found.push(clause_at(alloc, mapping, scope, value)?)?;
+            found.push(clause_at(alloc, mapping, known, scope, value)?)?;
             Ok(found)
         }
     }
@@ -389,6 +415,7 @@ fn clauses_at(
 fn clauses_in(
     alloc: Global,
     mapping: &Mapping,
+    known: &mut KnownNames,
     scope: Option<u32>,
     elements: &[Json],
 ) -> Result<Vec<Query>, NoMemory>
@@ -396,7 +423,7 @@ fn clauses_in(
 {
     let mut found = Vec::with_capacity(alloc, elements.len())?;
     'elements: for element in elements {
-        found.push(clause_at(alloc, mapping, scope, element)?)?;
+        found.push(clause_at(alloc, mapping, known, scope, element)?)?;
     }
     Ok(found)
 }

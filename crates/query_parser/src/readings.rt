@@ -9,7 +9,7 @@ ghost use Rattle.query_parser.specs.Readings.{natural_of, natural_under, up_to, 
 use mapping::{Kind, Mapping};
 use query_ast::{BytesList, NoMemory, ValueList};
 use score_math::ScoreMode;
-use search_walk::{child_under, parent_under, text_of, text_under};
+use search_walk::{KnownNames, child_under, member, parent_under, text_of, text_under};
 use std::alloc::Global;
 use tree_json::{Json, JsonObject};
 use tree_objects::{Bytes, FieldValue, ValueRefusal, value_of};
@@ -18,7 +18,7 @@ use tree_objects::{Bytes, FieldValue, ValueRefusal, value_of};
 pub(crate) fn natural_under(object: &JsonObject, name: &[u8]) -> Option<u64>
     ensures number { result ≡ natural_under (members_of object.now) name.now }
 {
-    match object.member(name) {
+    match member(object, name) {
         Some(Json::Whole(number)) => {
             if *number < 0 {
                 None
@@ -96,7 +96,7 @@ pub(crate) fn mode_in(default: ScoreMode, object: &JsonObject) -> ScoreMode
 pub(crate) fn unless_false(object: &JsonObject, name: &[u8]) -> bool
     ensures { result ≡ unless_false (member_of (members_of object.now) name.now) }
 {
-    match object.member(name) {
+    match member(object, name) {
         Some(Json::Bool(flag)) => *flag,
         _ => true,
     }
@@ -109,6 +109,22 @@ pub(crate) fn field_in(mapping: &Mapping, scope: Option<u32>, path: &[u8]) -> Op
 {
     match scope {
         Some(_) => mapping.field(path),
+        None => None,
+    }
+}
+
+/// The same, of fields some of which were looked up before.
+pub(crate) fn known_field_in(
+    mapping: &Mapping,
+    known: &mut KnownNames,
+    scope: Option<u32>,
+    path: &[u8],
+) -> Option<u32>
+    ensures field { result ≡ field_in mapping.now scope path.now }
+    ensures bound { IfSome result (λ field. field < length mapping.now.fields) }
+{
+    match scope {
+        Some(_) => known.field(mapping, path),
         None => None,
     }
 }
@@ -182,7 +198,7 @@ pub(crate) fn asked_by(
     ensures { IfOk result (λ v. v ≡ value_by_if kind (asked_value name.now (view value.now))) }
 {
     match value {
-        Json::Object(object) => match object.member(name) {
+        Json::Object(object) => match member(object, name) {
             Some(value) => Ok(value_by(alloc, kind, value)?),
             None => Ok(FieldValue::Number(0)),
         },
@@ -247,7 +263,7 @@ pub(crate) fn texts_under(
 ) -> Result<BytesList, NoMemory>
     ensures { IfOk result (λ texts. texts ≡ texts_of (member_of (members_of object.now) name.now)) }
 {
-    match object.member(name) {
+    match member(object, name) {
         Some(Json::List(list)) => Ok(BytesList::of(texts_in(alloc, list.as_slice())?)),
         _ => Ok(BytesList::of(Vec::new(alloc))),
     }

@@ -14,7 +14,7 @@ use crate::sorts::sorts_under;
 use mapping::{Mapping, scopes_form_chains};
 use query_ast::{Key, KeyList, KeyRow, NoMemory, SearchBody};
 use search_form::Shape;
-use search_walk::{SearchRefusal, judged};
+use search_walk::{KnownNames, SearchRefusal, judged};
 use std::alloc::Global;
 use tree_json::{Json, JsonObject};
 
@@ -105,14 +105,15 @@ fn search_by(
     requires { inner_count ≡ count_of mapping.now (object (members_of body.now)) }
     ensures { IfOk result (λ search. search ≡ search_by mapping.now (members_of body.now)) }
 {
+    let mut known = KnownNames::new();
     Ok(SearchBody {
-        query: clause_under(alloc, mapping, Some(0), b"query", body)?,
+        query: clause_under(alloc, mapping, &mut known, Some(0), b"query", body)?,
         sort: sorts_under(alloc, mapping, Some(0), body)?,
         after: after_of(alloc, body)?,
         from: number_under(10_000, 0, body, b"from"),
         size: number_under(10_000, 10, body, b"size"),
         aggs: buckets_inside(alloc, mapping, Some(0), body)?,
-        inner: inner_of_body(alloc, mapping, body, inner_count)?,
+        inner: inner_of_body(alloc, mapping, &mut known, body, inner_count)?,
         pit: pit_of(body),
         source: unless_false(body, b"_source"),
     })

@@ -12,7 +12,8 @@ use mapping::{Kind, Mapping};
 use query_ast::{Chain, ChainList, Missing, NoMemory, QueryBox, Sort, SortKey, SortList, SortMode};
 use search_form::{ChosenName, Form, chosen};
 use search_walk::{
-    given_missing, is_score, scope_inside, sort_name, sort_part, text_of, text_under,
+    KnownNames, given_missing, is_score, member, scope_inside, sort_name, sort_part, text_of,
+    text_under,
 };
 use std::alloc::Global;
 use tree_json::{Json, JsonObject};
@@ -27,7 +28,8 @@ fn filter_of(
 {
     match nested.member(b"filter") {
         Some(filter) => {
-            let query = clause_at(alloc, mapping, Some(scope), filter)?;
+            let mut known = KnownNames::new();
+            let query = clause_at(alloc, mapping, &mut known, Some(scope), filter)?;
             Ok(Some(QueryBox::of(alloc, query)?))
         }
         None => Ok(None),
@@ -302,7 +304,7 @@ pub(crate) fn sorts_under(
 {
     match scope {
         None => Ok(SortList::of(Vec::new(alloc))),
-        Some(_) => match object.member(b"sort") {
+        Some(_) => match member(object, b"sort") {
             Some(sort) => Ok(sort_list(alloc, mapping, scope, sort)?),
             None => Ok(one_sort(alloc, by_score_in(true))?),
         },

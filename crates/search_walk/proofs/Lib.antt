@@ -1,4 +1,7 @@
 pub mod Firsts
 pub mod Twice
 pub mod Partless
+pub mod KnownPaths
+pub mod Walked
+pub mod Rooted
 pub mod Examples

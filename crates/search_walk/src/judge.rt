@@ -2,9 +2,8 @@
 ghost use Rattle.std.specs.Prelude.{◌≡◌, Some, None, IfOk, IsOk, IsErrOf};
 ghost use Rattle.search_walk.specs.Refusal.{first_refusal, inner_count};
 
-use crate::fault::first_fault;
-use crate::limit::{inner_names, limit_refusal};
-use crate::node::nodes_of;
+use crate::limit::limit_refusal;
+use crate::parts::walk_over;
 use crate::refusal::SearchRefusal;
 use mapping::Mapping;
 use search_form::Shape;
@@ -31,13 +30,12 @@ pub fn judged(alloc: Global, shape: &Shape<'_>, mapping: &Mapping) -> Result<usi
 {
     let body = shape.body();
     let members = shape.members();
-    let nodes = nodes_of(alloc, mapping, body, members)?;
-    if let Some(refusal) = first_fault(mapping, nodes.as_slice()) {
+    let walk = walk_over(alloc, mapping, body, members)?;
+    if let Some(refusal) = walk.fault {
         return Err(refusal);
     }
-    let names = inner_names(alloc, nodes.as_slice())?;
-    if let Some(refusal) = limit_refusal(alloc, members, nodes.as_slice(), names.as_slice())? {
+    if let Some(refusal) = limit_refusal(alloc, mapping, members, &walk)? {
         return Err(refusal);
     }
-    Ok(names.len())
+    Ok(walk.names.len())
 }

@@ -7,7 +7,8 @@ ghost use Rattle.search_walk.specs.Kinds.{is_taken};
 ghost use Rattle.search_walk.specs.Fault.{bad_value_unless, asked_value, all_taken, elements_taken, bound_taken, bounds_taken, asked_taken, fits_field, leaf_fault};
 
 use crate::kinds::{is_taken, may_ask};
-use crate::names::kind_named;
+use crate::known::KnownNames;
+use crate::names::member;
 use crate::refusal::SearchRefusal;
 use mapping::{Kind, Mapping};
 use search_form::{ChosenName, Form, chosen};
@@ -28,7 +29,7 @@ fn asked_value_taken(kind: Kind, name: &[u8], value: &Json) -> bool
     ensures { result ≡ is_taken kind (asked_value name.now (view value.now)) }
 {
     match value {
-        Json::Object(object) => match object.member(name) {
+        Json::Object(object) => match member(object, name) {
             Some(value) => is_taken(kind, value),
             None => true,
         },
@@ -61,7 +62,7 @@ fn elements_taken(kind: Kind, value: &Json) -> bool
 fn bound_taken(kind: Kind, bounds: &JsonObject, name: &[u8]) -> bool
     ensures { result ≡ bound_taken kind (member_of (members_of bounds.now) name.now) }
 {
-    match bounds.member(name) {
+    match member(bounds, name) {
         Some(bound) => matches!(bound, Json::Null) || is_taken(kind, bound),
         None => true,
     }
@@ -104,12 +105,17 @@ pub(crate) fn fits_field(kind: Option<Kind>, form: Form, value: &Json) -> bool
 }
 
 /// What a leaf is refused for.
-pub(crate) fn leaf_fault(mapping: &Mapping, form: Form, leaf: &JsonObject) -> Option<SearchRefusal>
+pub(crate) fn leaf_fault(
+    mapping: &Mapping,
+    form: Form,
+    leaf: &JsonObject,
+    known: &mut KnownNames,
+) -> Option<SearchRefusal>
     ensures { result ≡ leaf_fault mapping.now form (chosen form (members_of leaf.now)) }
 {
     match chosen(form, leaf) {
         Some(ChosenName { name, value, .. }) => {
-            bad_value_unless(fits_field(kind_named(mapping, name), form, value))
+            bad_value_unless(fits_field(known.kind(mapping, name), form, value))
         }
         None => None,
     }

@@ -10,18 +10,22 @@ mod bucket_fault;
 mod fault;
 mod judge;
 mod kinds;
+mod known;
 mod leaf_fault;
 mod limit;
 mod names;
 mod node;
+mod parts;
 mod refusal;
 mod sorts;
 
 pub use judge::judged;
+pub use known::KnownNames;
 pub use mapping::NoMemory;
 pub use names::{
-    buckets_in, child_under, flag_under, nested_under, parent_under, path_or_root, scope_inside,
-    text_of, text_under,
+    buckets_in, child_under, flag_under, member, nested_under, parent_under, path_or_root, root_if,
+    scope_inside, text_of, text_under,
 };
+pub use parts::has_parts;
 pub use refusal::SearchRefusal;
 pub use sorts::{given_missing, is_score, sort_name, sort_part};

@@ -1,14 +1,40 @@
 //! What the names in a search body mean under a mapping.
 ghost use Rattle.std.specs.Prelude.{◌≡◌, Option, option_map, codes};
 ghost use Rattle.tree_json.specs.Value.{members_of, member_of};
-ghost use Rattle.tree_json.specs.View.{view};
+ghost use Rattle.tree_json.specs.View.{view, entries};
 ghost use Rattle.search_form.specs.Form.{chosen};
 ghost use Rattle.search_form.specs.declared.form.Form.TheVariants.{Bucket};
 ghost use Rattle.search_walk.specs.Names.{text_of, text_under, flag_under, nested_scope, kind_named, child_if, child_named, parent_if, parent_named, nested_under, child_under, parent_under, buckets_in, root_if, path_or_root, bucket_scope_in, bucket_scope, scope_in, scope_inside};
 
 use mapping::{Kind, Mapping};
 use search_form::{ChosenName, Form, chosen};
-use tree_json::{Json, JsonObject};
+use tree_json::{Json, JsonObject, JsonText};
+
+/// The most members among which a name is sought one by one: that takes less time than halving them.
+const FEW: usize = 8;
+
+/// The value under a name.
+pub fn member<'a>(object: &'a JsonObject, name: &[u8]) -> Option<&'a Json>
+    ensures { option_map (λ j. view j.now) result ≡ member_of (members_of object.now) name.now }
+{
+    let members = object.as_slice();
+    if members.len() <= FEW {
+        member_among(members, name)
+    } else {
+        object.member(name)
+    }
+}
+
+fn member_among<'a>(members: &'a [(JsonText, Json)], name: &[u8]) -> Option<&'a Json>
+    ensures { option_map (λ j. view j.now) result ≡ member_of (members_of (entries members.now)) name.now }
+{
+    'members: for (key, value) in members {
+        if key.as_slice() == name {
+            return Some(value);
+        }
+    }
+    None
+}
 
 /// The text of a value, and the empty one of what is no text.
 pub fn text_of(value: &Json) -> &[u8]
@@ -24,7 +50,7 @@ pub fn text_of(value: &Json) -> &[u8]
 pub fn text_under<'a>(object: &'a JsonObject, name: &[u8]) -> &'a [u8]
     ensures { result.now ≡ text_under (members_of object.now) name.now }
 {
-    match object.member(name) {
+    match member(object, name) {
         Some(value) => text_of(value),
         None => b"",
     }
@@ -34,14 +60,14 @@ pub fn text_under<'a>(object: &'a JsonObject, name: &[u8]) -> &'a [u8]
 pub fn flag_under(object: &JsonObject, name: &[u8]) -> bool
     ensures { result ≡ flag_under (members_of object.now) name.now }
 {
-    match object.member(name) {
+    match member(object, name) {
         Some(Json::Bool(flag)) => *flag,
         _ => false,
     }
 }
 
 /// The number of a nested path. The empty path is the root's, which is no nested one.
-fn nested_scope(mapping: &Mapping, path: &[u8]) -> Option<u32>
+pub(crate) fn nested_scope(mapping: &Mapping, path: &[u8]) -> Option<u32>
     ensures { result ≡ nested_scope mapping.now path.now }
 {
     if path.is_empty() {
@@ -124,7 +150,8 @@ pub fn buckets_in(object: &JsonObject) -> Option<&Json>
     }
 }
 
-fn root_if(relation: Option<u32>) -> Option<u32>
+/// The scope of roots, where a relation leads to some.
+pub fn root_if(relation: Option<u32>) -> Option<u32>
     ensures { result ≡ root_if relation }
 {
     match relation {

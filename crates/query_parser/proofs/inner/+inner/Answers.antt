@@ -1,11 +1,28 @@
-use Rattle.std.proofs.Common.{◌<◌, arith}
+use Rattle.std.proofs.Common.{◌≡◌, ◌∙◌, ◌++◌, ◌<◌, List, [], append-nil, ap, arith, map, sym}
 use Rattle.tree_json.specs.Value.{value_size, members_size, members_of}
 use Rattle.tree_json.specs.View.{view, entries}
+use Rattle.query_ast.specs.Definition.{Definition}
+use Rattle.query_ast.specs.Inner.{Inner}
+use Rattle.query_ast.specs.Inner.View.{inner_of}
 use Rattle.search_form.specs.Sizes.{member_falls}
+use Rattle.search_walk.specs.Names.{scope_inside}
+use Rattle.query_parser.specs.InnerHits.{inner_among, owned_by}
+use Rattle.query_parser.proofs.NoInner.{no_inner_among}
 use Rattle.query_parser.proofs.inner.+inner.Goals as goal
 
-pub inner_among-inner_at-requires : goal.inner_among-inner_at-requires
-inner_among-inner_at-requires t c =
+pub inner_among-inner_part-requires : goal.inner_among-inner_part-requires
+inner_among-inner_part-requires t c =
     let e = member_falls c.args.members.now c.members.name-index c.members-item.result (omega arith) in
     let f : value_size (view c.members-item.result.1) < members_size (members_of (entries c.args.members.now)) = rw (← c.members-item.is) at e in
     omega (arith, f)
+
+-- nothing is judged inside a leaf, which owns nothing
+pub inner_inside-returns-then-not-has_parts : goal.inner_inside-returns-then-not-has_parts
+inner_inside-returns-then-not-has_parts t c =
+    let m = c.args.mapping.now in
+    let ms = members_of c.args.object.now in
+    let inside = scope_inside m c.args.scope c.args.form ms in
+    let all = inner_among m inside c.args.form ms in
+    let none : all ≡ [] = no_inner_among m inside c.args.form ms (λ level. c.has_parts.ensures.none c.if-not-has_parts.true m inside level ms) in
+    let own : owned_by m c.args.scope c.args.form ms all ≡ all = c.may_own.ensures c.if-not-may_own.true m c.args.scope all in
+    sym (ap (λ (x : List (Definition Inner)). map inner_of c.args.found.now.items ++ x) (own ∙ none) ∙ append-nil (map inner_of c.args.found.now.items))

@@ -1,4 +1,4 @@
-use Rattle.std.proofs.Common.{◌≡◌, ◌++◌, ◌*◌, map, drop}
+use Rattle.std.proofs.Common.{◌≡◌, ◌++◌, ◌+◌, ◌*◌, map, drop}
 use Rattle.tree_json.specs.Value.{value_size, elements_size, elements_of, members_size, members_of}
 use Rattle.tree_json.specs.View.{view, values, entries}
 use Rattle.query_ast.specs.Inner.View.{inner_of}
@@ -7,6 +7,12 @@ use Rattle.query_parser.proofs.inner.+inner.Given as goal
 
 abbrev pub decreases-inner_at : goal.decreases-inner_at
 decreases-inner_at l = 2 * value_size (view l.value.now)
+
+abbrev pub decreases-inner_inside : goal.decreases-inner_inside
+decreases-inner_inside l = 2 * members_size (members_of l.object.now) + 1
+
+abbrev pub decreases-inner_part : goal.decreases-inner_part
+decreases-inner_part l = 2 * value_size (view l.value.now) + 1
 
 abbrev pub decreases-inner_in : goal.decreases-inner_in
 decreases-inner_in l = 2 * elements_size (elements_of (values l.elements.now))

@@ -1,9 +1,9 @@
-use Rattle.std.proofs.Common.{◌≡◌, ◌++◌, ◌*◌, map, drop}
+use Rattle.std.proofs.Common.{◌≡◌, ◌*◌, drop}
 use Rattle.tree_json.specs.Value.{value_size, elements_size, elements_of, members_size, members_of}
 use Rattle.tree_json.specs.View.{view, values, entries}
 use Rattle.search_walk.specs.Node.{nodes_in, nodes_among}
-use Rattle.search_walk.specs.View.{node_of}
-use Rattle.search_walk.proofs.node.+nodes.Given as goal
+use Rattle.search_walk.specs.Walk.{walk_of, walked}
+use Rattle.search_walk.proofs.parts.+nodes.Given as goal
 
 abbrev pub decreases-nodes_at : goal.decreases-nodes_at
 decreases-nodes_at l = 2 * value_size (view l.value.now)
@@ -14,13 +14,13 @@ decreases-nodes_in l = 2 * elements_size (elements_of (values l.elements.now))
 abbrev pub decreases-nodes_among : goal.decreases-nodes_among
 decreases-nodes_among l = 2 * members_size (members_of (entries l.members.now))
 
--- what is found and what is left make the whole
+-- a walk that goes on over what is left is the walk over the whole
 abbrev pub invariant-nodes_in-elements : goal.invariant-nodes_in-elements
 invariant-nodes_in-elements l =
-    map node_of l.found.items ++ nodes_in l.mapping l.scope l.level l.form (elements_of (values (drop l.element-index l.elements)))
-    ≡ map node_of l.fn.found.items ++ nodes_in l.mapping l.scope l.level l.form (elements_of (values l.elements))
+    walked l.mapping (walk_of l.walk) (nodes_in l.mapping l.scope l.level l.form (elements_of (values (drop l.element-index l.elements))))
+    ≡ walked l.mapping (walk_of l.fn.walk) (nodes_in l.mapping l.scope l.level l.form (elements_of (values l.elements)))
 
 abbrev pub invariant-nodes_among-members : goal.invariant-nodes_among-members
 invariant-nodes_among-members l =
-    map node_of l.found.items ++ nodes_among l.mapping l.scope l.level l.form (members_of (entries (drop l.name-index l.members)))
-    ≡ map node_of l.fn.found.items ++ nodes_among l.mapping l.scope l.level l.form (members_of (entries l.members))
+    walked l.mapping (walk_of l.walk) (nodes_among l.mapping l.scope l.level l.form (members_of (entries (drop l.name-index l.members))))
+    ≡ walked l.mapping (walk_of l.fn.walk) (nodes_among l.mapping l.scope l.level l.form (members_of (entries l.members)))

@@ -1,9 +1,0 @@
-use Rattle.std.proofs.Common.{◌≡◌, drop, map}
-use Rattle.std.specs.List.{list_any}
-use Rattle.search_walk.specs.View.{node_of}
-use Rattle.search_walk.specs.Refusal.{has_many_terms}
-use Rattle.search_walk.proofs.limit.any_many_terms.Given as goal
-
-abbrev pub invariant-nodes : goal.invariant-nodes
-invariant-nodes l =
-    list_any has_many_terms (map node_of (drop l.node-index l.nodes)) ≡ list_any has_many_terms (map node_of l.nodes)
