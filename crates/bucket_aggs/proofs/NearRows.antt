@@ -30,6 +30,6 @@ module _ {A : Type 0} where
 
 -- the values of each document ascend
 pub values_ascend : {A : Type 0} (cmp : A → A → Ordering) (rows : RowsOf A) (doc : ℕ) → All (λ (row : ℕ × List A). AreValues cmp row.1) rows → IsSorted cmp (values_of doc rows)
-values_ascend cmp [] doc all = λ k low. absurd (omega (arith, low))
+values_ascend cmp [] doc all = λ k d low high. absurd (omega (arith, high))
 values_ascend cmp (x ∷ rows) doc all =
     by_test (x.0 == doc) (λ held. rw held (all 0 x (omega arith)).ascending) (λ failed. rw failed (values_ascend cmp rows doc (λ k d low. all (suc k) d (omega (arith, low)))))

@@ -13,7 +13,7 @@ use Rattle.bucket_aggs.proofs.Rowed.{count_mapped, one_if}
 use Rattle.bucket_aggs.proofs.columns.count_documents.Goals as goal
 
 pub count_values-requires : goal.count_values-requires
-count_values-requires c = rw c.values_near.ensures (values_ascend nat_cmp c.args.column.now c.in-Some.doc c.values-ascending.ensures.rows.valued)
+count_values-requires c = rw c.values_near-values.ensures (values_ascend nat_cmp c.args.column.now c.in-Some.doc c.values-ascending.ensures.rows.valued)
 
 pub documents-preserved : goal.documents-preserved
 documents-preserved c =
@@ -29,8 +29,8 @@ documents-preserved c =
             arith,
             c.documents.invariant.2 k low,
             c.in_ok-count_values.ensures.each k (omega (arith, low, c.documents.invariant.1)),
-            list_alone (c.args.first + k) c.values_near.result.0,
-            ap (λ (vs : List ℕ). cond {A = ℕ} (has_ordinal (c.args.first + k) vs) 1 0) c.values_near.ensures,
+            list_alone (c.args.first + k) c.values_near-values.result.0,
+            ap (λ (vs : List ℕ). cond {A = ℕ} (has_ordinal (c.args.first + k) vs) 1 0) c.values_near-values.ensures,
             sum_on (one_if passes) flags from doc next,
             ap (λ (w : Walking). count_by passes (left_of flags w.from)) c.in-Some.ensures.found,
           ),

@@ -20,7 +20,7 @@ documents-preserved g c =
         c.in-Some-checked_add.ensures.1,
         c.from.ensures,
         c.len.ensures,
-        ap length c.values_near.ensures,
+        ap length c.values_near-values.ensures,
         sum_on of flags from doc next,
         ap (λ (w : Walking). sum_by of (left_of flags w.from)) c.in-Some.ensures.found,
       ),
