@@ -24,4 +24,4 @@ returns-in_ok-alive_entry-in-Some-clause-fits c = λ m fit.
     let range : c.neighbours-range.result.now ≡ take c.range_of-from.result.1 (drop c.range_of-from.result.0 c.args.view.now) = c.neighbours-range.ensures ∙ ap (λ (es : List EntryState). take c.range_of-from.result.1 (drop c.range_of-from.result.0 es)) c.entries.ensures.entries in
     let all = subst (AreFitting m) (sym range) (fit_range m c.range_of-from.result.0 c.range_of-from.result.1 c.args.view.now fit) in
     subst (SegmentFits m) (sym c.in_ok-alive_entry-in-Some.ensures.columns)
-    (subst (λ (o : Option Columns). IfSome o (λ segment. SegmentFits m segment)) c.in-Some.is (c.in-Some.ensures.fits m all))
+    (subst (λ (o : Option Columns). IfSome o (λ segment. SegmentFits m segment)) c.in-Some.is (c.in_ok-segment.ensures.fits m all))

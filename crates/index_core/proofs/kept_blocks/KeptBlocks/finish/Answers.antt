@@ -1,8 +1,9 @@
-use Rattle.std.proofs.Common.{◌≡◌, ◌+◌, ℕ, List, length, map, filter, is_some, Some, None, sym, ap, subst, ◌∙◌, arith}
+use Rattle.std.proofs.Common.{◌≡◌, ◌+◌, ℕ, List, length, map, filter, is_some, Some, None, IsSome, sym, ap, subst, ◌∙◌, arith}
+use Rattle.std.specs.List.{find}
 use Rattle.flattener.specs.Fits.{SegmentFits}
 use Rattle.layout.specs.Layout.{OpenMerge, live_of_range, shifted}
 use Rattle.layout.specs.Merges.{finish_fault, finished, merge_named}
-use Rattle.merge_jobs.specs.Open.{OpenState, is_other_than, with_merge}
+use Rattle.merge_jobs.specs.Open.{OpenState, is_named, is_other_than, with_merge}
 use Rattle.segment.specs.Live.{EntryState}
 use Rattle.segment_builder.specs.Blocks.{objects_of}
 use Rattle.segment_view.specs.Views.{replaced}
@@ -33,7 +34,7 @@ give_way-requires-clause-within c =
 pub close-requires-clause-open : goal.close-requires-clause-open
 close-requires-clause-open c =
     let end = finished_job (the_view c.self.inside) c.args.id c.self.invariant (subst (λ (s : BlocksState). finish_fault c.args.id (layout_of s) ≡ None) (sym c.self.view_is) c.requires.fault) in
-    ap is_some end.1.has.named
+    subst (λ (js : List OpenState). IsSome (find (is_named c.args.id) js)) (sym c.in_ok-from.ensures.same) (ap is_some end.1.has.named)
 
 pub invariant_of-self-2 : goal.invariant_of-self-2
 invariant_of-self-2 c =
@@ -47,7 +48,7 @@ invariant_of-self-2 c =
     let at = range.0 ∙ ap (λ (m : OpenMerge). m.from) end.1.merge_is in
     let long = range.1 ∙ ap (λ (m : OpenMerge). m.count) end.1.merge_is in
     let given : IsGiven it made.from made.count by others = finish_given it c.args.id made.from made.count end.0 by c.self.invariant end.1 at long c.in_ok-from.ensures.id c.give_way.ensures.whole c.in_ok-from.ensures.entry in
-    let jobs_are = c.shift.ensures ∙ ap (λ (k : ℕ). map (with_merge (shifted made.from made.count k)) c.close.new.self) c.in_ok-by.ensures.put ∙ ap (map (with_merge (shifted made.from made.count n))) c.close.ensures in
+    let jobs_are = c.shift.ensures ∙ ap (λ (k : ℕ). map (with_merge (shifted made.from made.count k)) c.close.new.self) c.in_ok-by.ensures.put ∙ ap (map (with_merge (shifted made.from made.count n))) (c.close.ensures ∙ ap (filter (is_other_than c.args.id)) c.in_ok-from.ensures.same) in
     subst (λ (m : ℕ). AreKept m it.started it.factor c.give_way.new.view c.shift.new.self) (sym c.in_ok-by.ensures.made)
     (subst (λ (es : List EntryState). AreKept (it.made + n) it.started it.factor es c.shift.new.self) (sym c.in_ok-by.ensures.view)
     (subst (AreKept (it.made + n) it.started it.factor (replaced made.from made.count by it.entries)) (sym jobs_are) (given_kept it made.from made.count by others c.self.invariant.below c.self.invariant.factor_is given)))
@@ -66,7 +67,7 @@ returns-clause-layout c = λ merge named.
     let long = range.1 ∙ ap (λ (m : OpenMerge). m.count) end.merge_is in
     let given : IsGiven it made.from made.count by others = finish_given it c.args.id made.from made.count merge by c.self.invariant end at long c.in_ok-from.ensures.id c.give_way.ensures.whole c.in_ok-from.ensures.entry in
     let now : BlocksState = record it { entries = c.give_way.new.view; made = c.give_way.new.made; jobs = c.shift.new.self } in
-    let jobs_are = c.shift.ensures ∙ ap (λ (k : ℕ). map (with_merge (shifted made.from made.count k)) c.close.new.self) c.in_ok-by.ensures.put ∙ ap (map (with_merge (shifted made.from made.count n))) c.close.ensures in
+    let jobs_are = c.shift.ensures ∙ ap (λ (k : ℕ). map (with_merge (shifted made.from made.count k)) c.close.new.self) c.in_ok-by.ensures.put ∙ ap (map (with_merge (shifted made.from made.count n))) (c.close.ensures ∙ ap (filter (is_other_than c.args.id)) c.in_ok-from.ensures.same) in
     let is = ap (λ (es : List EntryState). let s : BlocksState = record it { entries = es; made = c.give_way.new.made; jobs = c.shift.new.self } in s) c.in_ok-by.ensures.view
     ∙ ap (λ (m : ℕ). let s : BlocksState = record it { entries = replaced made.from made.count by it.entries; made = m; jobs = c.shift.new.self } in s) c.in_ok-by.ensures.made
     ∙ ap (λ (js : List OpenState). let s : BlocksState = record it { entries = replaced made.from made.count by it.entries; made = it.made + n; jobs = js } in s) jobs_are in
@@ -107,7 +108,7 @@ returns-clause-relaid c =
     let long = range.1 ∙ ap (λ (m : OpenMerge). m.count) end.merge_is in
     let given : IsGiven it made.from made.count by others = finish_given it c.args.id made.from made.count found.0 by c.self.invariant end at long c.in_ok-from.ensures.id c.give_way.ensures.whole c.in_ok-from.ensures.entry in
     let now : BlocksState = record it { entries = c.give_way.new.view; made = c.give_way.new.made; jobs = c.shift.new.self } in
-    let jobs_are = c.shift.ensures ∙ ap (λ (k : ℕ). map (with_merge (shifted made.from made.count k)) c.close.new.self) c.in_ok-by.ensures.put ∙ ap (map (with_merge (shifted made.from made.count n))) c.close.ensures in
+    let jobs_are = c.shift.ensures ∙ ap (λ (k : ℕ). map (with_merge (shifted made.from made.count k)) c.close.new.self) c.in_ok-by.ensures.put ∙ ap (map (with_merge (shifted made.from made.count n))) (c.close.ensures ∙ ap (filter (is_other_than c.args.id)) c.in_ok-from.ensures.same) in
     let is = ap (λ (es : List EntryState). let s : BlocksState = record it { entries = es; made = c.give_way.new.made; jobs = c.shift.new.self } in s) c.in_ok-by.ensures.view
     ∙ ap (λ (m : ℕ). let s : BlocksState = record it { entries = replaced made.from made.count by it.entries; made = m; jobs = c.shift.new.self } in s) c.in_ok-by.ensures.made
     ∙ ap (λ (js : List OpenState). let s : BlocksState = record it { entries = replaced made.from made.count by it.entries; made = it.made + n; jobs = js } in s) jobs_are in
