@@ -1,6 +1,0 @@
-use Rattle.std.proofs.Common.{take}
-use Rattle.id_try.proofs.Named.{AreNamed}
-use Rattle.id_try.proofs.id_marks.Given as goal
-
-abbrev pub invariant-listed : goal.invariant-listed
-invariant-listed l = AreNamed l.segment (take l.id-index l.listed) l.set
