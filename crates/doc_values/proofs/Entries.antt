@@ -85,3 +85,13 @@ ascend_to docs one other ascend order inside =
     let all = ascend_by docs one (other - one) ascend (omega (arith, inside)) in
     let here : get_or docs (one + (other - one)) 0 ≡ get_or docs other 0 = ap (λ k. get_or docs k 0) same in
     omega (arith, all, here)
+
+-- an entry that stands further behind another than its document may be has a document past it
+pub past_window : (docs : List ℕ) (at doc k : ℕ) → IsStrictlyIncreasing docs → doc - get_or docs at 0 < k - at → k < length docs → doc < get_or docs k 0
+past_window docs at doc k ascend far inside =
+    omega (arith, ascend_to docs at k ascend (omega (arith, far)) inside, far)
+
+-- and one further before
+pub before_window : (docs : List ℕ) (at doc k : ℕ) → IsStrictlyIncreasing docs → get_or docs at 0 - doc < at - k → at < length docs → get_or docs k 0 < doc
+before_window docs at doc k ascend far inside =
+    omega (arith, ascend_to docs k at ascend (omega (arith, far)) inside, far)

@@ -1,16 +1,20 @@
-//! The entry of a document, by binary search over the entries in place.
+//! The entry of a document, searched among the entries in place.
 
-ghost use Rattle.std.specs.Prelude.{◌≡◌, ◌+◌, ◌<◌, length, drop, slice_index, Contains, IfSome, IfNone};
+ghost use Rattle.std.specs.Prelude.{◌≡◌, ◌+◌, ◌<◌, ◌≤◌, length, drop, slice_index, Contains, IfSome, IfNone};
 ghost use Rattle.part_text.specs.Front.{first_u32};
 ghost use Rattle.part_text.specs.Places.{row};
 ghost use Rattle.doc_values.specs.Kept.{documents_in, AreEntriesAt};
 
 use part_text::{first_u32, row};
 
+/// How many places are guessed before the rest is halved.
+const GUESSES: u32 = 4;
+
 /// The index of a document's entry.
 ///
-/// Documents ascend by one at least. So no entry stands further from the first one than its document does, nor further from
-/// the last: where all documents have an entry, it is found at once.
+/// Documents ascend by one at least. So no entry stands further from another than its document does from the other's: where
+/// all documents have an entry, it is found at once. Else the first places are guessed from the one before, as if the
+/// documents lay evenly, and a guess leaves no more places than the documents it was off by.
 pub(crate) fn index_of(places: &[u64], bytes: &[u8], doc: u32) -> Option<usize>
     requires { AreEntriesAt places.now bytes.now }
     ensures found { IfSome result (λ at. (at + 1 < length places.now) × (slice_index (documents_in places.now bytes.now) at ≡ doc)) }
@@ -30,19 +34,47 @@ pub(crate) fn index_of(places: &[u64], bytes: &[u8], doc: u32) -> Option<usize>
     }
     let mut low = (count - 1).saturating_sub((last - doc) as usize);
     let mut high = count.min((doc - first) as usize + 1);
-    'halves: while low < high {
-        let middle = low + (high - low) / 2;
-        let found = document(places, bytes, middle);
+    let density = if low + 1 < high {
+        (count as u64 - 1).wrapping_mul(1 << 32) / ((last - first) as u64).max(1)
+    } else {
+        0
+    };
+    let mut guess = entries_in(doc - first, density);
+    let mut guesses = GUESSES;
+    'probes: while low < high {
+        let at = probe(low, high, guess, &mut guesses);
+        let found = document(places, bytes, at);
         if found == doc {
-            return Some(middle);
+            return Some(at);
         }
         if found < doc {
-            low = middle + 1;
+            low = at + 1;
+            high = high.min(low.saturating_add((doc - found) as usize));
+            guess = low.saturating_add(entries_in(doc - found - 1, density));
         } else {
-            high = middle;
+            high = at;
+            low = low.max(high.saturating_sub((found - doc) as usize));
+            guess = high.saturating_sub(entries_in(found - doc, density));
         }
     }
     None
+}
+
+/// About how many entries lie in so many documents, given how many lie in 2^32. Nothing but speed rests on it.
+fn entries_in(documents: u32, density: u64) -> usize {
+    ((documents as u64).wrapping_mul(density) >> 32) as usize
+}
+
+/// The place between two to look at next: the guess, or half-way once no guesses are left.
+fn probe(low: usize, high: usize, guess: usize, guesses: &mut u32) -> usize
+    requires { low < high }
+    ensures { (low ≤ result) × (result < high) }
+{
+    if *guesses == 0 {
+        return low + (high - low) / 2;
+    }
+    *guesses -= 1;
+    guess.max(low).min(high - 1)
 }
 
 /// The document of an entry.

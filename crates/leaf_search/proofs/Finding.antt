@@ -215,16 +215,16 @@ module _ (c : Columns) (live : LiveState) (n : ℕ) (lives : length live.docs �
     found = λ trees e is. made.is ∙ entry_roots m c live trees n test (leaf_holds m l) e (λ t. one m t e.mapping) (at_root is) (elsewhere is);
   }
 
-  id_holds : (test : RootTest) (listed : List (List ℕ)) (t : Tree) → ((r : FlatRoot) → root_passes test r ≡ list_any (bytes_eq r.id) listed) → root_passes test (root_of_tree m t) ≡ leaf_holds m (ids listed) (root t)
+  id_holds : (listed : List (List ℕ)) (t : Tree) → list_any (bytes_eq (root_of_tree m t).id) listed ≡ leaf_holds m (ids listed) (root t)
   unfolding leaf_holds root_of_tree
-  id_holds test listed t says = says (root_of_tree m t)
+  id_holds listed t = refl
 
   id_elsewhere : (listed : List (List ℕ)) (o : Object) → stands_at 0 o ≡ false → leaf_holds m (ids listed) o ≡ false
   unfolding leaf_holds
   id_elsewhere listed o other = ap (λ (b : Bool). b && list_any (bytes_eq (tree_of o).id) listed) (not_root o other)
 
-  pub finds_ids : OneRoot → (test : RootTest) (listed : List (List ℕ)) (set : List Bool) → ((r : FlatRoot) → root_passes test r ≡ list_any (bytes_eq r.id) listed) → MadeOfRoots c live n (root_passes test) set → Finds m c live n (ids listed) set
-  finds_ids one test listed set says made = finds_roots (ids listed) (root_passes test) set one made (λ is t. id_holds test listed t says) (λ is o other. id_elsewhere listed o other)
+  pub finds_ids : OneRoot → (listed : List (List ℕ)) (set : List Bool) → MadeOfRoots c live n (λ (r : FlatRoot). list_any (bytes_eq r.id) listed) set → Finds m c live n (ids listed) set
+  finds_ids one listed set made = finds_roots (ids listed) (λ (r : FlatRoot). list_any (bytes_eq r.id) listed) set one made (λ is t. id_holds listed t) (λ is o other. id_elsewhere listed o other)
 
   child_holds : (test : RootTest) (r : ℕ) (id : List ℕ) (t : Tree) → ((own : FlatRoot) → root_passes test own ≡ is_child_of r id own.join) → root_passes test (root_of_tree m t) ≡ leaf_holds m (parent_id (Some r) id) (root t)
   unfolding leaf_holds root_of_tree

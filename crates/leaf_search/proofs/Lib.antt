@@ -1,5 +1,5 @@
 pub mod Tests
-pub mod Listed
+pub mod Named
 pub mod Listing
 pub mod Gaining
 pub mod Termed

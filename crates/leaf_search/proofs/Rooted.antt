@@ -13,7 +13,7 @@ use Rattle.stored_sources.specs.Roots.{no_root, root_of}
 use Rattle.leaf_search.specs.Sets.{root_marks}
 use Rattle.leaf_search.proofs.Cutting.{is_of, scope_set}
 
-places_low : (start : ℕ) (flags : List Bool) (r doc : ℕ) → slice_get (marked_places start flags) r ≡ Some doc → start ≤ doc
+pub places_low : (start : ℕ) (flags : List Bool) (r doc : ℕ) → slice_get (marked_places start flags) r ≡ Some doc → start ≤ doc
 places_low start [] r doc is = absurd (let no : ⊥ = cc in no)
 places_low start (true ∷ flags) zero doc is = let same : start ≡ doc = same_Some start doc is in omega (arith, same)
 places_low start (true ∷ flags) (suc r) doc is = omega (arith, places_low (start + 1) flags r doc is)

@@ -1,48 +1,41 @@
-//! The ids that are asked for, in order, so that each root costs one search among them.
+//! The documents of the roots that have one of some ids. Each id costs one search among the roots in the order of their ids.
 
-ghost use Rattle.std.specs.Prelude.{◌≡◌, ℕ, List, IfOk};
-ghost use Rattle.std.specs.List.{list_any};
+ghost use Rattle.std.specs.Prelude.{◌≡◌, ◌<◌, length, IfOk};
+ghost use Rattle.std.specs.List.{All, list_any};
 ghost use Rattle.std.specs.Str.{bytes_eq};
+ghost use Rattle.segment.specs.Flat.{flats_of, roots_of};
+ghost use Rattle.leaf_search.specs.Ids.{GainsDocuments};
+ghost use Rattle.leaf_search.specs.Sets.{root_marks};
 
 use crate::NoMemory;
+use block_bits::BitSet;
 use mapping::Bytes;
+use segment::{Segment, scopes_are_of_documents};
 use std::alloc::Global;
-use std::marker::Model;
 
-/// Ids in the order of their bytes.
-#[derive(Drop)]
-pub(crate) struct IdList<'a> {
-    ids: Vec<&'a [u8]>,
-}
-
-impl<'a> Model for IdList<'a> {
-    ghost use Rattle.std.specs.Prelude.{ℕ, List, map};
-    ghost use Rattle.leaf_search.specs.Ids.{AreSorted};
-
-    ghost Value = { List (List ℕ) };
-
-    ghost view = { λ list. map (λ id. id.now) list.ids.items };
-
-    ghost invariant = { λ list. AreSorted list.ids.items };
-}
-
-impl<'a> IdList<'a> {
-    /// The ids that are listed.
-    pub(crate) fn of(alloc: Global, listed: &'a [Bytes]) -> Result<IdList<'a>, NoMemory>
-        ensures { IfOk result (λ ids. (id : List ℕ) → list_any (bytes_eq id) ids ≡ list_any (bytes_eq id) listed.now) }
-    {
-        let mut ids = Vec::with_capacity(alloc, listed.len())?;
-        'listed: for id in listed {
-            ids.push(id.as_slice())?;
-        }
-        ids.sort()?;
-        Ok(IdList { ids })
+/// The documents of the roots whose id is listed.
+pub(crate) fn id_marks(
+    alloc: Global,
+    segment: &Segment,
+    listed: &[Bytes],
+) -> Result<BitSet, NoMemory>
+    ensures { IfOk result (λ set. set ≡ root_marks (λ root. list_any (bytes_eq root.id) listed.now) (roots_of segment.now) (flats_of segment.now)) }
+{
+    scopes_are_of_documents(segment);
+    let mut set = BitSet::empty(alloc, segment.docs())?;
+    'listed: for id in listed {
+        mark_roots(segment, segment.roots_of_id(id.as_slice()), &mut set);
     }
+    Ok(set)
+}
 
-    /// Whether an id is among them.
-    pub(crate) fn has(&self, id: &[u8]) -> bool
-        ensures { result ≡ list_any (bytes_eq id.now) self.now }
-    {
-        self.ids.as_slice().binary_search(&id).is_ok()
+/// Puts the documents of roots into a set.
+fn mark_roots(segment: &Segment, roots: &[u32], set: &mut BitSet)
+    requires roots { All (λ root. root < length segment.now.roots) roots.now }
+    requires long { length set.old ≡ segment.now.documents }
+    ensures { GainsDocuments segment.now.scopes roots.now set.old set.new }
+{
+    'roots: for root in roots {
+        set.set(segment.root_doc(*root));
     }
 }

@@ -7,10 +7,9 @@ ghost use Rattle.segment.specs.Live.{IsLiveOver};
 ghost use Rattle.leaf_search.specs.Found.{Finds};
 
 use crate::NoMemory;
-use crate::ids::IdList;
 use crate::roots::RootTest;
 use crate::scoped::keep_live;
-use crate::sets::root_set;
+use crate::sets::{id_set, root_set};
 use block_bits::BitSet;
 use mapping::Bytes;
 use segment::{LiveBits, Segment, values_are_of_documents};
@@ -60,8 +59,7 @@ pub(crate) fn with_ids(
 {
     objects_nest();
     values_are_of_documents(segment);
-    let ids = IdList::of(alloc, listed)?;
-    Ok(root_set(alloc, segment, live, scope, &RootTest::HasId(ids))?)
+    Ok(id_set(alloc, segment, live, scope, listed)?)
 }
 
 /// `parent_id`: the roots of a child relation whose parent has this id.

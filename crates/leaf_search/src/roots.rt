@@ -1,4 +1,4 @@
-//! The roots that pass a test of their ids or their join values.
+//! The roots that pass a test of their join values.
 
 ghost use Rattle.std.specs.Prelude.{◌≡◌, ◌<◌, length, true, slice_set, if◌then◌else◌, IfOk};
 ghost use Rattle.stored_sources.specs.Roots.{lent_join};
@@ -8,7 +8,6 @@ ghost use Rattle.leaf_search.specs.Roots.{root_passes, is_joined, is_child_of};
 ghost use Rattle.leaf_search.specs.Sets.{root_marks};
 
 use crate::NoMemory;
-use crate::ids::IdList;
 use block_bits::BitSet;
 use segment::{JoinValue, Segment, scopes_are_of_documents};
 use std::alloc::Global;
@@ -16,8 +15,6 @@ use std::alloc::Global;
 /// What is asked of a root.
 #[derive(Drop)]
 pub(crate) enum RootTest<'a> {
-    /// Its id is one of these.
-    HasId(IdList<'a>),
     /// It has a join value.
     IsJoined,
     /// Its relation is this child relation, and its parent has this id.
@@ -58,7 +55,6 @@ fn passes(segment: &Segment, root: u32, test: &RootTest) -> bool
     ensures { result ≡ root_passes test.now (flat_root (root_of segment.now.roots root)) }
 {
     match test {
-        RootTest::HasId(listed) => listed.has(segment.root_id(root)),
         RootTest::IsJoined => is_joined(segment.root_join(root)),
         RootTest::IsChild(relation, id) => is_child_of(*relation, id, segment.root_join(root)),
     }

@@ -1,7 +1,7 @@
 //! The live documents of a scope by what a segment shows.
 
 ghost use Rattle.std.specs.Prelude.{◌≡◌, ◌<◌, length, IfOk};
-ghost use Rattle.std.specs.List.{All};
+ghost use Rattle.std.specs.List.{All, list_any};
 ghost use Rattle.std.specs.Str.{bytes_eq};
 ghost use Rattle.mapping.specs.Mapping.{kind_at};
 ghost use Rattle.segment.specs.Live.{IsLiveOver};
@@ -14,13 +14,14 @@ ghost use Rattle.leaf_search.specs.Words.{folded_words, shows_words};
 
 use crate::NoMemory;
 use crate::exists::{mark_parts, mark_shown};
+use crate::ids::id_marks;
 use crate::roots::{RootTest, root_marks};
 use crate::scoped::keep_live;
 use crate::terms::{mark_between, mark_prefix, mark_value, mark_values};
 use crate::words::word_marks;
 use analysis::Token;
 use block_bits::BitSet;
-use mapping::Mapping;
+use mapping::{Bytes, Mapping};
 use query_ast::RangeEnd;
 use segment::{LiveBits, Segment};
 use std::alloc::Global;
@@ -170,6 +171,22 @@ pub(crate) fn root_set(
     ensures { IfOk result (MadeOfRoots segment.now live.now scope (root_passes test.now)) }
 {
     let mut set = root_marks(alloc, segment, test)?;
+    keep_live(&mut set, segment, live, scope);
+    Ok(set)
+}
+
+/// The roots among them that have one of some ids.
+pub(crate) fn id_set(
+    alloc: Global,
+    segment: &Segment,
+    live: &LiveBits,
+    scope: u32,
+    listed: &[Bytes],
+) -> Result<BitSet, NoMemory>
+    requires { IsLiveOver segment.now live.now }
+    ensures { IfOk result (MadeOfRoots segment.now live.now scope (λ root. list_any (bytes_eq root.id) listed.now)) }
+{
+    let mut set = id_marks(alloc, segment, listed)?;
     keep_live(&mut set, segment, live, scope);
     Ok(set)
 }

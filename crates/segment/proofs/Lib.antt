@@ -1,3 +1,4 @@
+mod ById
 mod Deaths
 mod Examples
 mod FlatScopes

@@ -14,6 +14,7 @@ pub mod Shows
 pub mod Live
 -- These serve proofs alone.
 pub use Rattle.segment_parts.specs.Marks
+pub mod Ids
 pub mod Kinds
 pub mod Renewals
 pub mod Segments

@@ -8,6 +8,7 @@
 mod agree;
 mod agree_columns;
 mod agree_terms;
+mod by_id;
 mod laws;
 mod live_bits;
 mod old;

@@ -1,6 +1,6 @@
 //! The segment and its readers.
 
-ghost use Rattle.std.specs.Prelude.{◌≡◌, ◌↔◌, ℕ, ◌<◌, ◌≤◌, ◌^◌, length, slice_get, Some, IfOk, IsErrOf};
+ghost use Rattle.std.specs.Prelude.{◌≡◌, ◌↔◌, ℕ, ◌<◌, ◌≤◌, ◌^◌, length, slice_get, Contains, Some, IfOk, IsErrOf};
 ghost use Rattle.std.specs.Option.{option_map};
 ghost use Rattle.stored_sources.specs.Roots.{root_of, lent_join};
 ghost use Rattle.segment_parts.specs.Agree.{AreColumns};
@@ -15,6 +15,7 @@ ghost use Rattle.segment_parts.specs.Text.{segment_text};
 ghost use Rattle.segment_parts.specs.declared.columns.Columns.{Columns};
 
 use crate::agree::are_columns;
+use crate::by_id::{roots_by_id, roots_of_id};
 use crate::root_docs::{places_before, root_places};
 use crate::{Columns, SegmentRefusal};
 use block_bits::{BitList, BitSet, words_are_of_one_set};
@@ -26,11 +27,13 @@ use std::marker::Model;
 use stored_sources::{Bytes, JoinValue, StoredSources};
 use term_table::TermTable;
 
-/// The bytes of one segment, where its parts stand in them, and the document of each root. It never changes.
+/// The bytes of one segment, where its parts stand in them, the document of each root, and the roots in the order of their
+/// ids. It never changes.
 #[derive(Drop)]
 pub struct Segment {
     parts: Parts,
     root_docs: Vec<u32>,
+    roots_by_id: Vec<u32>,
 }
 
 impl Model for Segment {
@@ -46,7 +49,8 @@ impl Model for Segment {
 }
 
 impl Segment {
-    /// The segment that these bytes are. It keeps them, and copies nothing but the bits of scopes and text fields.
+    /// The segment that these bytes are. It keeps them, and copies nothing but the bits of scopes and text fields;
+    /// it lists the roots by their documents and by their ids.
     pub fn of_bytes(alloc: Global, bytes: Bytes) -> Result<Segment, SegmentRefusal>
         ensures segment { IfOk result (λ segment. IsEncoding segment bytes) }
         ensures none { IsErrOf result SegmentRefusal.NotASegment → (columns : Columns) → IsEncoding columns bytes → ⊥ }
@@ -96,7 +100,12 @@ impl Segment {
         ensures { IfOk result (λ segment. segment ≡ parts) }
     {
         let root_docs = root_places(alloc, parts.scopes())?;
-        Ok(Segment { parts, root_docs })
+        let roots_by_id = roots_by_id(alloc, &parts.sources())?;
+        Ok(Segment {
+            parts,
+            root_docs,
+            roots_by_id,
+        })
     }
 
     /// The segment's bytes. Takes no memory.
@@ -257,6 +266,15 @@ impl Segment {
         ensures { result.now ≡ (root_of self.now.roots root).id }
     {
         self.parts.sources().id(root)
+    }
+
+    /// The roots that have an id, by their indices: the version of a document that is live, if it is here, and those that were
+    /// replaced.
+    pub fn roots_of_id(&self, id: &[u8]) -> &[u32]
+        ensures { (root : ℕ) → Contains result.now root ↔ (root < length self.now.roots) × ((root_of self.now.roots root).id ≡ id.now) }
+    {
+        let _ = &self.root_docs;
+        roots_of_id(self.roots_by_id.as_slice(), &self.parts.sources(), id)
     }
 
     /// The sequence number of a root.
