@@ -1,5 +1,5 @@
 -- Blocks stand for trees; replies and want of memory; sealing; writes, and the sources of updates; mapping lines; searches; what
--- holds whatever the state; ordinals that are kept; points in time; merges and rows; and what is asked for.
+-- holds whatever the state; points in time; merges and rows; and what is asked for.
 pub mod Standing
 pub mod Answering
 pub mod Sealing
@@ -8,10 +8,10 @@ pub mod Taking
 pub mod Updating
 pub mod Lines
 pub mod Finding
+pub mod Keeping
 pub mod Leaving
 pub mod Ending
 pub mod Pages
-pub mod Keeping
 pub mod Pointing
 pub mod Opening
 pub mod Merging

@@ -1,9 +1,7 @@
--- What sealing leaves of the buffer, and where it leaves all as it is.
-use Rattle.std.proofs.Common.{◌≡◌, ◌+◌, ◌++◌, ℕ, zero, suc, Bool, true, false, if◌then◌else◌, List, [], length, Option, Some, None, refl, sym, ap, ◌∙◌, append-nil, arith}
+-- What sealing leaves of the buffer.
+use Rattle.std.proofs.Common.{◌≡◌, ℕ, zero, suc, Bool, true, false, if◌then◌else◌, List, [], length, Option, Some, None, refl, ap, ◌∙◌}
 use Rattle.index_core.specs.Kept.{IndexState, layout_kept}
-use Rattle.layout.specs.Layout.{Layout, all_evened, all_remade, each_remade, evened, evened_at, is_half_dead, is_spent, last_uneven, remade, sealed, segment_of, settled, with_buffer_last}
-
--- ---- the buffer
+use Rattle.layout.specs.Layout.{Layout, all_evened, all_remade, each_remade, evened, evened_at, is_half_dead, is_spent, last_uneven, remade, sealed, settled, with_buffer_last}
 
 if_buffer : {A : Type 0} (b : Bool) (n : ℕ) (layout : Layout A) → (if b then remade n 1 layout else layout).buffer ≡ layout.buffer
 if_buffer true n layout = refl
@@ -34,15 +32,3 @@ sealed_buffer layout = settled_buffer layout.factor (with_buffer_last layout)
 
 pub buffer_sealed : (index index' : IndexState) → layout_kept index' ≡ sealed (layout_kept index) → index'.buffer ≡ []
 buffer_sealed index index' e = ap (λ layout. layout.buffer) e ∙ sealed_buffer (layout_kept index)
-
--- ---- where nothing is left to be sealed
-
--- where no neighbours are merged and the buffer is empty, sealing leaves all as it is
-pub still : {A : Type 0} (layout : Layout A) → layout.factor ≡ None → layout.buffer ≡ [] → sealed layout ≡ layout
-unfolding sealed
-still {A} layout none empty =
-    let segments : layout.segments ++ segment_of layout.made layout.buffer ≡ layout.segments =
-    ap (λ (buffer : List A). layout.segments ++ segment_of layout.made buffer) empty ∙ append-nil layout.segments in
-    let made : layout.made + length (segment_of layout.made layout.buffer) ≡ layout.made =
-    ap (λ (buffer : List A). layout.made + length (segment_of layout.made buffer)) empty ∙ omega arith in
-    rw none (λ i. record { segments = segments i; buffer = sym empty i; merges = layout.merges; started = layout.started; made = made i; factor = None })

@@ -9,9 +9,10 @@ use Rattle.layout.specs.Layout.{empty_layout, sealed}
 use Rattle.machine.specs.Limit.{AreLimits}
 use Rattle.machine.specs.declared.limits.Limits.{Limits}
 use Rattle.mapping.specs.Mapping.{Mapping}
-use Rattle.point_in_time.specs.Points.{KeptPoint, KeptPoints, no_points}
+use Rattle.point_in_time.specs.Points.{KeptPoint, KeptPoints, entries_under, no_points}
 use Rattle.tree_json.specs.Value.{JsonValue}
 use Rattle.write_plan.specs.Update.{IsTextOf}
+use Rattle.engine.specs.declared.ordinals.KeptOrdinals.{KeptOrdinals}
 
 -- the limits, the mapping, where there is one, the index, the points in time, and how many requests it was handed
 pub record EngineState : Type 0 where
@@ -44,23 +45,24 @@ abbrev pub ArePointsUnder : Option Mapping → KeptPoints → Type 0
 ArePointsUnder None points = points ≡ no_points
 ArePointsUnder (Some m) points = PointsFit m points
 
--- Ordinals that serve one search and those behind it are those of the view, of which nothing is left to be sealed: each other
--- request lets them go.
-pub record AreKeptFor (index : IndexState) (ordinals : Ordinals) : Type 0 where
-  pub own : AreOrdinals index.entries ordinals
-  pub still : sealed (layout_kept index) ≡ layout_kept index
+-- the ordinals of a point in time, beside its id, are those of its view
+abbrev pub IfPoint : KeptPoints → Option (ℕ × Ordinals) → Type 0
+IfPoint points ordinals = IfSome ordinals (λ own. IfSome (entries_under own.0 points.points) (λ entries. AreOrdinals entries own.1))
 
-abbrev pub IfKept : IndexState → Option Ordinals → Type 0
-IfKept index ordinals = IfSome ordinals (AreKeptFor index)
+-- ordinals that serve one search and those behind it are those of the view and of a point in time: what may change these lets
+-- them go
+pub record AreKeptFor (index : IndexState) (points : KeptPoints) (ordinals : KeptOrdinals) : Type 0 where
+  pub live : IfSome ordinals.live (AreOrdinals index.entries)
+  pub point : IfPoint points ordinals.point
 
--- what holds of every engine, and of the ordinals that it keeps, if there are any
-pub record IsEngine (kept : EngineState) (known : Option Ordinals) : Type 0 where
+-- what holds of every engine, and of the ordinals that it keeps
+pub record IsEngine (kept : EngineState) (known : KeptOrdinals) : Type 0 where
   pub limits : AreLimits kept.limits
   pub objects : kept.index.objects ≡ kept.limits.objects
   pub under : IsUnder kept.mapping kept.index
   pub points : ArePointsUnder kept.mapping kept.points
   pub opened : kept.points.opened ≤ kept.calls
-  pub ordinals : IfKept kept.index known
+  pub ordinals : AreKeptFor kept.index kept.points known
 
 -- what is kept is as it was, or the buffer is sealed
 pub record StaysOrSeals (kept kept' : EngineState) : Type 0 where

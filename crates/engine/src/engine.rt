@@ -26,6 +26,7 @@ ghost use Rattle.engine.specs.View.{request_of};
 
 use crate::mapping_line::mapping_line;
 use crate::no_memory::NoMemory;
+use crate::ordinals::KeptOrdinals;
 use crate::points::{close_pit, open_pit};
 use crate::refresh::refresh;
 use crate::reply::{Ended, refuse};
@@ -35,7 +36,6 @@ use crate::write::write_tree;
 use flattener::further_bodies_leave_blocks;
 use index_core::IndexCore;
 use io_edges::Disk;
-use join_ordinals::JoinOrdinals;
 use line_reader::{FirstLine, SourceLine};
 use machine::{Limits, MergeCommand};
 use mapping::Mapping;
@@ -72,8 +72,8 @@ pub struct Engine {
     mapping: Option<Mapping>,
     index: IndexCore,
     points: PointsInTime,
-    /// Those of the view, kept from one search to the next.
-    ordinals: Option<JoinOrdinals>,
+    /// Those that are kept from one search to the next.
+    ordinals: KeptOrdinals,
     calls: u64,
 }
 
@@ -122,7 +122,7 @@ impl Engine {
             mapping: None,
             index: IndexCore::over(alloc, View::empty(alloc), 0, limits.objects)?,
             points: PointsInTime::none(alloc),
-            ordinals: None,
+            ordinals: KeptOrdinals::none(),
             calls: 0,
         })
     }
@@ -244,7 +244,7 @@ impl Engine {
         ensures room { room_of out.old ≤ room_of out.new }
     {
         further_bodies_leave_blocks();
-        self.ordinals = None;
+        self.ordinals.live = None;
         mapping_line(self.alloc, &mut self.mapping, &mut self.index, body, out)
     }
 
@@ -266,7 +266,7 @@ impl Engine {
         ensures room { room_of out.old ≤ room_of out.new }
     {
         further_bodies_leave_blocks();
-        self.ordinals = None; // a write may change the view
+        self.ordinals.live = None; // a write may change the view
         match &mut self.mapping {
             Some(mapping) => write_tree(self.alloc, mapping, &mut self.index, it, out, steps),
             None => without_mapping(it, out),
@@ -316,7 +316,7 @@ impl Engine {
         ensures calls { self.new.calls ≡ self.old.calls }
         ensures room { room_of out.old ≤ room_of out.new }
     {
-        self.ordinals = None;
+        self.ordinals.live = None;
         match &self.mapping {
             Some(mapping) => refresh(mapping, &mut self.index, out),
             None => refuse(Refusal::NoMapping, out),
@@ -333,7 +333,7 @@ impl Engine {
         ensures calls { self.new.calls ≡ self.old.calls }
         ensures room { room_of out.old ≤ room_of out.new }
     {
-        self.ordinals = None;
+        self.ordinals.live = None;
         match &self.mapping {
             Some(mapping) => {
                 show_segments(self.alloc, &self.limits, mapping, &mut self.index, out)
@@ -353,7 +353,7 @@ impl Engine {
         ensures calls { self.new.calls ≡ self.old.calls }
         ensures room { room_of out.old ≤ room_of out.new }
     {
-        self.ordinals = None;
+        self.ordinals = KeptOrdinals::none();
         match &self.mapping {
             Some(mapping) => open_pit(mapping, &mut self.index, &mut self.points, out),
             None => refuse(Refusal::NoMapping, out),
@@ -370,7 +370,7 @@ impl Engine {
         ensures calls { self.new.calls ≡ self.old.calls }
         ensures room { room_of out.old ≤ room_of out.new }
     {
-        self.ordinals = None;
+        self.ordinals = KeptOrdinals::none();
         match &self.mapping {
             Some(mapping) => close_pit(mapping, &mut self.index, &mut self.points, id, out),
             None => refuse(Refusal::NoMapping, out),
@@ -388,7 +388,7 @@ impl Engine {
         ensures calls { self.new.calls ≡ self.old.calls }
         ensures room { room_of out.old ≤ room_of out.new }
     {
-        self.ordinals = None;
+        self.ordinals.live = None;
         match &self.mapping {
             Some(mapping) => merge_segments(mapping, &mut self.index, command, out),
             None => refuse(Refusal::NoMapping, out),
@@ -406,7 +406,7 @@ impl Engine {
         ensures calls { self.new.calls ≡ self.old.calls }
         ensures room { room_of out.old ≤ room_of out.new }
     {
-        self.ordinals = None;
+        self.ordinals.live = None;
         match &self.mapping {
             Some(mapping) => merge_by_factor(mapping, &mut self.index, factor, out),
             None => refuse(Refusal::NoMapping, out),

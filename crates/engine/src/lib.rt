@@ -11,6 +11,7 @@ mod engine;
 mod entries;
 mod mapping_line;
 mod no_memory;
+mod ordinals;
 mod points;
 mod refresh;
 mod reply;

@@ -8,6 +8,7 @@ ghost use Rattle.layout.specs.Layout.{sealed};
 ghost use Rattle.machine.specs.Answer.{outcome_of};
 ghost use Rattle.machine.specs.Searching.{found_by, refusal_of, search_by, search_over, search_step, searched};
 ghost use Rattle.machine.specs.State.{State, sealed_state};
+ghost use Rattle.point_in_time.specs.Points.{KeptPoints, entries_under};
 ghost use Rattle.query_ast.specs.Resolved.{IsSearch};
 ghost use Rattle.query_ast.specs.Search.{hit_page};
 ghost use Rattle.search_form.specs.Form.{is_search_body};
@@ -15,7 +16,7 @@ ghost use Rattle.tree_json.specs.Output.{room_of};
 ghost use Rattle.tree_json.specs.View.{view};
 ghost use Rattle.engine.specs.Answers.{answered_by};
 ghost use Rattle.engine.specs.Faithful.{AreFaithful, EntriesStandFor, PointsStandFor};
-ghost use Rattle.engine.specs.Kept.{IfKept, IsIndexOf, PointsFit};
+ghost use Rattle.engine.specs.Kept.{AreKeptFor, IsIndexOf, PointsFit};
 ghost use Rattle.engine.specs.Parts.{Ends, IsRefusedAs, Leaves, answered_of};
 ghost use Rattle.engine.specs.Reads.{hits_of, page_reads_of};
 ghost use Rattle.search_page.specs.Searched.{page_reads};
@@ -24,6 +25,7 @@ ghost use Rattle.tree_objects.specs.Tree.{Tree};
 use crate::engine::Answered;
 use crate::entries::entries_stand;
 use crate::no_memory::NoMemory;
+use crate::ordinals::{KeptOrdinals, taken, under};
 use crate::reply::{Ended, refuse, write_within};
 use index_core::IndexCore;
 use join_ordinals::JoinOrdinals;
@@ -47,14 +49,14 @@ pub(crate) fn search<L: Ledger>(
     limits: &Limits,
     mapping: &Mapping,
     index: &mut IndexCore,
-    ordinals: &mut Option<JoinOrdinals>,
+    ordinals: &mut KeptOrdinals,
     points: &PointsInTime,
     body: &Json,
     out: &mut OutText,
     steps: &mut Steps<L>,
 ) -> Result<Ended, NoMemory>
     requires index { IsIndexOf mapping.now index.old }
-    requires ordinals { IfKept index.old ordinals.old }
+    requires ordinals { AreKeptFor index.old points.now ordinals.old }
     requires points { PointsFit mapping.now points.now }
     requires form { is_search_body (view body.now) ≡ true }
     requires empty { out.old.bytes ≡ [] }
@@ -63,7 +65,7 @@ pub(crate) fn search<L: Ledger>(
     ensures leaves { Leaves (answered_of result) (Some mapping.now) (Some mapping.now) mapping.now index.old index.new }
     ensures reads { (state : State) → AreFaithful (Some mapping.now) index.old state → PointsStandFor (Some mapping.now) points.now state.points
         → steps.new ≤ steps.old + hits_of (view body.now) (Some mapping.now) state }
-    ensures ordinals { IfKept index.new ordinals.new }
+    ensures ordinals { AreKeptFor index.new points.now ordinals.new }
     ensures room { room_of out.old ≤ room_of out.new }
 {
     match search_form::search(body) {
@@ -107,14 +109,14 @@ fn search_over<L: Ledger>(
     limits: &Limits,
     mapping: &Mapping,
     index: &mut IndexCore,
-    ordinals: &mut Option<JoinOrdinals>,
+    ordinals: &mut KeptOrdinals,
     points: &PointsInTime,
     search: &SearchBody,
     out: &mut OutText,
     steps: &mut Steps<L>,
 ) -> Result<Ended, NoMemory>
     requires index { IsIndexOf mapping.now index.old }
-    requires ordinals { IfKept index.old ordinals.old }
+    requires ordinals { AreKeptFor index.old points.now ordinals.old }
     requires points { PointsFit mapping.now points.now }
     requires resolved { IsSearch mapping.now search.now }
     requires empty { out.old.bytes ≡ [] }
@@ -123,14 +125,16 @@ fn search_over<L: Ledger>(
     ensures leaves { Leaves (answered_of result) (Some mapping.now) (Some mapping.now) mapping.now index.old index.new }
     ensures reads { (state : State) → AreFaithful (Some mapping.now) index.old state → PointsStandFor (Some mapping.now) points.now state.points
         → steps.new ≤ steps.old + page_reads_of mapping.now search.now (searched search.now.pit state) }
-    ensures ordinals { IfKept index.new ordinals.new }
+    ensures ordinals { AreKeptFor index.new points.now ordinals.new }
     ensures room { room_of out.old ≤ room_of out.new }
 {
     match search.pit {
-        None => search_live(alloc, limits, mapping, index, ordinals, search, out, steps),
+        None => search_live(
+            alloc, limits, mapping, index, &mut ordinals.live, search, out, steps,
+        ),
         Some(id) => match points.view(id) {
             Some(view) => search_view(
-                alloc, limits, mapping, index, ordinals, view, search, out, steps,
+                alloc, limits, mapping, index, ordinals, id, view, search, out, steps,
             ),
             None => refuse(Refusal::UnknownPit, out),
         },
@@ -150,14 +154,14 @@ fn search_live<L: Ledger>(
     steps: &mut Steps<L>,
 ) -> Result<Ended, NoMemory>
     requires index { IsIndexOf mapping.now index.old }
-    requires ordinals { IfKept index.old ordinals.old }
+    requires ordinals { IfSome ordinals.old (AreOrdinals index.old.entries) }
     requires resolved { IsSearch mapping.now search.now }
     requires empty { out.old.bytes ≡ [] }
     ensures answers { (state : State) → AreFaithful (Some mapping.now) index.old state
         → Ends state (outcome_of state (search_over limits.now mapping.now search.now (Some state.content.live) (sealed_state state))) (answered_of result) out.new.bytes (Some mapping.now) index.new }
     ensures leaves { Leaves (answered_of result) (Some mapping.now) (Some mapping.now) mapping.now index.old index.new }
     ensures reads { (state : State) → AreFaithful (Some mapping.now) index.old state → steps.new ≤ steps.old + page_reads (hit_page mapping.now state.content.live search.now) }
-    ensures ordinals { IfKept index.new ordinals.new }
+    ensures ordinals { IfSome ordinals.new (AreOrdinals index.new.entries) }
     ensures room { room_of out.old ≤ room_of out.new }
 {
     seal(mapping, index, ordinals)?;
@@ -172,14 +176,15 @@ fn search_view<L: Ledger>(
     limits: &Limits,
     mapping: &Mapping,
     index: &mut IndexCore,
-    ordinals: &Option<JoinOrdinals>,
+    ordinals: &mut KeptOrdinals,
+    id: u64,
     view: &View,
     search: &SearchBody,
     out: &mut OutText,
     steps: &mut Steps<L>,
 ) -> Result<Ended, NoMemory>
     requires index { IsIndexOf mapping.now index.old }
-    requires ordinals { IfKept index.old ordinals.now }
+    requires ordinals { (points : KeptPoints) × (entries_under id points.points ≡ Some view.now) × AreKeptFor index.old points ordinals.old }
     requires view { ViewFits mapping.now view.now }
     requires resolved { IsSearch mapping.now search.now }
     requires empty { out.old.bytes ≡ [] }
@@ -187,37 +192,38 @@ fn search_view<L: Ledger>(
         → Ends state (outcome_of state (search_over limits.now mapping.now search.now (Some live) (sealed_state state))) (answered_of result) out.new.bytes (Some mapping.now) index.new }
     ensures leaves { Leaves (answered_of result) (Some mapping.now) (Some mapping.now) mapping.now index.old index.new }
     ensures reads { (live : List Tree) → EntriesStandFor mapping.now view.now live → steps.new ≤ steps.old + page_reads (hit_page mapping.now live search.now) }
-    ensures ordinals { IfKept index.new ordinals.now }
+    ensures ordinals { (points : KeptPoints) → entries_under id points.points ≡ Some view.now → AreKeptFor index.old points ordinals.old → AreKeptFor index.new points ordinals.new }
     ensures room { room_of out.old ≤ room_of out.new }
 {
-    seal(mapping, index, ordinals)?;
-    let found = found_in(alloc, mapping, view, &mut None, search, steps)?;
+    seal(mapping, index, &mut ordinals.live)?;
+    let mut own = taken(&mut ordinals.point, id);
+    let found = found_in(alloc, mapping, view, &mut own, search, steps)?;
+    ordinals.point = under(id, own);
     write_within(limits, &found, out)
 }
 
-/// Seals the index. Where ordinals are kept it is sealed already.
+/// Seals the index. Ordinals are let go where that changes the view.
 fn seal(
     mapping: &Mapping,
     index: &mut IndexCore,
-    ordinals: &Option<JoinOrdinals>,
+    ordinals: &mut Option<JoinOrdinals>,
 ) -> Result<(), NoMemory>
     requires fits { IndexFits mapping.now index.old }
-    requires ordinals { IfKept index.old ordinals.now }
+    requires ordinals { IfSome ordinals.old (AreOrdinals index.old.entries) }
     ensures sealed { OnOk result (layout_kept index.new ≡ sealed (layout_kept index.old)) }
     ensures same { OnErr result (index.new ≡ index.old) }
     ensures next { index.new.next ≡ index.old.next }
     ensures objects { index.new.objects ≡ index.old.objects }
     ensures fits { IndexFits mapping.now index.new }
-    ensures ordinals { IfKept index.new ordinals.now }
+    ensures ordinals { IfSome ordinals.new (AreOrdinals index.new.entries) }
 {
-    if ordinals.is_none() {
-        index.seal(mapping)?;
+    if index.seal(mapping)? {
+        *ordinals = None;
     }
     Ok(())
 }
 
-/// What a search finds in a sealed index. Its ordinals are kept where no factor is set, by which sealing it once more might
-/// merge segments.
+/// What a search finds in a sealed index.
 fn found_live<L: Ledger>(
     alloc: Global,
     mapping: &Mapping,
@@ -228,19 +234,14 @@ fn found_live<L: Ledger>(
 ) -> Result<Reply, NoMemory>
     requires fits { IndexFits mapping.now index.now }
     requires sealed { index.now.buffer ≡ [] }
-    requires ordinals { IfKept index.now ordinals.old }
+    requires ordinals { IfSome ordinals.old (AreOrdinals index.now.entries) }
     requires resolved { IsSearch mapping.now search.now }
     ensures done { IfOk result (λ reply. answered_by reply ≡ Answered.Written) }
     ensures found { (state : State) → AreFaithful (Some mapping.now) index.now state → IfOk result (λ reply. reply ≡ found_by mapping.now state.content.live search.now) }
     ensures reads { (state : State) → AreFaithful (Some mapping.now) index.now state → steps.new ≤ steps.old + page_reads (hit_page mapping.now state.content.live search.now) }
-    ensures ordinals { IfKept index.now ordinals.new }
+    ensures ordinals { IfSome ordinals.new (AreOrdinals index.now.entries) }
 {
-    let view = index.view();
-    if index.factor() == 0 {
-        found_in(alloc, mapping, view, ordinals, search, steps)
-    } else {
-        found_in(alloc, mapping, view, &mut None, search, steps)
-    }
+    found_in(alloc, mapping, index.view(), ordinals, search, steps)
 }
 
 /// What a search finds in a view.

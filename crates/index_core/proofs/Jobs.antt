@@ -1,5 +1,5 @@
 -- Open merges beside entries: each keeps its neighbours while others give way and roots die.
-use Rattle.std.proofs.Common.{◌≡◌, ◌≢◌, inl, inr, ℕ, zero, suc, ◌<◌, Bool, true, false, List, [], ◌∷◌, length, map, take, drop, set, slice_get, slice_index_or, Contains, Some, refl, sym, ap, subst, ◌∙◌, arith}
+use Rattle.std.proofs.Common.{◌≡◌, ◌≢◌, inl, inr, ℕ, zero, suc, ◌<◌, Bool, true, false, List, [], ◌∷◌, length, map, take, drop, set, get_or, slice_get, slice_index_or, Contains, Some, refl, sym, ap, subst, ◌∙◌, arith}
 use Rattle.std.specs.List.{All, AllByRecursion, AllZip, find, take-map, drop-map}
 use Rattle.std.proofs.lemmas.List.Elements.{All-head, All-tail}
 use Rattle.layout.proofs.Merging.{AreDistinct, AreUnder, HaveIds, all_weaker, range_of, ranges_of, segment_id}
@@ -202,3 +202,49 @@ kept_died made started factor entries now jobs died below is = record {
   over = over_died entries now jobs died is.over;
   factor_is = is.factor_is;
 }
+
+-- ---- entries by their ids
+
+-- an entry with the id of a part is that part
+abbrev pub IsItself : EntryState → EntryState → Type 0
+IsItself part entry = entry.id ≡ part.id → entry ≡ part
+
+pub own_same : (entries : List EntryState) → AreDistinct (map entry_id entries) → AllByRecursion (λ (part : EntryState). AllByRecursion (IsItself part) entries) entries
+own_same [] distinct = tt
+own_same (entry ∷ entries) distinct = ((λ same. refl, others entries distinct.0), each_other entries entries distinct.0 (own_same entries distinct.1))
+  where
+    others : (es : List EntryState) → AllByRecursion (λ n. entry.id ≢ n) (map entry_id es) → AllByRecursion (IsItself entry) es
+    others [] apart = tt
+    others (e ∷ es) apart = (λ same. absurd (apart.0 (sym same)), others es apart.1)
+
+    each_other : (parts es : List EntryState) → AllByRecursion (λ n. entry.id ≢ n) (map entry_id parts) → AllByRecursion (λ (part : EntryState). AllByRecursion (IsItself part) es) parts
+        → AllByRecursion (λ (part : EntryState). AllByRecursion (IsItself part) (entry ∷ es)) parts
+    each_other [] es apart same = tt
+    each_other (p ∷ parts) es apart same = ((λ is. absurd (apart.0 is), same.0), each_other parts es apart.1 same.1)
+
+-- entries that are these or were made later, and have the same ids, are these
+pub same_view : (made : ℕ) (entries now : List EntryState) → HaveOwnIds entries → All (λ (entry : EntryState). entry.id < made) entries → All (IsKeptOrMade entries made) now → map entry_id now ≡ map entry_id entries → now ≡ entries
+same_view made entries now own below kept same =
+    by now entries (each (IsKeptOrMade entries made) now kept) (own_same entries (own_ids entries own)) (each (λ (entry : EntryState). entry.id < made) entries below) same
+  where
+    by : (ns es : List EntryState) → AllByRecursion (IsKeptOrMade entries made) ns → AllByRecursion (λ (part : EntryState). AllByRecursion (IsItself part) entries) es → AllByRecursion (λ (entry : EntryState). entry.id < made) es → map entry_id ns ≡ map entry_id es → ns ≡ es
+    by [] [] kept is under e = refl
+    by [] (x ∷ es) kept is under e = absurd (cc (e))
+    by (n ∷ ns) [] kept is under e = absurd (cc (e))
+    by (n ∷ ns) (x ∷ es) kept is under e =
+        let id = heads n.id x.id (map entry_id ns) (map entry_id es) e in
+        let rest = by ns es kept.1 is.1 under.1 (tails n.id x.id (map entry_id ns) (map entry_id es) e) in
+        rw (one kept.0 is.0 under.0 id, rest) refl
+      where
+        one : IsKeptOrMade entries made n → AllByRecursion (IsItself x) entries → x.id < made → n.id ≡ x.id → n ≡ x
+        one (inl here) is less id = one_of (IsItself x) entries n is here id
+        one (inr new) is less id = absurd (omega (arith, new, less, id))
+
+-- entries at one place have the same id, where the lists have the same ids
+pub ids_at : (ones others : List EntryState) (i : ℕ) (x y : EntryState) → map entry_id ones ≡ map entry_id others → i < length ones → x ≡ get_or ones i x → y ≡ get_or others i y → x.id ≡ y.id
+ids_at [] others i x y same within at there = absurd (omega (arith, within))
+ids_at (one ∷ ones) [] i x y same within at there = absurd (cc (same))
+ids_at (one ∷ ones) (other ∷ others) zero x y same within at there =
+    ap entry_id at ∙ heads one.id other.id (map entry_id ones) (map entry_id others) same ∙ ap entry_id (sym there)
+ids_at (one ∷ ones) (other ∷ others) (suc i) x y same within at there =
+    ids_at ones others i x y (tails one.id other.id (map entry_id ones) (map entry_id others) same) (omega (arith, within)) at there

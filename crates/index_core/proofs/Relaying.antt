@@ -22,7 +22,7 @@ use Rattle.index_core.specs.Found.{AreBelow, AreKept, AreOpenOf, BlocksState, Co
 use Rattle.index_core.specs.Kept.{AreBlocks, block_number, most_factor, most_made}
 use Rattle.index_core.specs.declared.ready.Ready.{Ready}
 use Rattle.index_core.proofs.Changing.{merges_blocks, remade_blocks, sealed_blocks}
-use Rattle.index_core.proofs.Jobs.{all_drop, all_take, are_later, each, have_ids, over_moved, own_ids}
+use Rattle.index_core.proofs.Jobs.{IsItself, all_drop, all_take, are_later, each, have_ids, over_moved, own_ids, own_same}
 use Rattle.index_core.proofs.Opened.{advanced_place, closed_open, none_clear, others_clear, same_open, start_open, started_so}
 
 -- ---- lists of merges
@@ -168,17 +168,10 @@ same_relaid it now entries buffer made = record {
 }
 
 own_later : (entries : List EntryState) → AreDistinct (map entry_id entries) → AllByRecursion (ComesLater entries) entries
-own_later [] distinct = tt
-own_later (entry ∷ entries) distinct =
-    ((λ same. record { id = refl; columns = refl; live = λ root is. is }, others entries distinct.0), each_other entries entries distinct.0 (own_later entries distinct.1))
-  where
-    others : (es : List EntryState) → AllByRecursion (λ n. entry.id ≢ n) (map entry_id es) → AllByRecursion (λ (e : EntryState). e.id ≡ entry.id → IsLater entry e) es
-    others [] apart = tt
-    others (e ∷ es) apart = (λ same. absurd (apart.0 (sym same)), others es apart.1)
-
-    each_other : (parts es : List EntryState) → AllByRecursion (λ n. entry.id ≢ n) (map entry_id parts) → AllByRecursion (ComesLater es) parts → AllByRecursion (ComesLater (entry ∷ es)) parts
-    each_other [] es apart later = tt
-    each_other (p ∷ parts) es apart later = ((λ same. absurd (apart.0 same), later.0), each_other parts es apart.1 later.1)
+own_later entries distinct =
+    all_weaker (λ (part : EntryState). AllByRecursion (IsItself part) entries) (ComesLater entries)
+    (λ part own. all_weaker (IsItself part) (IsLaterOf part) (λ entry itself same. subst (IsLater part) (sym (itself same)) (record { id = refl; columns = refl; live = λ root is. is })) entries own)
+    entries (own_same entries distinct)
 
 pub started_kept : (it : BlocksState) (from count left : ℕ) (job : OpenState) → HaveOwnIds it.entries → AreKept it.made it.started it.factor it.entries it.jobs → start_fault from count (layout_of it) ≡ None
     → job ≡ record { merge = record { id = it.started + 1; from = from; count = count; left = left }; parts = take count (drop from it.entries) } → AreKept it.made (it.started + 1) it.factor it.entries (it.jobs ++ job ∷ [])

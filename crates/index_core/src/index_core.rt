@@ -1,6 +1,6 @@
 //! What an index keeps, and its writes.
 
-ghost use Rattle.std.specs.Prelude.{◌≡◌, ◌⊎◌, ◌+◌, ◌-◌, ◌<◌, ◌≤◌, ◌++◌, [], None, Some, is_some, length, map, true, false, IfOk, IsOk, IsErrOf, OnOk, OnErr};
+ghost use Rattle.std.specs.Prelude.{◌≡◌, ◌↔◌, ◌⊎◌, ◌+◌, ◌-◌, ◌<◌, ◌≤◌, ◌++◌, [], None, Some, is_some, length, map, true, false, IfOk, IsFalse, IsOk, IsErrOf, OnOk, OnErr};
 ghost use Rattle.std.specs.Option.{option_map};
 ghost use Rattle.flattener.specs.Fits.{ViewFits, most_live};
 ghost use Rattle.layout.specs.Layout.{OpenMerge, live_of_range, sealed, with_room};
@@ -143,10 +143,12 @@ impl IndexCore {
         Ok(LayoutRows { segments, merges })
     }
 
-    /// Makes a segment of the buffer, and merges neighbours by the factor, if there is one. After NoMemory nothing has changed.
-    pub fn seal(&mut self, mapping: &Mapping) -> Result<(), NoMemory>
+    /// Makes a segment of the buffer, and merges neighbours by the factor, if there is one. Whether that changed the view. After
+    /// NoMemory nothing has changed.
+    pub fn seal(&mut self, mapping: &Mapping) -> Result<bool, NoMemory>
         requires { IndexFits mapping.now self.old }
         ensures sealed { OnOk result (layout_kept self.new ≡ sealed (layout_kept self.old)) }
+        ensures told { IfOk result (λ changed. IsFalse changed ↔ (self.new.entries ≡ self.old.entries)) }
         ensures same { OnErr result (self.new ≡ self.old) }
         ensures next { self.new.next ≡ self.old.next }
         ensures objects { self.new.objects ≡ self.old.objects }
@@ -154,8 +156,9 @@ impl IndexCore {
     {
         let _scopes = mapping.scope_count();
         let ready = self.blocks.ready(mapping)?;
+        let changed = self.blocks.is_changed_by(&ready);
         self.blocks.take_sealed(ready);
-        Ok(())
+        Ok(changed)
     }
 
     /// The factor by which neighbours are merged when the buffer is sealed; 0 is none.

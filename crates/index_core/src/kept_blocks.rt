@@ -1,6 +1,6 @@
 //! The blocks of an index: those of the entries of its view, and those in the buffer behind them.
 
-ghost use Rattle.std.specs.Prelude.{◌≡◌, ℕ, ◌+◌, ◌-◌, ◌<◌, ◌≤◌, ◌++◌, [], ◌∷◌, List, None, Some, length, map, take, drop, vec_len, vec_capacity, OnOk, OnErr, IfOk};
+ghost use Rattle.std.specs.Prelude.{◌≡◌, ◌↔◌, ℕ, ◌+◌, ◌-◌, ◌<◌, ◌≤◌, ◌++◌, [], ◌∷◌, List, None, Some, length, map, take, drop, vec_len, vec_capacity, OnOk, OnErr, IfOk, IsFalse};
 ghost use Rattle.std.specs.List.{All};
 ghost use Rattle.flattener.specs.Block.{BlockState};
 ghost use Rattle.flattener.specs.Fits.{BlockFits, SegmentFits, most_live};
@@ -18,7 +18,7 @@ ghost use Rattle.index_core.specs.Kept.{AreBlocks, HaveOwnIds, has_block_id, mos
 use crate::finish::{Finished, advancing, finishing, give_way};
 use crate::place::{Place, entry_is_whole, place_of};
 use crate::ready::{
-    Ready, made_after, made_is_below, mapping_is_numbered, next_merge, settled_ready,
+    Ready, have_same_ids, made_after, made_is_below, mapping_is_numbered, next_merge, settled_ready,
 };
 use crate::{MergeDone, NoMemory};
 use flattener::{Block, blocks_are_of_their_mapping};
@@ -224,6 +224,14 @@ impl KeptBlocks {
         let entry = entry_of(self.alloc, mapping, self.made, self.buffer.as_slice())?;
         view.push(entry)?;
         Ok(Ready { view, made, merges })
+    }
+
+    /// Whether what sealing made is another view.
+    pub(crate) fn is_changed_by(&self, ready: &Ready) -> bool
+        requires { All (IsKeptOrMade self.now.entries self.now.made) ready.now.view }
+        ensures { IsFalse result ↔ (ready.now.view ≡ self.now.entries) }
+    {
+        !have_same_ids(ready.view.entries(), self.view.entries())
     }
 
     /// Takes what sealing made.

@@ -1,6 +1,6 @@
 //! What sealing makes, before anything is replaced.
 
-ghost use Rattle.std.specs.Prelude.{◌≡◌, ℕ, ◌+◌, ◌<◌, ◌≤◌, length, Some, IfOk};
+ghost use Rattle.std.specs.Prelude.{◌≡◌, ◌↔◌, ℕ, ◌+◌, ◌<◌, ◌≤◌, length, map, Some, IfOk, IsTrue};
 ghost use Rattle.std.specs.List.{All};
 ghost use Rattle.flattener.specs.Fits.{SegmentFits, most_live};
 ghost use Rattle.layout.specs.Layout.{settled};
@@ -12,7 +12,7 @@ ghost use Rattle.segment_builder.specs.Blocks.{objects_of};
 ghost use Rattle.segment_builder.specs.Given.{IsNumbered};
 ghost use Rattle.segment_view.specs.Views.{HaveOwnIds};
 ghost use Rattle.view_merge.specs.Given.{AreFitting, IsKeptOrMade};
-ghost use Rattle.index_core.specs.Found.{AreBelow, AreFit, AreWhole, layout_ready};
+ghost use Rattle.index_core.specs.Found.{AreBelow, AreFit, AreWhole, entry_id, layout_ready};
 ghost use Rattle.index_core.specs.Kept.{most_factor, most_made};
 
 use crate::NoMemory;
@@ -59,6 +59,21 @@ pub(crate) fn settled_ready(
     let mut merges = ready.merges;
     move_behind(&mut merges, gone.runs.as_slice());
     Ok(Ready { view, made, merges })
+}
+
+/// Whether entries have the ids of others, in the same order.
+pub(crate) fn have_same_ids(entries: &[Entry], others: &[Entry]) -> bool
+    ensures { IsTrue result ↔ (map entry_id entries.now ≡ map entry_id others.now) }
+{
+    if entries.len() != others.len() {
+        return false;
+    }
+    'entries: for index in 0..entries.len() {
+        if entries[index].id() != others[index].id() {
+            return false;
+        }
+    }
+    true
 }
 
 /// How many segments were made after so many more.

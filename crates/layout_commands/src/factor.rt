@@ -29,7 +29,7 @@ pub fn automerge(mapping: &Mapping, index: &mut IndexCore, factor: u64) -> Resul
     let before = index.factor();
     index.set_factor(factor);
     match index.seal(mapping) {
-        Ok(()) => Ok(Reply::AutoMerge { factor }),
+        Ok(_) => Ok(Reply::AutoMerge { factor }),
         Err(none) => {
             index.set_factor(before);
             Err(none)
