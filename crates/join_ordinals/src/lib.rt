@@ -2,8 +2,9 @@
 //!
 //! Stands on `segment_view`. Terms of different segments have different ordinals (Lucene's `OrdinalMap`, package
 //! `org.apache.lucene.index`), so the ids of a view's live roots and of their parents are numbered anew for a search that
-//! joins. The contract that others use: `JoinOrdinals::over` gives two roots, or a root and a parent, the same ordinal
-//! exactly where they have the same id. Begin with `specs/Ordinals`, then `ordinals`.
+//! joins, and each root's relation is kept beside. The contract that others use: `JoinOrdinals::over` gives two roots, or a
+//! root and a parent, the same ordinal exactly where they have the same id, and a root the relation of its join value. Begin
+//! with `specs/Ordinals`, then `ordinals`.
 #![tactic(auto)]
 
 mod ids;
