@@ -1,18 +1,16 @@
 -- The documents of the roots that have one of some ids.
-use Rattle.std.proofs.Common.{◌≡◌, ℕ, zero, suc, ◌+◌, ◌<◌, ◌≤◌, ◌↔◌, ◌==◌, Bool, true, false, ◌||◌, List, [], ◌∷◌, length, map, get_or, set, take, replicate, Some, slice_get, Contains, All, refl, sym, ap, subst, ◌∙◌, inl, inr, arith, nat_eq}
-use Rattle.std.specs.List.{list_any, count_by}
+use Rattle.std.proofs.Common.{◌≡◌, ℕ, zero, suc, ◌+◌, ◌<◌, ◌≤◌, ◌↔◌, Bool, true, false, ◌||◌, List, [], ◌∷◌, length, map, get_or, set, take, replicate, Some, slice_get, Contains, All, refl, sym, ap, subst, ◌∙◌, inl, inr, arith, nat_eq}
+use Rattle.std.specs.List.{list_any}
 use Rattle.std.specs.Str.{bytes_eq}
-use Rattle.std.proofs.lemmas.Bool.{cases_Bool, cases_lt, false_from_ne_true, false≢true, eq-eqb, eqb-true, ne_eqb}
+use Rattle.std.proofs.lemmas.Bool.{cases_Bool, cases_lt, false_from_ne_true, false≢true, eq-eqb, eqb-true}
 use Rattle.std.proofs.lemmas.List.{get_or_default, get_or-map, get_or-replicate, get_or-set_other, get_or-set_same, get_or_past, length-map, length-replicate, length-set, take_all}
 use Rattle.std.proofs.lemmas.List.Folds.{list_any_at, list_any_more}
 use Rattle.std.proofs.lemmas.List.FromFn.{length-map-range_with_len}
 use Rattle.std.proofs.lemmas.Option.{same_Some, get_or_from_slice_get, slice_get-get_or, slice_get_within}
 use Rattle.std.proofs.lemmas.Slice.Eq.{bytes_eq-Decides}
-use Rattle.block_bits.specs.Flags.{is_marked}
 use Rattle.segment.specs.Agree.{AreColumns}
 use Rattle.segment.specs.Flat.{FlatDocument, FlatRoot, flat_of, flat_root, flats_of, roots_of}
 use Rattle.segment.specs.Marks.{length-marked_places}
-use Rattle.segment.specs.Parts.{root_flags}
 use Rattle.segment.specs.Roots.{root_documents}
 use Rattle.segment.specs.Text.{marked_places}
 use Rattle.segment_parts.specs.declared.columns.Columns.{Columns}
@@ -28,12 +26,12 @@ use Rattle.leaf_search.proofs.Tests.{same_test, or_false, or_assoc}
 any_there : (p : ℕ → Bool) (xs : List ℕ) → list_any p xs ≡ true → (x : ℕ) × Contains xs x × (p x ≡ true)
 any_there p [] e = absurd (cc (e))
 any_there p (x ∷ xs) e = elim (cases_Bool (p x)) [
-  | inl yes ↦ (x, (0, omega arith, refl), yes)
-  | inr no ↦ let rest = any_there p xs (rw no at e) in (rest.0, (suc rest.1.0, omega (arith, rest.1.1), rest.1.2), rest.2)
+  | inl holds ↦ (x, (0, omega arith, refl), holds)
+  | inr fails ↦ let rest = any_there p xs (rw fails at e) in (rest.0, (suc rest.1.0, omega (arith, rest.1.1), rest.1.2), rest.2)
 ]
 
 any_here : (p : ℕ → Bool) (xs : List ℕ) (x : ℕ) → Contains xs x → p x ≡ true → list_any p xs ≡ true
-any_here p xs x there yes = list_any_at p xs there.0 x there.1 (ap p there.2 ∙ yes)
+any_here p xs x there holds = list_any_at p xs there.0 x there.1 (ap p there.2 ∙ holds)
 
 -- ---- the documents of roots, one after the other
 
@@ -53,20 +51,19 @@ set_marks marks at doc inside = elim (cases_Bool (nat_eq at doc)) [
     or_true true = refl
     or_true false = refl
 
-pub gains_more : (scopes : List (List Bool)) (roots : List ℕ) (n root doc : ℕ) (old now new : List Bool) → GainsDocuments scopes (take n roots) old now → n < length roots → root ≡ get_or roots n root
-    → slice_get (root_documents scopes) root ≡ Some doc → doc < length now → new ≡ set now doc true → GainsDocuments scopes (take (n + 1) roots) old new
-gains_more scopes roots n root doc old now new was inside read place below made = record {
+pub gains_more : (scopes : List (List Bool)) (roots : List ℕ) (n doc : ℕ) (old now new : List Bool) → GainsDocuments scopes (take n roots) old now → n < length roots
+    → slice_get (root_documents scopes) (get_or roots n 0) ≡ Some doc → doc < length now → new ≡ set now doc true → GainsDocuments scopes (take (n + 1) roots) old new
+gains_more scopes roots n doc old now new was inside place below made = record {
   long = ap length made ∙ length-set now doc true ∙ was.long;
   marked = λ other within.
       let p : ℕ → Bool = is_of_root scopes other in
-      let own : nat_eq doc other ≡ p (get_or roots n root) =
-      ap (λ (k : ℕ). nat_eq k other) (sym (get_or_from_slice_get (root_documents scopes) root doc 0 place)) ∙ ap p read in
+      let own : nat_eq doc other ≡ p (get_or roots n 0) = ap (λ (k : ℕ). nat_eq k other) (sym (get_or_from_slice_get (root_documents scopes) (get_or roots n 0) doc 0 place)) in
       ap (λ (marks : List Bool). get_or marks other false) made
       ∙ set_marks now doc other below
       ∙ ap (λ (b : Bool). b || nat_eq doc other) (was.marked other within)
       ∙ ap (λ (b : Bool). (get_or old other false || list_any p (take n roots)) || b) own
-      ∙ or_assoc (get_or old other false) (list_any p (take n roots)) (p (get_or roots n root))
-      ∙ ap (λ (b : Bool). get_or old other false || b) (sym (list_any_more p roots n root inside));
+      ∙ or_assoc (get_or old other false) (list_any p (take n roots)) (p (get_or roots n 0))
+      ∙ ap (λ (b : Bool). get_or old other false || b) (sym (list_any_more p roots n 0 inside));
 }
 
 pub gains_all : (scopes : List (List Bool)) (roots : List ℕ) (n : ℕ) (old now : List Bool) → length roots ≤ n → GainsDocuments scopes (take n roots) old now → GainsDocuments scopes roots old now
@@ -97,16 +94,16 @@ is_spread test d start (mark ∷ marks) [] roots long many rooted others = absur
 is_spread test d start (mark ∷ marks) (true ∷ flags) [] long many rooted others = absurd (omega (arith, many))
 is_spread test d start (mark ∷ marks) (true ∷ flags) (root ∷ roots) long many rooted others =
     ap (λ (m : Bool). m ∷ marks) (rooted 0 0 (ap Some (omega arith)))
-    ∙ ap (λ (l : List Bool). test root ∷ l) (is_spread test d (start + 1) marks flags roots (omega (arith, long)) (omega (arith, many)) (λ r k is. rooted (suc r) (suc k) (is ∙ ap Some (omega arith))) (λ k no. others (suc k) no))
+    ∙ ap (λ (l : List Bool). test root ∷ l) (is_spread test d (start + 1) marks flags roots (omega (arith, long)) (omega (arith, many)) (λ r k is. rooted (suc r) (suc k) (is ∙ ap Some (omega arith))) (λ k fails. others (suc k) fails))
 is_spread test d start (mark ∷ marks) (false ∷ flags) [] long many rooted others =
     ap (λ (m : Bool). m ∷ marks) (others 0 refl)
-    ∙ ap (λ (l : List Bool). false ∷ l) (is_spread test d (start + 1) marks flags [] (omega (arith, long)) many (λ r k is. rooted r (suc k) (is ∙ ap Some (omega arith))) (λ k no. others (suc k) no))
+    ∙ ap (λ (l : List Bool). false ∷ l) (is_spread test d (start + 1) marks flags [] (omega (arith, long)) many (λ r k is. rooted r (suc k) (is ∙ ap Some (omega arith))) (λ k fails. others (suc k) fails))
 is_spread test d start (mark ∷ marks) (false ∷ flags) (root ∷ roots) long many rooted others =
     ap (λ (m : Bool). m ∷ marks) (others 0 refl)
-    ∙ ap (λ (l : List Bool). false ∷ l) (is_spread test d (start + 1) marks flags (root ∷ roots) (omega (arith, long)) many (λ r k is. rooted r (suc k) (is ∙ ap Some (omega arith))) (λ k no. others (suc k) no))
+    ∙ ap (λ (l : List Bool). false ∷ l) (is_spread test d (start + 1) marks flags (root ∷ roots) (omega (arith, long)) many (λ r k is. rooted r (suc k) (is ∙ ap Some (omega arith))) (λ k fails. others (suc k) fails))
 
 placed : (start : ℕ) (flags : List Bool) (r k : ℕ) → slice_get (marked_places start flags) r ≡ Some (start + k) → get_or flags k false ≡ true
-placed start [] r k is = absurd (let no : ⊥ = cc in no)
+placed start [] r k is = absurd (let fails : ⊥ = cc in fails)
 placed start (true ∷ flags) r zero is = refl
 placed start (true ∷ flags) zero (suc k) is = let same : start ≡ start + suc k = same_Some start (start + suc k) is in absurd (omega (arith, same))
 placed start (true ∷ flags) (suc r) (suc k) is = placed (start + 1) flags r k (is ∙ ap Some (omega arith))
@@ -114,7 +111,7 @@ placed start (false ∷ flags) r zero is = let low : start + 1 ≤ start + 0 = p
 placed start (false ∷ flags) r (suc k) is = placed (start + 1) flags r k (is ∙ ap Some (omega arith))
 
 one_place : (start : ℕ) (flags : List Bool) (q r doc : ℕ) → slice_get (marked_places start flags) q ≡ Some doc → slice_get (marked_places start flags) r ≡ Some doc → q ≡ r
-one_place start [] q r doc one other = absurd (let no : ⊥ = cc in no)
+one_place start [] q r doc one other = absurd (let fails : ⊥ = cc in fails)
 one_place start (true ∷ flags) zero zero doc one other = refl
 one_place start (true ∷ flags) zero (suc r) doc one other =
     let same : start ≡ doc = same_Some start doc one in
@@ -169,7 +166,7 @@ module _ (c : Columns) where
   named_none documents marks same none = record {
     long = ap length none ∙ length-replicate documents false ∙ same;
     rooted = λ root doc is. ap (λ (l : List Bool). get_or l doc false) none ∙ never documents doc;
-    others = λ doc no. ap (λ (l : List Bool). get_or l doc false) none ∙ never documents doc;
+    others = λ doc fails. ap (λ (l : List Bool). get_or l doc false) none ∙ never documents doc;
   }
 
   pub all_there : (found : List ℕ) (id : List ℕ) → HaveId found id → All (λ (root : ℕ). root < length c.roots) found
@@ -177,9 +174,9 @@ module _ (c : Columns) where
 
   -- the document of a root that was found
   found_place : AreRootPlaces → (root doc : ℕ) → root < length c.roots → is_of_root c.scopes doc root ≡ true → slice_get places root ≡ Some doc
-  found_place are root doc inside yes =
+  found_place are root doc inside holds =
       slice_get-get_or places root 0 (omega (arith, inside, are.many))
-      ∙ ap Some (ap (λ (l : List ℕ). get_or l root 0) (sym are.are) ∙ eqb-true (get_or (root_documents c.scopes) root 0) doc yes)
+      ∙ ap Some (ap (λ (l : List ℕ). get_or l root 0) (sym are.are) ∙ eqb-true (get_or (root_documents c.scopes) root 0) doc holds)
 
   pub named_more : AreRootPlaces → (ids : List (List ℕ)) (n : ℕ) (id : List ℕ) (found : List ℕ) (old new : List Bool) → AreNamed (take n ids) old → n < length ids → id ≡ get_or ids n id → HaveId found id
       → GainsDocuments c.scopes found old new → AreNamed (take (n + 1) ids) new
@@ -190,30 +187,30 @@ module _ (c : Columns) where
         let there : root < length c.roots = omega (arith, slice_get_within places root doc is, are.many) in
         let marked : get_or flags doc false ≡ true = placed 0 flags root doc (is ∙ ap Some (omega arith)) in
         let below : doc < length old = elim (cases_lt doc (length old)) [
-          | inl yes ↦ yes
+          | inl holds ↦ holds
           | inr past ↦ absurd (false≢true (sym (get_or_past flags doc false (omega (arith, past, was.long, length-map (flats_of c) (is_of 0), length-map-range_with_len (flat_of c) 0 c.documents))) ∙ marked))
         ] in
         let one : list_any (is_of_root c.scopes doc) found ≡ bytes_eq own id = same_test (list_any (is_of_root c.scopes doc) found) (bytes_eq own id)
-        (λ yes.
-        let some = any_there (is_of_root c.scopes doc) found yes in
+        (λ holds.
+        let some = any_there (is_of_root c.scopes doc) found holds in
         let has = (have some.0).0 some.1 in
         let same : root ≡ some.0 = one_place 0 flags root some.0 doc is (found_place are some.0 doc has.0 some.2) in
         (bytes_eq-Decides own id).1 (ap (λ (k : ℕ). (root_of c.roots k).id) same ∙ has.1))
-        (λ yes.
-        any_here (is_of_root c.scopes doc) found root ((have root).1 (there, (bytes_eq-Decides own id).0 yes))
+        (λ holds.
+        any_here (is_of_root c.scopes doc) found root ((have root).1 (there, (bytes_eq-Decides own id).0 holds))
         (eq-eqb (get_or (root_documents c.scopes) root 0) doc (ap (λ (l : List ℕ). get_or l root 0) are.are ∙ get_or_from_slice_get places root doc 0 is))) in
         gains.marked doc below
         ∙ ap (λ (b : Bool). b || list_any (is_of_root c.scopes doc) found) (was.rooted root doc is)
         ∙ ap (λ (b : Bool). list_any (bytes_eq own) (take n ids) || b) (one ∙ ap (bytes_eq own) read)
         ∙ sym (list_any_more (bytes_eq own) ids n id inside);
-    others = λ doc no. elim (cases_lt doc (length old)) [
+    others = λ doc fails. elim (cases_lt doc (length old)) [
       | inl below ↦
-          let none : list_any (is_of_root c.scopes doc) found ≡ false = false_from_ne_true (list_any (is_of_root c.scopes doc) found) (λ yes.
-          let some = any_there (is_of_root c.scopes doc) found yes in
+          let none : list_any (is_of_root c.scopes doc) found ≡ false = false_from_ne_true (list_any (is_of_root c.scopes doc) found) (λ holds.
+          let some = any_there (is_of_root c.scopes doc) found holds in
           let has = (have some.0).0 some.1 in
-          false≢true (sym no ∙ placed 0 flags some.0 doc (found_place are some.0 doc has.0 some.2 ∙ ap Some (omega arith)))) in
+          false≢true (sym fails ∙ placed 0 flags some.0 doc (found_place are some.0 doc has.0 some.2 ∙ ap Some (omega arith)))) in
           gains.marked doc below
-          ∙ ap (λ (b : Bool). b || list_any (is_of_root c.scopes doc) found) (was.others doc no)
+          ∙ ap (λ (b : Bool). b || list_any (is_of_root c.scopes doc) found) (was.others doc fails)
           ∙ none
       | inr past ↦ get_or_past new doc false (omega (arith, past, gains.long))
     ];

@@ -1,5 +1,4 @@
-use Rattle.std.proofs.Common.{◌≡◌, ◌<◌, ℕ, sym, subst, ◌∙◌, arith, length, get_or}
-use Rattle.std.proofs.lemmas.List.{get_or_default}
+use Rattle.std.proofs.Common.{arith}
 use Rattle.leaf_search.proofs.Named.{gains_none, gains_more, gains_all}
 use Rattle.leaf_search.proofs.ids.mark_roots.Goals as goal
 
@@ -7,12 +6,11 @@ pub roots-init : goal.roots-init
 roots-init c = gains_none c.args.segment.now.scopes c.args.set.now
 
 pub root_doc-requires : goal.root_doc-requires
-root_doc-requires c =
-    subst (λ (root : ℕ). root < length c.args.segment.now.roots) (sym c.root-item.is) (c.requires.roots c.roots.root-index c.root-item.result c.roots-test.true)
+root_doc-requires c = c.requires.roots c.roots.root-index 0 c.roots-test.true
 
 pub roots-preserved : goal.roots-preserved
 roots-preserved c =
-    gains_more c.args.segment.now.scopes c.args.roots.now c.roots.root-index c.root-item.result c.root_doc.result c.args.set.now c.roots.set c.set.new.self c.roots.invariant c.roots-test.true c.root-item.is c.root_doc.ensures.document
+    gains_more c.args.segment.now.scopes c.args.roots.now c.roots.root-index c.root_doc.result c.args.set.now c.roots.set c.set.new.self c.roots.invariant c.roots-test.true c.root_doc.ensures.document
     (omega (arith, c.root_doc.ensures.within, c.requires.long, c.roots.invariant.long)) c.set.ensures
 
 pub returns : goal.returns
