@@ -1,21 +1,24 @@
 -- Values that are gathered from documents, and the keys that are made of them.
-use Rattle.std.specs.Prelude.{◌≡◌, ℕ, ◌==◌, ℤ, true, false, List, [], ◌∷◌, ◌++◌, map, Option, Some, None, option_map, refl}
+use Rattle.std.specs.Prelude.{◌≡◌, ℕ, ◌==◌, ℤ, true, false, List, [], ◌∷◌, ◌++◌, map, Option, Some, None, IfSome, is_some, option_map, refl}
 use Rattle.std.specs.List.{All, AllByRecursion, flat_map}
 use Rattle.std.proofs.Common.{ap, sym, subst, ◌∙◌}
-use Rattle.std.proofs.lemmas.Bool.{eqb-true}
+use Rattle.std.proofs.lemmas.Bool.{eqb-true, false≢true}
 use Rattle.std.proofs.lemmas.List.{map-append}
 use Rattle.std.proofs.lemmas.List.Elements.{All-from_recursion, recursion_from_All}
 use Rattle.doc_values.specs.Values.{values_of}
 use Rattle.hit_order.specs.Table.{number_or_null, text_or_null}
 use Rattle.query_ast.specs.SortKey.{key_or_missing, mode_value}
+use Rattle.query_ast.specs.declared.sort.Chain.{Chain}
 use Rattle.query_ast.specs.declared.sort.Missing.{Missing}
 use Rattle.query_ast.specs.declared.sort.SortMode.{SortMode}
+use Rattle.query_eval.specs.Folds.{scopes_in}
 use Rattle.segment.specs.Flat.{bytes_at, flat_of}
 use Rattle.segment.specs.Shows.{column_values}
 use Rattle.segment_parts.specs.Agree.{AreColumns, HaveOrdinals, IsOrdinalAt}
 use Rattle.segment_parts.specs.Fields.{column_of}
 use Rattle.segment_parts.specs.Lists.{postings_of, terms_of}
 use Rattle.segment_parts.specs.declared.columns.Columns.{Columns}
+use Rattle.nested_sort.specs.Inside.{chain_docs}
 use Rattle.nested_sort.specs.Documents.{IsTermOf, number_value, numbers_at, ordinals_at, term_value, text_value, texts_at, values_at}
 use Rattle.nested_sort.proofs.Alike.{by_test}
 use Rattle.nested_sort.proofs.Documents.{map_map}
@@ -31,6 +34,21 @@ flat_none f none (d ∷ ds) = ap (λ xs. xs ++ flat_map f ds) (none d) ∙ flat_
 map_flat : {D A B : Type 0} (h : A → B) (f : D → List A) (ds : List D) → map h (flat_map f ds) ≡ flat_map (λ d. map h (f d)) ds
 map_flat h f [] = refl
 map_flat h f (d ∷ ds) = map-append h (f d) (flat_map f ds) ∙ ap (λ xs. map h (f d) ++ xs) (map_flat h f ds)
+
+-- ---- the one number of a document that no chain leads on from
+
+module _ (c : Columns) (f : ℕ) where
+  own_key : (place scope d : ℕ) (mode : SortMode) (missing : Missing) (chain : List Chain) (filters : List (List (List (Option ℕ)))) (number : ℤ) → chain ≡ [] → numbers_at c f d ≡ number ∷ [] → mode_value mode (number_value number ∷ []) ≡ Some (number_value number)
+      → number_or_null (Some number) ≡ key_or_missing missing (mode_value mode (flat_map (values_at false c f) (chain_docs place (scopes_in c) chain filters scope d)))
+  own_key place scope d mode missing [] filters number none only one =
+      ap (key_or_missing missing) (sym one ∙ ap (mode_value mode) (sym (ap (λ values. map number_value values ++ []) only)))
+  own_key place scope d mode missing (step ∷ chain) filters number none only one = absurd (let no : ⊥ = cc in no)
+
+  pub own_some : (place scope d : ℕ) (mode : SortMode) (missing : Missing) (chain : List Chain) (filters : List (List (List (Option ℕ)))) (own : Option ℤ) → IfSome own (λ number. chain ≡ []) → IfSome own (λ number. numbers_at c f d ≡ number ∷ [])
+      → IfSome own (λ number. mode_value mode (number_value number ∷ []) ≡ Some (number_value number)) → is_some own ≡ true
+      → number_or_null own ≡ key_or_missing missing (mode_value mode (flat_map (values_at false c f) (chain_docs place (scopes_in c) chain filters scope d)))
+  own_some place scope d mode missing chain filters None none only one there = absurd (false≢true there)
+  own_some place scope d mode missing chain filters (Some number) none only one there = own_key place scope d mode missing chain filters number none only one
 
 module _ (c : Columns) (f : ℕ) (docs : List ℕ) where
   -- ---- numbers

@@ -1,6 +1,7 @@
 -- Hits that are met one after another, and the page of those that are left.
-use Rattle.std.specs.Prelude.{◌≡◌, ℕ, zero, suc, ◌+◌, ◌≤◌, ◌<◌, ℤ, Bool, true, false, List, [], ◌∷◌, ◌++◌, filter, drop, length, map, get_or, Option, Some, None, option_map, refl}
+use Rattle.std.specs.Prelude.{◌≡◌, ℕ, zero, suc, ◌+◌, ◌≤◌, ◌<◌, ℤ, Bool, true, false, List, [], ◌∷◌, ◌++◌, filter, drop, length, map, get_or, slice_get, IsSomeAnd, Option, Some, None, option_map, refl}
 use Rattle.std.specs.List.{All, AllByRecursion, count_by, flat_map}
+use Rattle.std.specs.Option.{option_map_or}
 use Rattle.std.proofs.Common.{arith, ap, append_assoc, sym, subst, Bor, ◌∙◌}
 use Rattle.std.proofs.lemmas.Bool.{false≢true, true≢false}
 use Rattle.std.proofs.lemmas.List.{append-nil, drop_more, map-append, take_all}
@@ -11,17 +12,23 @@ use Rattle.mapping.specs.Mapping.{Mapping}
 use Rattle.query_ast.specs.Page.{direction_of, page_of}
 use Rattle.query_ast.specs.declared.sort.Direction.{Direction}
 use Rattle.query_ast.specs.declared.sort.Key.{Key}
+use Rattle.query_ast.specs.declared.sort.Key.TheVariants.{Null as NoKey}
 use Rattle.query_ast.specs.declared.sort.KeyRow.{KeyRow}
 use Rattle.query_ast.specs.declared.sort.Sort.{Sort}
 use Rattle.query_eval.specs.Found.{AreLong}
 use Rattle.segment.specs.Live.{EntryState}
+use Rattle.segment_parts.specs.declared.columns.Columns.{Columns}
 use Rattle.view_objects.specs.Hits.{hits_between, hits_from, hits_in, hits_of}
 use Rattle.view_objects.specs.declared.hit.Hit.{Hit}
-use Rattle.nested_sort.specs.Documents.{clause_key}
+use Rattle.nested_sort.specs.Documents.{clause_key, key_in, question_of}
+use Rattle.nested_sort.specs.Inside.{AreAt}
 use Rattle.nested_sort.specs.Listed.{IsCapped, IsDocOf}
-use Rattle.nested_sort.specs.Reached.{AreKept, HavePages, IsLongAt, hit_within, hits_of_kept}
+use Rattle.nested_sort.specs.Reached.{AreKept, HavePages, IsAsked, IsAskedAt, IsLongAt, hit_within, hits_of_kept, key_at, key_by}
 use Rattle.nested_sort.specs.declared.reached.Candidate.{Candidate}
+use Rattle.nested_sort.specs.declared.reached.NumberClause.{NumberClause}
+use Rattle.nested_sort.specs.declared.reached.NumberClause.TheVariants.{Score, Field}
 use Rattle.nested_sort.proofs.Alike.{by_test}
+use Rattle.nested_sort.proofs.Keying.{all_at}
 
 -- ---- the entry at a place
 
@@ -36,6 +43,28 @@ pub doc_at : (view : List EntryState) (place doc : ℕ) (scores : List (Option �
 doc_at [] place doc scores long low = absurd long
 doc_at (e ∷ view) zero doc scores long low = subst (λ count. doc < count) long low
 doc_at (e ∷ view) (suc place) doc scores long low = doc_at view place doc scores long low
+
+read : (view : List EntryState) (place : ℕ) (scores : List (Option ℕ)) (entry : EntryState) → IsLongAt view place scores → entry ≡ get_or view place entry → slice_get view place ≡ Some entry
+read [] place scores entry long is = absurd long
+read (e ∷ view) zero scores entry long is = ap (λ (own : EntryState). Some own) (sym is)
+read (e ∷ view) (suc place) scores entry long is = read view place scores entry long is
+
+module _ (view : List EntryState) (place : ℕ) (scores : List (Option ℕ)) (entry : EntryState) (columns : Columns) (long : IsLongAt view place scores) (is : entry ≡ get_or view place entry) (same : columns ≡ entry.columns) where
+  pub low_at : (doc : ℕ) → doc < length scores → doc < columns.documents
+  low_at doc low =
+      let all : length scores ≡ entry.columns.documents = subst (λ (o : Option EntryState). IsSomeAnd o (λ (e : EntryState). length scores ≡ e.columns.documents)) (read view place scores entry long is) long in
+      subst (λ count. doc < count) (all ∙ ap (λ (c : Columns). c.documents) (sym same)) low
+
+  pub asked_at : (clause : NumberClause) → IsAsked view clause → IsAskedAt columns place clause
+  asked_at Score asked = tt
+  asked_at (Field own) asked = (subst (λ (c : Columns). AreAt place c.documents own.filters.now) (sym same) (all_at view own.filters.now place entry asked.0 (read view place scores entry long is)), asked.1)
+
+  pub key_there : (clause : NumberClause) (hit : Hit) → hit.place ≡ place → key_at columns place clause hit ≡ key_by view clause hit
+  key_there Score hit at = refl
+  key_there (Field own) hit at =
+      ap (λ (c : Columns). key_in false c place (question_of own) hit.doc) same
+      ∙ sym (ap (λ (p : ℕ). option_map_or (λ (e : EntryState). key_in false e.columns p (question_of own) hit.doc) (slice_get view p) NoKey) at
+      ∙ ap (λ (o : Option EntryState). option_map_or (λ (e : EntryState). key_in false e.columns place (question_of own) hit.doc) o NoKey) (read view place scores entry long is))
 
 -- ---- one hit more
 

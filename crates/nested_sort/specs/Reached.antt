@@ -1,5 +1,5 @@
 -- Serves proofs: the hits that a page can show, by their first keys.
-use Rattle.std.specs.Prelude.{◌≡◌, ℕ, ◌+◌, ◌≤◌, List, [], ◌∷◌, cond, filter, length, map, slice_get, IsSomeAnd, Option, false, ⊤}
+use Rattle.std.specs.Prelude.{◌≡◌, ℕ, ℤ, ◌+◌, ◌≤◌, List, [], ◌∷◌, cond, filter, length, map, slice_get, IsSomeAnd, Option, false, ⊤}
 use Rattle.std.specs.List.{AllByRecursion}
 use Rattle.hit_order.specs.Reach.{AreMet, Met, first_of_row, is_within}
 use Rattle.hit_order.specs.Table.{keys_of_row, number_of_row, number_or_null}
@@ -11,8 +11,11 @@ use Rattle.query_ast.specs.declared.sort.Key.TheVariants.{Null as NoKey}
 use Rattle.query_ast.specs.declared.sort.KeyRow.{KeyRow}
 use Rattle.query_ast.specs.declared.sort.Sort.{Sort}
 use Rattle.segment.specs.Live.{EntryState}
+use Rattle.segment_parts.specs.Fields.{column_of}
+use Rattle.segment_parts.specs.declared.columns.Columns.{Columns}
 use Rattle.view_objects.specs.declared.hit.Hit.{Hit}
-use Rattle.nested_sort.specs.Documents.{AllLong, IsGivenAs, clause_key, key_of_hit, question_of, score_key}
+use Rattle.nested_sort.specs.Documents.{AllLong, IsGivenAs, clause_key, key_in, key_of_hit, question_of, score_key}
+use Rattle.nested_sort.specs.Inside.{AreAt}
 use Rattle.nested_sort.specs.Listed.{IsCapped}
 use Rattle.nested_sort.specs.declared.reached.Candidate.{Candidate}
 use Rattle.nested_sort.specs.declared.reached.NumberClause.{NumberClause}
@@ -31,6 +34,19 @@ key_by view (Field asked) = key_of_hit false view (question_of asked)
 abbrev pub IsAsked : List EntryState → NumberClause → Type 0
 IsAsked view Score = ⊤
 IsAsked view (Field asked) = AllLong view asked.filters.now × IsGivenAs false asked.missing.now
+
+-- the same in one entry
+abbrev pub key_at : Columns → ℕ → NumberClause → Hit → Key
+key_at columns place Score hit = score_key hit
+key_at columns place (Field asked) hit = key_in false columns place (question_of asked) hit.doc
+
+abbrev pub IsAskedAt : Columns → ℕ → NumberClause → Type 0
+IsAskedAt columns place Score = ⊤
+IsAskedAt columns place (Field asked) = AreAt place columns.documents asked.filters.now × IsGivenAs false asked.missing.now
+
+abbrev pub IsColumnOf : Columns → NumberClause → Option (List (ℕ × List ℤ)) → Type 0
+IsColumnOf columns Score column = ⊤
+IsColumnOf columns (Field asked) column = column ≡ column_of asked.field columns.numbers
 
 -- the scores of the documents of the entry at a place
 abbrev pub IsLongAt : List EntryState → ℕ → List (Option ℕ) → Type 0

@@ -8,15 +8,17 @@ ghost use Rattle.query_eval.specs.Folds.{scopes_in};
 ghost use Rattle.view_objects.specs.Hits.{start_before};
 
 use crate::NoMemory;
+use crate::nearby::add_near;
 use block_bits::BitSet;
 use block_join::Matches;
-use doc_values::{Column, ColumnValue, Values};
+use doc_values::{Column, ColumnValue};
 use query_ast::Chain;
 use segment::{Segment, scopes_are_of_documents};
 
 /// Adds the values of the documents that a chain leads to, from a document of a scope in the entry at a place.
 ///
-/// `filters` holds what the filters of the chain find, from the outermost in.
+/// `filters` holds what the filters of the chain find, from the outermost in. Values are looked for from row `row` of the column
+/// on, which is where those before were found.
 #[cycle(gather)]
 #[tactic(auto, using(crate::proofs::Ways::ways))]
 pub(crate) fn gather<T: ColumnValue>(
@@ -27,6 +29,7 @@ pub(crate) fn gather<T: ColumnValue>(
     filters: &[Matches],
     scope: u32,
     doc: u32,
+    row: &mut u32,
     values: &mut Vec<T>,
 ) -> Result<(), NoMemory>
     requires within { doc < segment.now.documents }
@@ -34,16 +37,16 @@ pub(crate) fn gather<T: ColumnValue>(
     ensures { OnOk result (values.new.items ≡ values.old.items ++ flat_map (λ inside. values_of inside column.now) (chain_docs place (scopes_in segment.now) chain.now filters.now scope doc)) }
 {
     match chain {
-        [] => Ok(add(column.values(doc), values)?),
+        [] => Ok(add_near(column, doc, row, values)?),
         [step, rest @ ..] => {
             let start = start_of(segment, scope, doc);
             if step.filter.is_some() {
                 Ok(gather_found(
-                    column, segment, place, rest, filters, step.scope, start, doc, values,
+                    column, segment, place, rest, filters, step.scope, start, doc, row, values,
                 )?)
             } else {
                 Ok(gather_all(
-                    column, segment, place, rest, filters, step.scope, start, doc, values,
+                    column, segment, place, rest, filters, step.scope, start, doc, row, values,
                 )?)
             }
         }
@@ -62,6 +65,7 @@ fn gather_found<T: ColumnValue>(
     scope: u32,
     start: u32,
     end: u32,
+    row: &mut u32,
     values: &mut Vec<T>,
 ) -> Result<(), NoMemory>
     requires within { end < segment.now.documents }
@@ -80,6 +84,7 @@ fn gather_found<T: ColumnValue>(
             first.as_slice()[place].set(),
             start,
             end,
+            row,
             values,
         )?),
     }
@@ -97,6 +102,7 @@ fn gather_all<T: ColumnValue>(
     scope: u32,
     start: u32,
     end: u32,
+    row: &mut u32,
     values: &mut Vec<T>,
 ) -> Result<(), NoMemory>
     requires within { end < segment.now.documents }
@@ -106,7 +112,7 @@ fn gather_all<T: ColumnValue>(
     match scope_documents(segment, scope) {
         None => Ok(()),
         Some(documents) => Ok(gather_in(
-            column, segment, place, rest, filters, scope, documents, start, end, values,
+            column, segment, place, rest, filters, scope, documents, start, end, row, values,
         )?),
     }
 }
@@ -124,6 +130,7 @@ fn gather_in<T: ColumnValue>(
     passing: &BitSet,
     start: u32,
     end: u32,
+    row: &mut u32,
     values: &mut Vec<T>,
 ) -> Result<(), NoMemory>
     requires within { end < segment.now.documents }
@@ -133,7 +140,9 @@ fn gather_in<T: ColumnValue>(
 {
     let mut from = start;
     'inside: while let Some(doc) = passing.next_set_before(from, end) {
-        gather(column, segment, place, rest, filters, scope, doc, values)?;
+        gather(
+            column, segment, place, rest, filters, scope, doc, row, values,
+        )?;
         from = doc + 1;
     }
     Ok(())
@@ -167,14 +176,4 @@ fn start_of(segment: &Segment, scope: u32, doc: u32) -> u32
         Some(before) => before + 1,
         None => 0,
     }
-}
-
-/// Adds values behind others.
-fn add<T: ColumnValue>(mut left: Values<'_, T>, values: &mut Vec<T>) -> Result<(), NoMemory>
-    ensures { OnOk result (values.new.items ≡ values.old.items ++ left.entry) }
-{
-    'values: while let Some(value) = left.next() {
-        values.push(value)?;
-    }
-    Ok(())
 }

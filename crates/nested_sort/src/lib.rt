@@ -10,6 +10,7 @@ mod clauses;
 mod hits;
 mod inside;
 mod modes;
+mod nearby;
 mod no_memory;
 mod numbers;
 mod reached;

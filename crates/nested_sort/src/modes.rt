@@ -1,5 +1,5 @@
 //! Several values made one.
-ghost use Rattle.std.specs.Prelude.{◌≡◌, ◌<◌, ◌≤◌, ◌^◌, ◌-◌, ◌*◌, ◌/◌, ◌+ℤ◌, ◌-ℤ◌, ◌≤ℤ◌, pos, fold, get_or, length, map, option_map, vec_len, IfOk};
+ghost use Rattle.std.specs.Prelude.{◌≡◌, ◌<◌, ◌≤◌, ◌^◌, ◌-◌, ◌*◌, ◌/◌, ◌+ℤ◌, ◌-ℤ◌, ◌≤ℤ◌, [], ◌∷◌, ℤ, Some, pos, fold, get_or, length, map, option_map, vec_len, IfOk, IsTrue};
 ghost use Rattle.nested_sort.specs.Best.{best, is_before, is_behind, ordinal_by};
 ghost use Rattle.nested_sort.specs.Documents.{number_value};
 ghost use Rattle.query_ast.specs.SortKey.{median, mode_value};
@@ -24,6 +24,19 @@ pub(crate) fn number_of(mode: SortMode, values: &mut Vec<i64>) -> Result<Option<
         return Err(NoMemory);
     }
     Ok(some_number(mode, values)?)
+}
+
+/// Whether a number that stands alone is known to stand for itself.
+pub(crate) fn is_of_one(mode: SortMode) -> bool
+    ensures { IsTrue result → (number : ℤ) → mode_value mode (number_value number ∷ []) ≡ Some (number_value number) }
+{
+    match mode {
+        SortMode::Min => true,
+        SortMode::Max => true,
+        SortMode::Sum => false,
+        SortMode::Avg => false,
+        SortMode::Median => false,
+    }
 }
 
 /// That of some numbers.

@@ -1,16 +1,19 @@
 //! Keys that are numbers.
-ghost use Rattle.std.specs.Prelude.{◌≡◌, ◌≤◌, ◌<◌, false, length, map, option_map, IfOk, OnOk};
+ghost use Rattle.std.specs.Prelude.{◌≡◌, ◌≤◌, ◌<◌, [], ◌∷◌, Some, false, length, map, option_map, IfOk, IfSome, OnOk};
 ghost use Rattle.std.specs.List.{All, flat_map};
 ghost use Rattle.hit_order.specs.Table.{number_or_null};
 ghost use Rattle.nested_sort.specs.Documents.{AllLong, IsGivenAs, docs_inside, key_in, key_of_hit, number_value, numbers_at, question_of, score_key};
 ghost use Rattle.nested_sort.specs.Inside.{AreAt};
 ghost use Rattle.nested_sort.specs.Listed.{AreDocs, IsCapped, IsDocOf};
-ghost use Rattle.query_ast.specs.SortKey.{key_or_missing};
+ghost use Rattle.query_ast.specs.SortKey.{key_or_missing, mode_value};
+ghost use Rattle.segment_parts.specs.Fields.{column_of};
 
 use crate::NoMemory;
 use crate::asked::Asked;
 use crate::inside::gather;
-use crate::modes::number_of;
+use crate::modes::{is_of_one, number_of};
+use crate::nearby::only_near;
+use doc_values::NumberColumn;
 use hit_order::NumberKeys;
 use query_ast::Missing;
 use segment::{Segment, values_are_of_documents};
@@ -44,18 +47,20 @@ pub(crate) fn number_keys(
     ensures { IfOk result (λ keys. map number_or_null keys ≡ map (key_of_hit false entries.now (question_of asked.now)) hits.now) }
 {
     let mut keys = NumberKeys::empty(alloc);
+    let mut row = 0;
     let mut values = Vec::new(alloc);
     'hits: for hit in hits {
-        keys.push(key_of(entries, *hit, asked, &mut values)?)?;
+        keys.push(key_of(entries, *hit, asked, &mut row, &mut values)?)?;
     }
     Ok(keys)
 }
 
 /// The number of one hit.
-pub(crate) fn key_of(
+fn key_of(
     entries: &[Entry],
     hit: Hit,
     asked: &Asked<'_>,
+    row: &mut u32,
     values: &mut Vec<i64>,
 ) -> Result<Option<i64>, NoMemory>
     requires doc { IsDocOf entries.now hit.place hit.doc }
@@ -65,50 +70,85 @@ pub(crate) fn key_of(
 {
     let place = hit.place as usize;
     let segment = entries[place].segment();
-    Ok(key_in(segment, place, hit.doc, asked, values)?)
+    let column = segment.numbers(asked.field);
+    Ok(key_in(segment, column.as_ref(), place, hit.doc, asked, row, values)?)
 }
 
-/// The number of a document of the entry at a place.
-fn key_in(
+/// The number of a document of the entry at a place, from the column of the field. It is looked for from row `row` on, which is
+/// where those before were found.
+pub(crate) fn key_in(
     segment: &Segment,
+    column: Option<&NumberColumn<'_>>,
     place: usize,
     doc: u32,
     asked: &Asked<'_>,
+    row: &mut u32,
     values: &mut Vec<i64>,
 ) -> Result<Option<i64>, NoMemory>
+    requires column { option_map (λ own. own.now) column ≡ column_of asked.now.field segment.now.numbers }
     requires within { doc < segment.now.documents }
     requires found { AreAt place segment.now.documents asked.now.filters.now }
     requires given { IsGivenAs false asked.now.missing.now }
     ensures { IfOk result (λ key. number_or_null key ≡ key_in false segment.now place (question_of asked.now) doc) }
 {
-    gather_numbers(segment, place, doc, asked, values)?;
+    let own = own_number(segment, column, doc, asked, row);
+    if own.is_some() {
+        return Ok(own);
+    }
+    gather_numbers(segment, column, place, doc, asked, row, values)?;
     Ok(number_or(number_of(asked.mode, values)?, asked.missing))
+}
+
+/// The number of a document that no chain leads on from, where it is the only one and stands for itself.
+fn own_number(
+    segment: &Segment,
+    column: Option<&NumberColumn<'_>>,
+    doc: u32,
+    asked: &Asked<'_>,
+    row: &mut u32,
+) -> Option<i64>
+    requires column { option_map (λ own. own.now) column ≡ column_of asked.now.field segment.now.numbers }
+    requires within { doc < segment.now.documents }
+    ensures chain { IfSome result (λ number. asked.now.chain.now ≡ []) }
+    ensures only { IfSome result (λ number. numbers_at segment.now asked.now.field doc ≡ number ∷ []) }
+    ensures mode { IfSome result (λ number. mode_value asked.now.mode (number_value number ∷ []) ≡ Some (number_value number)) }
+{
+    values_are_of_documents(segment);
+    let column = column?;
+    if !asked.chain.is_empty() || !is_of_one(asked.mode) {
+        return None;
+    }
+    only_near(column, doc, row)
 }
 
 /// The numbers inside a document, in place of those before.
 #[tactic(auto, using(crate::proofs::Gathers::gathers))]
 fn gather_numbers(
     segment: &Segment,
+    column: Option<&NumberColumn<'_>>,
     place: usize,
     doc: u32,
     asked: &Asked<'_>,
+    row: &mut u32,
     values: &mut Vec<i64>,
 ) -> Result<(), NoMemory>
+    requires column { option_map (λ own. own.now) column ≡ column_of asked.now.field segment.now.numbers }
     requires within { doc < segment.now.documents }
     requires found { AreAt place segment.now.documents asked.now.filters.now }
     ensures { OnOk result (values.new.items ≡ flat_map (numbers_at segment.now asked.now.field) (docs_inside segment.now place (question_of asked.now) doc)) }
 {
     values_are_of_documents(segment);
     values.clear();
-    match segment.numbers(asked.field) {
+    match column {
         Some(column) => Ok(gather(
-            &column,
+            column,
             segment,
             place,
             asked.chain,
             asked.filters,
             asked.scope,
             doc,
+            row,
             values,
         )?),
         None => Ok(()),

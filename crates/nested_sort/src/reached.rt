@@ -1,10 +1,10 @@
 //! The hits that a page can show, by their first keys: those out of reach get no row.
-ghost use Rattle.std.specs.Prelude.{◌≡◌, ◌++◌, ◌∷◌, ℕ, Bool, List, [], None, filter, option_map, Option, IfOk, IfSome, OnOk};
+ghost use Rattle.std.specs.Prelude.{◌≡◌, ◌++◌, ◌∷◌, ◌<◌, ℕ, Bool, List, [], None, filter, option_map, Option, IfOk, IfSome, OnOk};
 ghost use Rattle.std.specs.List.{All, flat_map};
 ghost use Rattle.hit_order.specs.Table.{number_or_null};
 ghost use Rattle.nested_sort.specs.Documents.{AllLong, clause_key};
-ghost use Rattle.nested_sort.specs.Listed.{IsCapped, IsDocOf};
-ghost use Rattle.nested_sort.specs.Reached.{AreKept, HavePages, IsAsked, IsLongAt, hit_within, key_by};
+ghost use Rattle.nested_sort.specs.Listed.{IsCapped};
+ghost use Rattle.nested_sort.specs.Reached.{AreKept, HavePages, IsAsked, IsAskedAt, IsColumnOf, IsLongAt, hit_within, key_at, key_by};
 ghost use Rattle.query_ast.specs.Resolved.{AreSorts, IsSortKey};
 ghost use Rattle.query_ast.specs.declared.sort.Direction.{Direction as RowDirection};
 ghost use Rattle.query_ast.specs.declared.sort.Key.{Key};
@@ -17,11 +17,13 @@ use crate::NoMemory;
 use crate::asked::Asked;
 use crate::clauses::direction_of;
 use crate::hits::{hits_found, next_hit};
-use crate::numbers::key_of;
+use crate::numbers::key_in;
 use block_join::{Matches, Scored};
+use doc_values::NumberColumn;
 use hit_order::{FirstKeys, pages_are_of_rows_within_reach};
 use mapping::{Kind, Mapping};
 use query_ast::{KeyRow, Sort, SortKey};
+use segment::Segment;
 use segment_view::Entry;
 use std::alloc::Global;
 use view_objects::Hit;
@@ -149,51 +151,71 @@ fn add_candidates(
     requires long { IsLongAt entries.now place found.now }
     ensures { OnOk result ((direction : RowDirection) (after : Option Key) (most : ℕ) (all : List FoundHit) → AreKept (key_by entries.now clause.now) direction after most all kept.old.items keys.old → AreKept (key_by entries.now clause.now) direction after most (all ++ hits_from place 0 found.now) kept.new.items keys.new) }
 {
+    let segment = entries[place as usize].segment();
+    let column = column_of(segment, clause);
     let end = found.len();
     let mut left = found.cursor();
+    let mut row = 0;
     'found: while let Some(hit) = next_hit(&mut left, place, end) {
-        offer(entries, hit, clause, keys, kept, values)?;
+        let key = first_key(segment, column.as_ref(), hit, clause, &mut row, values)?;
+        offer(hit, key, keys, kept)?;
     }
     Ok(())
 }
 
-/// Adds a hit, if it is within reach.
-fn offer(
-    entries: &[Entry],
+/// The numbers of the field of a clause.
+fn column_of<'a>(segment: &'a Segment, clause: &NumberClause<'_>) -> Option<NumberColumn<'a>>
+    ensures { IsColumnOf segment.now clause.now result }
+{
+    match clause {
+        NumberClause::Score => None,
+        NumberClause::Field(asked) => segment.numbers(asked.field),
+    }
+}
+
+/// The key of a hit of a segment for a clause.
+fn first_key(
+    segment: &Segment,
+    column: Option<&NumberColumn<'_>>,
     hit: Hit,
     clause: &NumberClause<'_>,
+    row: &mut u32,
+    values: &mut Vec<i64>,
+) -> Result<Option<i64>, NoMemory>
+    requires column { IsColumnOf segment.now clause.now (option_map (λ own. own.now) column) }
+    requires asked { IsAskedAt segment.now hit.place clause.now }
+    requires within { hit.doc < segment.now.documents }
+    requires capped { IsCapped hit }
+    ensures { IfOk result (λ key. number_or_null key ≡ key_at segment.now hit.place clause.now hit) }
+{
+    match clause {
+        NumberClause::Score => Ok(Some(hit.score as i64)),
+        NumberClause::Field(asked) => Ok(key_in(
+            segment,
+            column,
+            hit.place as usize,
+            hit.doc,
+            asked,
+            row,
+            values,
+        )?),
+    }
+}
+
+/// Adds a hit, if its key is within reach.
+fn offer(
+    hit: Hit,
+    key: Option<i64>,
     keys: &mut FirstKeys<'_>,
     kept: &mut Vec<Candidate>,
-    values: &mut Vec<i64>,
 ) -> Result<(), NoMemory>
-    requires asked { IsAsked entries.now clause.now }
-    requires doc { IsDocOf entries.now hit.place hit.doc }
     requires capped { IsCapped hit }
-    ensures { OnOk result ((direction : RowDirection) (after : Option Key) (most : ℕ) (all : List FoundHit) → AreKept (key_by entries.now clause.now) direction after most all kept.old.items keys.old → AreKept (key_by entries.now clause.now) direction after most (all ++ hit ∷ []) kept.new.items keys.new) }
+    ensures { OnOk result ((own : FoundHit → Key) (direction : RowDirection) (after : Option Key) (most : ℕ) (all : List FoundHit) → number_or_null key ≡ own hit → AreKept own direction after most all kept.old.items keys.old → AreKept own direction after most (all ++ hit ∷ []) kept.new.items keys.new) }
 {
-    let key = first_key(entries, hit, clause, values)?;
     if keys.offer(key)? {
         kept.push(Candidate { key, hit })?;
     }
     Ok(())
-}
-
-/// The key of a hit for a clause.
-fn first_key(
-    entries: &[Entry],
-    hit: Hit,
-    clause: &NumberClause<'_>,
-    values: &mut Vec<i64>,
-) -> Result<Option<i64>, NoMemory>
-    requires asked { IsAsked entries.now clause.now }
-    requires doc { IsDocOf entries.now hit.place hit.doc }
-    requires capped { IsCapped hit }
-    ensures { IfOk result (λ key. number_or_null key ≡ key_by entries.now clause.now hit) }
-{
-    match clause {
-        NumberClause::Score => Ok(Some(hit.score as i64)),
-        NumberClause::Field(asked) => Ok(key_of(entries, hit, asked, values)?),
-    }
 }
 
 /// The hits whose keys are within reach.

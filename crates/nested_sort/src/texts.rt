@@ -37,9 +37,10 @@ pub(crate) fn text_keys(
     ensures { IfOk result (λ keys. map text_or_null keys ≡ map (key_of_hit true entries.now (question_of asked.now)) hits.now) }
 {
     let mut keys = TextKeys::empty(alloc);
+    let mut row = 0;
     let mut ordinals = Vec::new(alloc);
     'hits: for hit in hits {
-        push_key(entries, *hit, asked, &mut ordinals, &mut keys)?;
+        push_key(entries, *hit, asked, &mut row, &mut ordinals, &mut keys)?;
     }
     Ok(keys)
 }
@@ -49,6 +50,7 @@ fn push_key(
     entries: &[Entry],
     hit: Hit,
     asked: &Asked<'_>,
+    row: &mut u32,
     ordinals: &mut Vec<u64>,
     keys: &mut TextKeys,
 ) -> Result<(), NoMemory>
@@ -60,7 +62,7 @@ fn push_key(
 {
     let place = hit.place as usize;
     let segment = entries[place].segment();
-    Ok(push_key_in(segment, place, hit.doc, asked, ordinals, keys)?)
+    Ok(push_key_in(segment, place, hit.doc, asked, row, ordinals, keys)?)
 }
 
 /// Adds the text of a document of the entry at a place.
@@ -69,6 +71,7 @@ fn push_key_in(
     place: usize,
     doc: u32,
     asked: &Asked<'_>,
+    row: &mut u32,
     ordinals: &mut Vec<u64>,
     keys: &mut TextKeys,
 ) -> Result<(), NoMemory>
@@ -80,7 +83,7 @@ fn push_key_in(
 {
     values_are_of_documents(segment);
     let _documents = segment.docs();
-    gather_ordinals(segment, place, doc, asked, ordinals)?;
+    gather_ordinals(segment, place, doc, asked, row, ordinals)?;
     let terms = segment.terms();
     let found = ordinals.as_slice();
     let ordinal = term_ordinal(&terms, asked, found);
@@ -122,6 +125,7 @@ fn gather_ordinals(
     place: usize,
     doc: u32,
     asked: &Asked<'_>,
+    row: &mut u32,
     ordinals: &mut Vec<u64>,
 ) -> Result<(), NoMemory>
     requires within { doc < segment.now.documents }
@@ -138,6 +142,7 @@ fn gather_ordinals(
             asked.filters,
             asked.scope,
             doc,
+            row,
             ordinals,
         )?),
         None => Ok(()),

@@ -1,10 +1,20 @@
-use Rattle.std.proofs.Common.{ℕ, ◌++◌, ◌∷◌, [], List, Option, ap, append_assoc, refl, subst, sym, ◌∙◌}
+use Rattle.std.proofs.Common.{ℕ, ◌<◌, ◌++◌, ◌∷◌, [], List, Option, ap, append_assoc, refl, subst, sym, ◌∙◌}
 use Rattle.view_objects.specs.declared.hit.Hit.{Hit}
 use Rattle.view_objects.specs.Hits.{hits_between}
-use Rattle.nested_sort.specs.Reached.{AreKept, key_by}
+use Rattle.nested_sort.specs.Reached.{AreKept, IsAskedAt, key_at, key_by}
 use Rattle.nested_sort.proofs.Ranges.{hits_push}
-use Rattle.nested_sort.proofs.Reaches.{all_between, done_all}
+use Rattle.nested_sort.proofs.Reaches.{all_between, asked_at, done_all, key_there, low_at}
 use Rattle.nested_sort.proofs.reached.add_candidates.Goals as goal
+
+pub first_key-requires-clause-asked : goal.first_key-requires-clause-asked
+first_key-requires-clause-asked c =
+    subst (λ (p : ℕ). IsAskedAt c.segment-segment.result.now p c.args.clause.now) (sym c.in-Some.ensures.within.0)
+    (asked_at c.args.entries.now c.args.place c.args.found.now c.index-entries-place.result c.segment-segment.result.now c.requires.long c.index-entries-place.is c.segment-segment.ensures c.args.clause.now c.requires.asked)
+
+pub first_key-requires-clause-within : goal.first_key-requires-clause-within
+first_key-requires-clause-within c =
+    low_at c.args.entries.now c.args.place c.args.found.now c.index-entries-place.result c.segment-segment.result.now c.requires.long c.index-entries-place.is c.segment-segment.ensures c.in-Some.hit.doc
+    (subst (λ (n : ℕ). c.in-Some.hit.doc < n) c.len-end.ensures c.in-Some.ensures.within.1)
 
 pub found-preserved : goal.found-preserved
 found-preserved c =
@@ -19,7 +29,10 @@ found-preserved c =
       c.in-Some.ensures.later.1,
       λ direction after most all are.
           subst (λ (hs : List Hit). AreKept (key_by c.args.entries.now c.args.clause.now) direction after most hs c.offer.new.kept.items c.offer.new.keys) (append_assoc all was.0 (c.in-Some.hit ∷ []))
-          (c.in_ok-offer.ensures direction after most (all ++ was.0) (was.5 direction after most all are)),
+          (c.in_ok-offer.ensures (key_by c.args.entries.now c.args.clause.now) direction after most (all ++ was.0)
+          (c.in_ok-key.ensures ∙ ap (λ (p : ℕ). key_at c.segment-segment.result.now p c.args.clause.now c.in-Some.hit) c.in-Some.ensures.within.0
+          ∙ key_there c.args.entries.now c.args.place c.args.found.now c.index-entries-place.result c.segment-segment.result.now c.requires.long c.index-entries-place.is c.segment-segment.ensures c.args.clause.now c.in-Some.hit c.in-Some.ensures.within.0)
+          (was.5 direction after most all are)),
     )
 
 pub returns : goal.returns

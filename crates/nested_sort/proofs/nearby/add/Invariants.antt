@@ -1,5 +1,5 @@
 use Rattle.std.proofs.Common.{◌≡◌, ◌++◌, length}
-use Rattle.nested_sort.proofs.inside.add.Given as goal
+use Rattle.nested_sort.proofs.nearby.add.Given as goal
 
 abbrev pub invariant-values : goal.invariant-values
 invariant-values g l = l.values.items ++ l.left ≡ l.fn.values.items ++ l.fn.left
