@@ -1,9 +1,9 @@
 -- A document's values are those of its row.
-use Rattle.std.proofs.Common.{◌≡◌, ℕ, zero, suc, ◌+◌, ◌==◌, ◌<◌, ◌≤◌, Bool, true, false, cond, List, [], ◌∷◌, length, get_or, slice_get, All, Some, refl, sym, ap, subst, ◌∙◌, arith}
+use Rattle.std.proofs.Common.{◌≡◌, ℕ, zero, suc, ◌==◌, ◌≤◌, true, false, List, [], ◌∷◌, slice_get, All, Some, refl, ap, subst, ◌∙◌, arith}
 use Rattle.std.specs.List.Sorted.{IsSorted, IsStrictlyIncreasing}
 use Rattle.std.specs.declared.cmp.Ordering.{Ordering}
 use Rattle.std.proofs.lemmas.Bool.{eq-eqb, ne_eqb}
-use Rattle.doc_values.specs.Values.{AreRows, AreValues, documents, values_of}
+use Rattle.doc_values.specs.Values.{AreValues, documents, values_of}
 use Rattle.bucket_aggs.proofs.Lists.{Each, by_test}
 use Rattle.bucket_aggs.proofs.Told.{Ascend, RowsOf, ascend_of}
 

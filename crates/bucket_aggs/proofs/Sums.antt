@@ -1,5 +1,5 @@
 -- What numbers come to, one number after the other, and what the values of objects come to.
-use Rattle.std.proofs.Common.{◌≡◌, ℕ, suc, ℤ, pos, negsuc, ◌+ℤ◌, ◌+◌, Bool, true, false, cond, List, [], ◌∷◌, ◌++◌, map, fold, sum_by, Option, Some, None, refl, sym, ap, subst, ◌∙◌, arith}
+use Rattle.std.proofs.Common.{◌≡◌, ℕ, suc, ℤ, pos, negsuc, ◌+ℤ◌, Bool, true, false, cond, List, [], ◌∷◌, ◌++◌, map, fold, sum_by, Option, Some, None, refl, sym, ap, subst, ◌∙◌, arith}
 use Rattle.std.specs.List.{flat_map}
 use Rattle.std.specs.List.Sorted.{IsPermutation}
 use Rattle.std.specs.Ordering.{int_cmp, is_lt}
@@ -8,7 +8,7 @@ use Rattle.std.specs.declared.cmp.Ordering.TheVariants.{Less, Equal, Greater}
 use Rattle.std.proofs.lemmas.Bool.{false≢true}
 use Rattle.std.proofs.lemmas.Cmp.{int_cmp_total, tied_itself}
 use Rattle.std.proofs.lemmas.Int.{ints}
-use Rattle.std.proofs.lemmas.List.{length-append, map-append}
+use Rattle.std.proofs.lemmas.List.{map-append}
 use Rattle.std.proofs.lemmas.List.Elements.{Contains-append_left, Contains-push}
 use Rattle.std.proofs.lemmas.List.Sorted.{IsPermutation-append, IsPermutation-refl, sum_by-IsPermutation}
 use Rattle.std.proofs.lemmas.List.Sums.{fold_push, sum_by-cons}
@@ -52,28 +52,26 @@ below_on x z a h g = ap is_lt (int_cmp_total.trans x z a (lt_is (int_cmp x z) h)
 not_below : (a : ℤ) → below a a ≡ false
 not_below a = ap is_lt (tied_itself int_cmp_total a)
 
-pub summary_none : (s : Summary) → s ≡ record { count = 0; total = pos 0; least = None; greatest = None } → IsSummary [] s
-summary_none s is = subst (IsSummary []) (sym is) (record { count = refl; total = refl; least = refl; greatest = refl })
+pub summary_none : (s : Summary) → s ≡ record { total = pos 0; least = None; greatest = None } → IsSummary [] s
+summary_none s is = subst (IsSummary []) (sym is) (record { total = refl; least = refl; greatest = refl })
 
-pub summary_more : (zs : List ℤ) (old new : Summary) (z : ℤ) → IsSummary zs old → new ≡ record { count = old.count + 1; total = old.total +ℤ z; least = Some (first_of below old.least z); greatest = Some (first_of above old.greatest z) } → IsSummary (zs ++ z ∷ []) new
+pub summary_more : (zs : List ℤ) (old new : Summary) (z : ℤ) → IsSummary zs old → new ≡ record { total = old.total +ℤ z; least = Some (first_of below old.least z); greatest = Some (first_of above old.greatest z) } → IsSummary (zs ++ z ∷ []) new
 summary_more zs old new z was is =
     subst (IsSummary (zs ++ z ∷ [])) (sym is)
     (record {
-      count = omega (arith, was.count, length-append zs (z ∷ []));
       total = ap (λ (t : ℤ). t +ℤ z) was.total ∙ sym (fold_push (λ (s x : ℤ). s +ℤ x) (pos 0) zs z);
       least = first_more below below_on not_below zs old.least z was.least;
       greatest = first_more above (λ x z a h g. below_on a z x g h) not_below zs old.greatest z was.greatest;
     })
 
-pub summary_next : (zs : List ℤ) (old : Summary) (z : ℤ) (count : ℕ) (total least greatest : ℤ) → IsSummary zs old → count ≡ old.count + 1 → total ≡ old.total +ℤ z → least ≡ first_of below old.least z → greatest ≡ first_of above old.greatest z
-    → IsSummary (zs ++ z ∷ []) (record { count = count; total = total; least = Some least; greatest = Some greatest })
-summary_next zs old z count total least greatest was one sum low high =
-    let new : Summary = record { count = count; total = total; least = Some least; greatest = Some greatest } in
-    let is : new ≡ record { count = old.count + 1; total = old.total +ℤ z; least = Some (first_of below old.least z); greatest = Some (first_of above old.greatest z) } =
-    ap (λ (n : ℕ). record { count = n; total = total; least = Some least; greatest = Some greatest }) one
-    ∙ ap (λ (t : ℤ). record { count = old.count + 1; total = t; least = Some least; greatest = Some greatest }) sum
-    ∙ ap (λ (l : ℤ). record { count = old.count + 1; total = old.total +ℤ z; least = Some l; greatest = Some greatest }) low
-    ∙ ap (λ (h : ℤ). record { count = old.count + 1; total = old.total +ℤ z; least = Some (first_of below old.least z); greatest = Some h }) high in
+pub summary_next : (zs : List ℤ) (old : Summary) (z : ℤ) (total least greatest : ℤ) → IsSummary zs old → total ≡ old.total +ℤ z → least ≡ first_of below old.least z → greatest ≡ first_of above old.greatest z
+    → IsSummary (zs ++ z ∷ []) (record { total = total; least = Some least; greatest = Some greatest })
+summary_next zs old z total least greatest was sum low high =
+    let new : Summary = record { total = total; least = Some least; greatest = Some greatest } in
+    let is : new ≡ record { total = old.total +ℤ z; least = Some (first_of below old.least z); greatest = Some (first_of above old.greatest z) } =
+    ap (λ (t : ℤ). record { total = t; least = Some least; greatest = Some greatest }) sum
+    ∙ ap (λ (l : ℤ). record { total = old.total +ℤ z; least = Some l; greatest = Some greatest }) low
+    ∙ ap (λ (h : ℤ). record { total = old.total +ℤ z; least = Some (first_of below old.least z); greatest = Some h }) high in
     summary_more zs old new z was is
 
 -- ---- sums have no order

@@ -1,9 +1,8 @@
 -- What the marked documents have, row by row.
-use Rattle.std.proofs.Common.{◌≡◌, ℕ, zero, suc, ◌+◌, ◌-◌, ◌==◌, ◌<◌, ◌≤◌, Bool, true, false, cond, List, [], ◌∷◌, ◌++◌, length, map, drop, get_or, slice_get, Some, refl, sym, ap, ◌∙◌, arith, append_assoc}
+use Rattle.std.proofs.Common.{◌≡◌, ℕ, zero, suc, ◌+◌, ◌-◌, ◌==◌, ◌<◌, ◌≤◌, Bool, true, false, cond, List, [], ◌∷◌, ◌++◌, length, drop, get_or, slice_get, Some, refl, sym, ap, ◌∙◌, arith}
 use Rattle.std.specs.List.{flat_map}
 use Rattle.std.specs.List.Sorted.{IsStrictlyIncreasing}
 use Rattle.std.proofs.lemmas.Bool.{eqb-false, eqb-true, ne_eqb}
-use Rattle.std.proofs.lemmas.List.{get_or-map}
 use Rattle.doc_values.specs.Values.{documents, values_of}
 use Rattle.segment_parts.specs.Text.{marked_places}
 use Rattle.bucket_aggs.proofs.Lists.{Each, by_test, each_as}

@@ -1,12 +1,15 @@
--- What numbers come to: how many there are, their sum, the least and the greatest.
+-- What numbers come to: their sum, the least and the greatest.
 use Rattle.std.specs.Prelude.{◌≡◌, ℕ, ℤ, pos, ◌+ℤ◌, Bool, false, if◌then◌else◌, List, [], length, fold, Option, Some, None}
-use Rattle.std.specs.List.{AllByRecursion, Contains}
+use Rattle.std.specs.List.{AllByRecursion, Contains, flat_map}
 use Rattle.std.specs.Ordering.{int_cmp, is_lt}
 use Rattle.doc_values.specs.Values.{values_of}
 use Rattle.mapping_body.specs.declared.kind.Kind.{Kind}
 use Rattle.segment.specs.Flat.{FlatDocument}
+use Rattle.segment.specs.Live.{EntryState}
 use Rattle.view_objects.specs.Values.{values_shown}
+use Rattle.bucket_aggs.specs.declared.metrics.FieldSummary.{FieldSummary}
 use Rattle.bucket_aggs.specs.declared.metrics.Summary.{Summary}
+use Rattle.bucket_aggs.specs.Counts.{flats_of_view}
 
 abbrev pub sum_of : List ℤ → ℤ
 sum_of zs = fold (λ sum z. sum +ℤ z) (pos 0) zs
@@ -28,7 +31,6 @@ first_of before None z = z
 first_of before (Some first) z = if before z first then z else first
 
 pub record IsSummary (zs : List ℤ) (s : Summary) : Type 0 where
-  pub count : s.count ≡ length zs
   pub total : s.total ≡ sum_of zs
   pub least : IsFirst below zs s.least
   pub greatest : IsFirst above zs s.greatest
@@ -39,3 +41,7 @@ numbers_in f d = values_of f d.numbers
 
 abbrev pub values_in : Kind → ℕ → FlatDocument → ℕ
 values_in kind f d = length (values_shown kind f d)
+
+-- what is kept is what the numbers of its field come to over these documents
+pub record IsKept (view : List EntryState) (scores : List (List (Option ℕ))) (kept : Option FieldSummary) : Type 0 where
+  pub is : (own : FieldSummary) → kept ≡ Some own → IsSummary (flat_map (numbers_in own.field) (flats_of_view view scores)) own.sums

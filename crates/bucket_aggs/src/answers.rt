@@ -1,6 +1,6 @@
 //! The answers to definitions of buckets.
 
-ghost use Rattle.std.specs.Prelude.{◌≡◌, ◌<◌, ℕ, true, List, [], Option, Some, None, map, pos, IfOk};
+ghost use Rattle.std.specs.Prelude.{◌≡◌, ◌<◌, ℕ, true, List, [], Option, Some, None, map, pos, IfOk, OnOk};
 ghost use Rattle.join_ordinals.specs.Ordinals.{AreOrdinals};
 ghost use Rattle.query_ast.specs.Agg.View.{agg_of};
 ghost use Rattle.query_ast.specs.Definition.{definitions_of};
@@ -16,9 +16,10 @@ ghost use Rattle.tree_objects.specs.Object.{Object};
 ghost use Rattle.tree_objects.specs.Tree.{Tree};
 ghost use Rattle.bucket_aggs.specs.Counts.{AreKeys};
 ghost use Rattle.bucket_aggs.specs.Given.{AreReplies, IsAnswer, bucket_by, buckets_by, count_by_field, greatest_by, least_by, more_replies, reply_by, single_by, sum_by_field, value_by};
+ghost use Rattle.bucket_aggs.specs.Sums.{IsKept};
 
 use crate::NoMemory;
-use crate::metrics::{summed, value_count};
+use crate::metrics::{FieldSummary, summed, value_count};
 use crate::objects::{alike, count_of, filtered, inside_of};
 use crate::rows::{CountRow, copied, ordered, sum_of_counts};
 use crate::terms::counted;
@@ -90,8 +91,9 @@ fn replies(
     ensures { (given : List Tree → Object → Option ℕ) → IsSeen mapping.now entries.now scope given objects.now → IfOk result (λ made. AreReplies mapping.now entries.now scope (definitions_of (map agg_of aggs.now)) given (map reply_part made.items)) }
 {
     let none = Vec::new(alloc);
+    let mut kept = None;
     Ok(further(
-        alloc, entries, mapping, ordinals, aggs, scope, objects, none,
+        alloc, entries, mapping, ordinals, aggs, scope, objects, none, &mut kept,
     )?)
 }
 
@@ -107,19 +109,21 @@ fn further(
     scope: u32,
     objects: &Matches,
     mut made: Vec<AggReply>,
+    kept: &mut Option<FieldSummary>,
 ) -> Result<Vec<AggReply>, NoMemory>
     requires resolved { AreAggDefinitions mapping.now scope (definitions_of (map agg_of aggs.now)) }
     requires joined { some_agg_joins (definitions_of (map agg_of aggs.now)) ≡ true → AreOrdinals entries.now ordinals.now }
     requires long { AreLong entries.now objects.now }
+    requires kept { IsKept entries.now objects.now kept.old }
     ensures { (given : List Tree → Object → Option ℕ) → IsSeen mapping.now entries.now scope given objects.now → IfOk result (λ all. IsAnswer mapping.now entries.now scope (more_replies mapping.now (definitions_of (map agg_of aggs.now)) (map reply_part made.items)) given (map reply_part all.items)) }
 {
     match aggs {
         [] => Ok(made),
         [def, rest @ ..] => {
-            let own = reply(alloc, entries, mapping, ordinals, def, scope, objects)?;
+            let own = reply(alloc, entries, mapping, ordinals, def, scope, objects, kept)?;
             made.push(own)?;
             Ok(further(
-                alloc, entries, mapping, ordinals, rest, scope, objects, made,
+                alloc, entries, mapping, ordinals, rest, scope, objects, made, kept,
             )?)
         }
     }
@@ -135,14 +139,17 @@ fn reply(
     def: &AggDef,
     scope: u32,
     objects: &Matches,
+    kept: &mut Option<FieldSummary>,
 ) -> Result<AggReply, NoMemory>
     requires resolved { IsAggDefinition mapping.now scope (agg_of def.now) }
     requires joined { agg_joins (agg_of def.now) ≡ true → AreOrdinals entries.now ordinals.now }
     requires long { AreLong entries.now objects.now }
-    ensures { (given : List Tree → Object → Option ℕ) → IsSeen mapping.now entries.now scope given objects.now → IfOk result (λ reply. IsAnswer mapping.now entries.now scope (reply_by mapping.now (agg_of def.now)) given (reply_part reply)) }
+    requires kept { IsKept entries.now objects.now kept.old }
+    ensures reply { (given : List Tree → Object → Option ℕ) → IsSeen mapping.now entries.now scope given objects.now → IfOk result (λ reply. IsAnswer mapping.now entries.now scope (reply_by mapping.now (agg_of def.now)) given (reply_part reply)) }
+    ensures kept { OnOk result (IsKept entries.now objects.now kept.new) }
 {
     let answer = value(
-        alloc, entries, mapping, ordinals, &def.form, &def.inner, scope, objects,
+        alloc, entries, mapping, ordinals, &def.form, &def.inner, scope, objects, kept,
     )?;
     let name = Bytes::of(Vec::from_slice(alloc, def.name.as_slice())?);
     Ok(AggReply {
@@ -162,13 +169,16 @@ fn value(
     inner: &AggList,
     scope: u32,
     objects: &Matches,
+    kept: &mut Option<FieldSummary>,
 ) -> Result<AggValue, NoMemory>
     requires form { IsForm mapping.now scope form.now (definitions_of inner.now) }
     requires inner { AreAggDefinitions mapping.now (scope_of_form scope form.now) (definitions_of inner.now) }
     requires joined { form_joins form.now ≡ true → AreOrdinals entries.now ordinals.now }
     requires joined_inside { some_agg_joins (definitions_of inner.now) ≡ true → AreOrdinals entries.now ordinals.now }
     requires long { AreLong entries.now objects.now }
-    ensures { (given : List Tree → Object → Option ℕ) → IsSeen mapping.now entries.now scope given objects.now → IfOk result (λ value. IsAnswer mapping.now entries.now scope (value_by mapping.now form.now (definitions_of inner.now)) given (value_of value)) }
+    requires kept { IsKept entries.now objects.now kept.old }
+    ensures value { (given : List Tree → Object → Option ℕ) → IsSeen mapping.now entries.now scope given objects.now → IfOk result (λ value. IsAnswer mapping.now entries.now scope (value_by mapping.now form.now (definitions_of inner.now)) given (value_of value)) }
+    ensures kept { OnOk result (IsKept entries.now objects.now kept.new) }
 {
     match form {
         AggForm::Filter(query) => Ok(hitting(
@@ -204,9 +214,9 @@ fn value(
             scope,
             objects,
         )?),
-        AggForm::Min(field) => Ok(AggValue::Metric(least(entries, *field, objects)?)),
-        AggForm::Max(field) => Ok(AggValue::Metric(greatest(entries, *field, objects)?)),
-        AggForm::Sum(field) => Ok(AggValue::Metric(Some(sum(entries, *field, objects)?))),
+        AggForm::Min(field) => Ok(AggValue::Metric(least(entries, *field, objects, kept)?)),
+        AggForm::Max(field) => Ok(AggValue::Metric(greatest(entries, *field, objects, kept)?)),
+        AggForm::Sum(field) => Ok(AggValue::Metric(Some(sum(entries, *field, objects, kept)?))),
         AggForm::ValueCount(field) => Ok(AggValue::Metric(Some(count(
             entries, mapping, *field, objects,
         )?))),
@@ -542,14 +552,21 @@ fn bucket(
 }
 
 /// The least value of a field; None where there is none.
-fn least(entries: &[Entry], field: Option<u32>, objects: &Matches) -> Result<Option<i64>, NoMemory>
-    requires { AreLong entries.now objects.now }
-    ensures { (m : Meaning) (n : ℕ) (given : List Tree → Object → Option ℕ) → IsUse (λ u. u.summed) m field → IsSeen m entries.now n given objects.now → IfOk result (IsAnswer m entries.now n (least_by m field) given) }
+fn least(
+    entries: &[Entry],
+    field: Option<u32>,
+    objects: &Matches,
+    kept: &mut Option<FieldSummary>,
+) -> Result<Option<i64>, NoMemory>
+    requires long { AreLong entries.now objects.now }
+    requires kept { IsKept entries.now objects.now kept.old }
+    ensures answer { (m : Meaning) (n : ℕ) (given : List Tree → Object → Option ℕ) → IsUse (λ u. u.summed) m field → IsSeen m entries.now n given objects.now → IfOk result (IsAnswer m entries.now n (least_by m field) given) }
+    ensures kept { OnOk result (IsKept entries.now objects.now kept.new) }
 {
     documents_show_values();
     match field {
         Some(field) => {
-            let sums = summed(entries, field, objects)?;
+            let sums = summed(entries, field, objects, kept)?;
             Ok(sums.least)
         }
         None => Ok(None),
@@ -561,14 +578,17 @@ fn greatest(
     entries: &[Entry],
     field: Option<u32>,
     objects: &Matches,
+    kept: &mut Option<FieldSummary>,
 ) -> Result<Option<i64>, NoMemory>
-    requires { AreLong entries.now objects.now }
-    ensures { (m : Meaning) (n : ℕ) (given : List Tree → Object → Option ℕ) → IsUse (λ u. u.summed) m field → IsSeen m entries.now n given objects.now → IfOk result (IsAnswer m entries.now n (greatest_by m field) given) }
+    requires long { AreLong entries.now objects.now }
+    requires kept { IsKept entries.now objects.now kept.old }
+    ensures answer { (m : Meaning) (n : ℕ) (given : List Tree → Object → Option ℕ) → IsUse (λ u. u.summed) m field → IsSeen m entries.now n given objects.now → IfOk result (IsAnswer m entries.now n (greatest_by m field) given) }
+    ensures kept { OnOk result (IsKept entries.now objects.now kept.new) }
 {
     documents_show_values();
     match field {
         Some(field) => {
-            let sums = summed(entries, field, objects)?;
+            let sums = summed(entries, field, objects, kept)?;
             Ok(sums.greatest)
         }
         None => Ok(None),
@@ -576,14 +596,21 @@ fn greatest(
 }
 
 /// The sum of the values of a field, clamped to 64 bits; 0 where there is none.
-fn sum(entries: &[Entry], field: Option<u32>, objects: &Matches) -> Result<i64, NoMemory>
-    requires { AreLong entries.now objects.now }
-    ensures { (m : Meaning) (n : ℕ) (given : List Tree → Object → Option ℕ) → IsUse (λ u. u.summed) m field → IsSeen m entries.now n given objects.now → IfOk result (IsAnswer m entries.now n (sum_by_field m field) given) }
+fn sum(
+    entries: &[Entry],
+    field: Option<u32>,
+    objects: &Matches,
+    kept: &mut Option<FieldSummary>,
+) -> Result<i64, NoMemory>
+    requires long { AreLong entries.now objects.now }
+    requires kept { IsKept entries.now objects.now kept.old }
+    ensures answer { (m : Meaning) (n : ℕ) (given : List Tree → Object → Option ℕ) → IsUse (λ u. u.summed) m field → IsSeen m entries.now n given objects.now → IfOk result (IsAnswer m entries.now n (sum_by_field m field) given) }
+    ensures kept { OnOk result (IsKept entries.now objects.now kept.new) }
 {
     documents_show_values();
     match field {
         Some(field) => {
-            let sums = summed(entries, field, objects)?;
+            let sums = summed(entries, field, objects, kept)?;
             Ok(sums.sum())
         }
         None => Ok(0),

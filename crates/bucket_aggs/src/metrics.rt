@@ -8,7 +8,7 @@ ghost use Rattle.query_eval.specs.Found.{AreLong};
 ghost use Rattle.segment.specs.Flat.{flat_of};
 ghost use Rattle.segment_parts.specs.Text.{marked_places};
 ghost use Rattle.bucket_aggs.specs.Counts.{flats_of_view};
-ghost use Rattle.bucket_aggs.specs.Sums.{IsSummary, above, below, first_of, numbers_in, values_in};
+ghost use Rattle.bucket_aggs.specs.Sums.{IsKept, IsSummary, above, below, first_of, numbers_in, values_in};
 
 use crate::NoMemory;
 use crate::columns::{has_most, is_in, is_text};
@@ -20,10 +20,9 @@ use mapping::Kind;
 use segment::{Segment, values_are_of_documents};
 use segment_view::Entry;
 
-/// How many numbers there are, their sum, the least and the greatest.
+/// The sum of numbers, the least and the greatest.
 #[derive(Clone, Copy)]
 pub(crate) struct Summary {
-    pub(crate) count: u64,
     pub(crate) total: i128,
     pub(crate) least: Option<i64>,
     pub(crate) greatest: Option<i64>,
@@ -35,25 +34,23 @@ impl Summary {
         ensures { IsSummary [] result }
     {
         Summary {
-            count: 0,
             total: 0,
             least: None,
             greatest: None,
         }
     }
 
-    /// With one number more. `NoMemory` where 2^64 were added, or their sum has no 128 bits.
+    /// With one number more. `NoMemory` where their sum has no 128 bits.
+    ///
+    /// Inlined, as `add_values` is, so that the sums of a loop stay in registers.
+    #[inline(always)]
     fn add(&mut self, number: i64) -> Result<(), NoMemory>
         ensures { (zs : List ℤ) → IsSummary zs self.old → OnOk result (IsSummary (zs ++ number ∷ []) self.new) }
     {
-        let Some(count) = self.count.checked_add(1) else {
-            return Err(NoMemory);
-        };
         let Some(total) = self.total.checked_add(i128::from(number)) else {
             return Err(NoMemory);
         };
         *self = Summary {
-            count,
             total,
             least: Some(lesser(self.least, number)),
             greatest: Some(greater(self.greatest, number)),
@@ -89,8 +86,37 @@ fn greater(greatest: Option<i64>, number: i64) -> i64
     }
 }
 
-/// What the numbers of a field come to over all objects.
-pub(crate) fn summed(entries: &[Entry], field: u32, objects: &Matches) -> Result<Summary, NoMemory>
+/// What the numbers of a field come to.
+#[derive(Clone, Copy)]
+pub(crate) struct FieldSummary {
+    field: u32,
+    sums: Summary,
+}
+
+/// What the numbers of a field come to over all objects. It is kept: a field that is asked for once more costs no walk.
+pub(crate) fn summed(
+    entries: &[Entry],
+    field: u32,
+    objects: &Matches,
+    kept: &mut Option<FieldSummary>,
+) -> Result<Summary, NoMemory>
+    requires long { AreLong entries.now objects.now }
+    requires kept { IsKept entries.now objects.now kept.old }
+    ensures sums { IfOk result (IsSummary (flat_map (numbers_in field) (flats_of_view entries.now objects.now))) }
+    ensures kept { OnOk result (IsKept entries.now objects.now kept.new) }
+{
+    if let Some(last) = *kept {
+        if last.field == field {
+            return Ok(last.sums);
+        }
+    }
+    let sums = sum_all(entries, field, objects)?;
+    *kept = Some(FieldSummary { field, sums });
+    Ok(sums)
+}
+
+/// The same, with nothing kept.
+fn sum_all(entries: &[Entry], field: u32, objects: &Matches) -> Result<Summary, NoMemory>
     requires { AreLong entries.now objects.now }
     ensures { IfOk result (IsSummary (flat_map (numbers_in field) (flats_of_view entries.now objects.now))) }
 {
@@ -136,11 +162,13 @@ fn add_documents(set: &BitSet, column: &NumberColumn, sums: &mut Summary) -> Res
 fn add_rows(set: &BitSet, column: &NumberColumn, sums: &mut Summary) -> Result<(), NoMemory>
     ensures { (zs : List ℤ) → IsSummary zs sums.old → OnOk result (IsSummary (zs ++ flat_map (λ doc. values_of doc column.now) (marked_places 0 set.now)) sums.new) }
 {
+    let mut own = *sums;
     'rows: for row in 0..column.rows() {
         if is_in(set, column.doc(row)) {
-            add_values(column.row_values(row), sums)?;
+            add_values(column.row_values(row), &mut own)?;
         }
     }
+    *sums = own;
     Ok(())
 }
 
@@ -159,6 +187,7 @@ fn add_each(set: &BitSet, column: &NumberColumn, sums: &mut Summary) -> Result<(
 }
 
 /// Adds the numbers of a document.
+#[inline(always)]
 fn add_values(values: Values<i64>, sums: &mut Summary) -> Result<(), NoMemory>
     ensures { (zs : List ℤ) → IsSummary zs sums.old → OnOk result (IsSummary (zs ++ values.entry) sums.new) }
 {

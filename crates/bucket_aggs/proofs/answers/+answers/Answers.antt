@@ -110,14 +110,14 @@ further-returns-in_ok-further-in-len1-up t c = λ given is.
     let own : AggReply = c.in_ok-own-in-len1-up.own in
     let pushed : map reply_part c.push.new.self.items ≡ old ++ reply_part own ∷ [] = ap (map reply_part) c.in_ok-push-in-len1-up.ensures.items ∙ map-append reply_part c.args.made.items (own ∷ []) in
     subst (λ (ds : Definitions Agg). IsAnswer m view c.args.scope (more_replies m ds old) given new) (sym (definitions_parts c.args.aggs.now d (omega (arith, c.in-len1-up.len_at_least)) c.def-item.is))
-    (replies_more m view c.args.scope given (agg_of d) rest old new (reply_part own) (c.in_ok-own-in-len1-up.ensures given is)
+    (replies_more m view c.args.scope given (agg_of d) rest old new (reply_part own) (c.in_ok-own-in-len1-up.ensures.reply given is)
     (subst (λ (l : List ReplyPart). IsAnswer m view c.args.scope (more_replies m rest l) given new) pushed (c.in_ok-further-in-len1-up.ensures given is)))
 
-pub reply-returns : goal.reply-returns
-reply-returns t c = λ given is.
+pub reply-returns-clause-reply : goal.reply-returns-clause-reply
+reply-returns-clause-reply t c = λ given is.
     let def : AggDef = c.args.def.now in
     let named : c.of-name.result ≡ def.name = c.of-name.ensures ∙ c.in_ok-from_slice.ensures.items ∙ c.as_slice.ensures in
-    reply_is c.args.mapping.now c.args.entries.now c.args.scope given (record { name = def.name; form = def.form }) (definitions_of def.inner) c.of-name.result (value_of c.in_ok-answer.answer) named (c.in_ok-answer.ensures given is)
+    reply_is c.args.mapping.now c.args.entries.now c.args.scope given (record { name = def.name; form = def.form }) (definitions_of def.inner) c.of-name.result (value_of c.in_ok-answer.answer) named (c.in_ok-answer.ensures.value given is)
 
 pub terms-returns-in_ok-mapped_terms-in-Some : goal.terms-returns-in_ok-mapped_terms-in-Some
 terms-returns-in_ok-mapped_terms-in-Some t c = λ given is.
@@ -225,28 +225,28 @@ mapped_terms-returns t c = λ given is.
     terms_is m view c.args.scope f size c.args.by_key c.args.descending ds given c.args.objects.now rows c.of.result c.in_ok-other.other
     (λ o. c.documents_show_values.ensures.shown m f o c.requires.field.0 c.requires.field.1) is counts (c.in_ok-other.ensures ∙ ap (sum_by count_in) others) answered
 
-pub value-returns-in_ok-least-in-Min : goal.value-returns-in_ok-least-in-Min
-value-returns-in_ok-least-in-Min t c = λ given is.
+pub value-returns-in_ok-least-in-Min-clause-value : goal.value-returns-in_ok-least-in-Min-clause-value
+value-returns-in_ok-least-in-Min-clause-value t c = λ given is.
     let m = c.args.mapping.now in
     let view = c.args.entries.now in
     let ds = definitions_of c.args.inner.now in
     let field : Option ℕ = c.in-Min.field in
     let asked = (subst (λ (form : AggForm). IsForm m c.args.scope form ds) c.in-Min.is c.requires.form).0 in
     subst (λ (form : AggForm). IsAnswer m view c.args.scope (value_by m form ds) given (metric c.in_ok-least-in-Min.field-0)) (sym c.in-Min.is)
-    (metric_is m view c.args.scope (least_by m field) (value_by m (MinOf field) ds) given c.in_ok-least-in-Min.field-0 (λ live objects. refl) (c.in_ok-least-in-Min.ensures m c.args.scope given asked is))
+    (metric_is m view c.args.scope (least_by m field) (value_by m (MinOf field) ds) given c.in_ok-least-in-Min.field-0 (λ live objects. refl) (c.in_ok-least-in-Min.ensures.answer m c.args.scope given asked is))
 
-pub value-returns-in_ok-greatest-in-Max : goal.value-returns-in_ok-greatest-in-Max
-value-returns-in_ok-greatest-in-Max t c = λ given is.
+pub value-returns-in_ok-greatest-in-Max-clause-value : goal.value-returns-in_ok-greatest-in-Max-clause-value
+value-returns-in_ok-greatest-in-Max-clause-value t c = λ given is.
     let m = c.args.mapping.now in
     let view = c.args.entries.now in
     let ds = definitions_of c.args.inner.now in
     let field : Option ℕ = c.in-Max.field in
     let asked = (subst (λ (form : AggForm). IsForm m c.args.scope form ds) c.in-Max.is c.requires.form).0 in
     subst (λ (form : AggForm). IsAnswer m view c.args.scope (value_by m form ds) given (metric c.in_ok-greatest-in-Max.field-0)) (sym c.in-Max.is)
-    (metric_is m view c.args.scope (greatest_by m field) (value_by m (MaxOf field) ds) given c.in_ok-greatest-in-Max.field-0 (λ live objects. refl) (c.in_ok-greatest-in-Max.ensures m c.args.scope given asked is))
+    (metric_is m view c.args.scope (greatest_by m field) (value_by m (MaxOf field) ds) given c.in_ok-greatest-in-Max.field-0 (λ live objects. refl) (c.in_ok-greatest-in-Max.ensures.answer m c.args.scope given asked is))
 
-pub value-returns-in_ok-sum-in-Sum : goal.value-returns-in_ok-sum-in-Sum
-value-returns-in_ok-sum-in-Sum t c = λ given is.
+pub value-returns-in_ok-sum-in-Sum-clause-value : goal.value-returns-in_ok-sum-in-Sum-clause-value
+value-returns-in_ok-sum-in-Sum-clause-value t c = λ given is.
     let m = c.args.mapping.now in
     let view = c.args.entries.now in
     let ds = definitions_of c.args.inner.now in
@@ -256,10 +256,10 @@ value-returns-in_ok-sum-in-Sum t c = λ given is.
     let fits : SFits w64 z = search rules in
     subst (λ (form : AggForm). IsAnswer m view c.args.scope (value_by m form ds) given (metric (Some (to_z w64 (of_z w64 z))))) (sym c.in-Sum.is)
     (subst (λ (number : ℤ). IsAnswer m view c.args.scope (value_by m (SumOf field) ds) given (metric (Some number))) (sym (to_z-of_z w64 z fits))
-    (number_is m view c.args.scope (sum_by_field m field) (value_by m (SumOf field) ds) given c.in_ok-sum-in-Sum.field-0 (λ live objects. refl) (c.in_ok-sum-in-Sum.ensures m c.args.scope given asked is)))
+    (number_is m view c.args.scope (sum_by_field m field) (value_by m (SumOf field) ds) given c.in_ok-sum-in-Sum.field-0 (λ live objects. refl) (c.in_ok-sum-in-Sum.ensures.answer m c.args.scope given asked is)))
 
-pub value-returns-in_ok-count-in-ValueCount : goal.value-returns-in_ok-count-in-ValueCount
-value-returns-in_ok-count-in-ValueCount t c = λ given is.
+pub value-returns-in_ok-count-in-ValueCount-clause-value : goal.value-returns-in_ok-count-in-ValueCount-clause-value
+value-returns-in_ok-count-in-ValueCount-clause-value t c = λ given is.
     let m = c.args.mapping.now in
     let view = c.args.entries.now in
     let ds = definitions_of c.args.inner.now in

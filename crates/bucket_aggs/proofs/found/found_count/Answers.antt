@@ -1,4 +1,3 @@
-use Rattle.query_eval.specs.Found.{live_trees, score_by}
 use Rattle.bucket_aggs.proofs.Rooted.{hits_counted}
 use Rattle.bucket_aggs.proofs.found.found_count.Goals as goal
 

@@ -1,7 +1,5 @@
 use Rattle.std.proofs.Common.{◌≡◌, ◌<◌, ◌+◌, ◌++◌, ℤ, Bool, true, false, cond, List, [], length, get_or, drop, sym, ap, subst, ◌∙◌, arith, append_assoc}
 use Rattle.std.specs.List.{flat_map}
-use Rattle.doc_values.specs.Values.{values_of}
-use Rattle.segment_parts.specs.Text.{marked_places}
 use Rattle.bucket_aggs.specs.Sums.{IsSummary}
 use Rattle.bucket_aggs.specs.declared.metrics.Summary.{Summary}
 use Rattle.bucket_aggs.proofs.Documents.{nothing_behind}
@@ -22,7 +20,7 @@ rows-preserved c =
           told_next c.args.set.now c.args.column.now c.rows.row c.doc.result w.row_values.result low c.doc.ensures w.row_values.ensures
           ∙ ap (λ (b : Bool). cond b w.row_values.result [] ++ rest) held in (
             was.0 ++ w.row_values.result,
-            subst (λ (s : Summary). IsSummary (zs ++ (was.0 ++ w.row_values.result)) s) (sym w.sums-is)
+            subst (λ (s : Summary). IsSummary (zs ++ (was.0 ++ w.row_values.result)) s) (sym w.own-is)
                 (subst (λ (l : List ℤ). IsSummary l w.add_values.new.sums) (append_assoc zs was.0 w.row_values.result) (w.in_ok-add_values.ensures (zs ++ was.0) was.1)),
             append_assoc was.0 w.row_values.result rest ∙ ap (λ (l : List ℤ). was.0 ++ l) (sym step) ∙ was.2,
           )
@@ -31,7 +29,7 @@ rows-preserved c =
           let was = c.rows.invariant zs is in
           let failed : get_or c.args.set.now c.doc.result false ≡ false = sym c.is_in.ensures ∙ w.if-is_in.false in (
             was.0,
-            subst (λ (s : Summary). IsSummary (zs ++ was.0) s) (sym w.sums-is) was.1,
+            subst (λ (s : Summary). IsSummary (zs ++ was.0) s) (sym w.own-is) was.1,
             ap (λ (l : List ℤ). was.0 ++ l) (sym (told_skip c.args.set.now c.args.column.now c.rows.row c.doc.result low c.doc.ensures failed)) ∙ was.2,
           )
     ]
@@ -44,4 +42,4 @@ returns c = λ zs is.
     nothing_behind was.0
     ∙ ap (λ (l : List ℤ). was.0 ++ l) (sym (told_end c.args.set.now c.args.column.now c.rows.row (omega (arith, c.rows-test.false, c.rows-row-end.ensures.count))))
     ∙ was.2 in
-    subst (λ (l : List ℤ). IsSummary (zs ++ l) c.rows.sums) (done ∙ sym (rows_told c.args.set.now c.args.column.now c.rows-row-end.ensures.ascending)) was.1
+    subst (λ (l : List ℤ). IsSummary (zs ++ l) c.rows.own) (done ∙ sym (rows_told c.args.set.now c.args.column.now c.rows-row-end.ensures.ascending)) was.1

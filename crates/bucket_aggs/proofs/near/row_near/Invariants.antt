@@ -1,4 +1,4 @@
-use Rattle.std.proofs.Common.{◌≡◌, ◌-◌, ◌<◌, ◌≤◌, length}
+use Rattle.std.proofs.Common.{◌-◌, ◌<◌, ◌≤◌, length}
 use Rattle.bucket_aggs.proofs.near.row_near.Given as goal
 
 abbrev pub invariant-leaps : goal.invariant-leaps

@@ -1,4 +1,4 @@
-use Rattle.std.proofs.Common.{◌≡◌, ◌<◌, count_by, ◌-◌, ℕ, List, None, Some, ap, sym, subst, length, ◌∙◌, arith}
+use Rattle.std.proofs.Common.{◌≡◌, ◌<◌, count_by, ℕ, List, None, Some, ap, sym, subst, length, ◌∙◌, arith}
 use Rattle.std.specs.List.Sorted.{IsPermutation}
 use Rattle.segment_parts.specs.Fields.{column_of}
 use Rattle.segment_parts.specs.Text.{marked_places}

@@ -1,4 +1,4 @@
-use Rattle.std.proofs.Common.{◌-◌, length, arith}
+use Rattle.std.proofs.Common.{length, arith}
 use Rattle.bucket_aggs.proofs.Termed.{counts_step}
 use Rattle.bucket_aggs.proofs.terms.put_terms.Goals as goal
 

@@ -13,20 +13,19 @@ returns c = λ zs is.
     let own : to_z w64 (of_z w64 z) ≡ z = to_z-of_z w64 z c.ranges.number in
     let low : SFits w64 c.lesser.result = search rules in
     let high : SFits w64 c.greater.result = search rules in
-    let all : SFits w128 c.in-Some-checked_add.total = search rules in
+    let all : SFits w128 c.in-Some.total = search rules in
     let sofar : SFits w128 old.total = search rules in
     let more : SFits w128 c.from.result = search rules in
-    summary_next zs old z c.in-Some.count (to_z w128 (of_z w128 c.in-Some-checked_add.total)) (to_z w64 (of_z w64 c.lesser.result)) (to_z w64 (of_z w64 c.greater.result)) is
-    (omega arith)
+    summary_next zs old z (to_z w128 (of_z w128 c.in-Some.total)) (to_z w64 (of_z w64 c.lesser.result)) (to_z w64 (of_z w64 c.greater.result)) is
     (omega (
       arith,
       ints,
-      to_z-of_z w128 c.in-Some-checked_add.total all,
+      to_z-of_z w128 c.in-Some.total all,
       to_z-of_z w128 old.total sofar,
       to_z-of_z w128 c.from.result more,
       c.from.ensures,
       own,
-      c.in-Some-checked_add.ensures.1,
+      c.in-Some.ensures.1,
     ))
     (to_z-of_z w64 c.lesser.result low ∙ c.lesser.ensures ∙ ap (first_of below old.least) own)
     (to_z-of_z w64 c.greater.result high ∙ c.greater.ensures ∙ ap (first_of above old.greatest) own)

@@ -1,6 +1,6 @@
 use Rattle.std.proofs.Common.{◌≡◌, ◌+◌, ◌++◌, List, length, get_or, ap, ◌∙◌, arith}
 use Rattle.bucket_aggs.proofs.Viewed.{Scores, flats_from, flats_step, long_view, own_flats, summing_step}
-use Rattle.bucket_aggs.proofs.metrics.summed.Goals as goal
+use Rattle.bucket_aggs.proofs.metrics.sum_all.Goals as goal
 
 pub bounds-objects-at : goal.bounds-objects-at
 bounds-objects-at c = omega (arith, c.entries-test.true, long_view c.args.entries.now c.args.objects.now c.requires, ap (λ (l : List Scores). length l) c.as_slice-objects.ensures)
