@@ -18,9 +18,9 @@ returns c =
     let kept = subst (λ (s : BlocksState). All (IsKeptOrMade s.entries s.made) ready) (sym c.self.view_is) c.requires in
     let is = ap (λ (s : BlocksState). s.entries) c.self.view_is in (
       λ no.
-      same_view it.made it.entries ready c.entries-2.ensures.ids c.self.invariant.below.ids kept
-      (ap (map entry_id) (sym c.entries.ensures.entries) ∙ ids.0 (not_false c.have_same_ids.result no) ∙ ap (map entry_id) c.entries-2.ensures.entries)
-      ∙ is,
+          same_view it.made it.entries ready c.entries-2.ensures.ids c.self.invariant.below.ids kept
+          (ap (map entry_id) (sym c.entries.ensures.entries) ∙ ids.0 (not_false c.have_same_ids.result no) ∙ ap (map entry_id) c.entries-2.ensures.entries)
+          ∙ is,
       λ same.
-      ap not (ids.1 (ap (map entry_id) (c.entries.ensures.entries ∙ same ∙ sym is ∙ sym c.entries-2.ensures.entries))),
+          ap not (ids.1 (ap (map entry_id) (c.entries.ensures.entries ∙ same ∙ sym is ∙ sym c.entries-2.ensures.entries))),
     )
