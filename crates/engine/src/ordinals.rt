@@ -30,13 +30,7 @@ pub(crate) fn taken(kept: &mut Option<(u64, JoinOrdinals)>, id: u64) -> Option<J
     ensures gone { kept.new ≡ None }
 {
     match kept.take() {
-        Some((own, ordinals)) => {
-            if own == id {
-                Some(ordinals)
-            } else {
-                None
-            }
-        }
+        Some((own, ordinals)) => { if own == id { Some(ordinals) } else { None } }
         None => None,
     }
 }

@@ -130,7 +130,14 @@ fn search_over<L: Ledger>(
 {
     match search.pit {
         None => search_live(
-            alloc, limits, mapping, index, &mut ordinals.live, search, out, steps,
+            alloc,
+            limits,
+            mapping,
+            index,
+            &mut ordinals.live,
+            search,
+            out,
+            steps,
         ),
         Some(id) => match points.view(id) {
             Some(view) => search_view(

@@ -34,3 +34,11 @@ returns-in-None-view-clause-answers g c = λ state f stand.
     let is = ap (λ (pit : Option ℕ). searched pit (sealed_state state)) c.in-Some.is ∙ none in
     refusal_ends (Some c.args.mapping.now) c.args.index.now state (search_by c.args.limits.now c.args.mapping.now c.args.search.now (sealed_state state)) UnknownPit c.refuse.result c.refuse.new.out.bytes f
     (ap (λ (live : Option (List Tree)). search_over c.args.limits.now c.args.mapping.now c.args.search.now live (sealed_state state)) is) c.refuse.ensures.refused
+
+pub search_view-requires-clause-ordinals : goal.search_view-requires-clause-ordinals
+search_view-requires-clause-ordinals g c =
+    (c.args.points.now, sym (sym (ap (option_map (λ view. view.now)) c.in-Some-view.is) ∙ c.view.ensures), c.requires.ordinals)
+
+pub returns-in-Some-view-clause-ordinals : goal.returns-in-Some-view-clause-ordinals
+returns-in-Some-view-clause-ordinals g c =
+    c.search_view.ensures.ordinals c.args.points.now (sym (sym (ap (option_map (λ view. view.now)) c.in-Some-view.is) ∙ c.view.ensures)) c.requires.ordinals
