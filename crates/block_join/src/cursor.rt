@@ -1,6 +1,6 @@
 //! Scores read in the order of their documents.
 
-ghost use Rattle.std.specs.Prelude.{◌≡◌, ℕ, ◌+◌, ◌-◌, ◌<◌, ◌≤◌, List, [], ◌∷◌, length, IfSome, IfNone};
+ghost use Rattle.std.specs.Prelude.{◌≡◌, ℕ, ◌+◌, ◌-◌, ◌<◌, ◌≤◌, List, [], ◌∷◌, length, Some, IfSome, IfNone};
 ghost use Rattle.std.specs.Option.{is_some};
 ghost use Rattle.block_bits.specs.Places.{next_place};
 ghost use Rattle.block_join.specs.Kept.{shown, score_of, AreScores};
@@ -77,6 +77,7 @@ impl<'a> Cursor<'a> {
         ensures score { IfSome result (λ score. between self.old.scores self.old.from end ≡ score ∷ between self.new.scores self.new.from end) }
         ensures capped { IfSome result (λ score. score ≤ SCORE_CAP) }
         ensures later { IfSome result (λ score. (self.old.from < self.new.from) × (self.new.from ≤ end)) }
+        ensures document { IfSome result (λ score. next_place is_some self.old.from self.old.scores ≡ Some (self.new.from - 1)) }
         ensures none { IfNone result ((between self.old.scores self.old.from end ≡ []) × (self.new.from ≡ end)) }
     {
         match self.ahead {

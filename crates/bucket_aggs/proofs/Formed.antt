@@ -222,6 +222,9 @@ bucket_is m view n f ds given row parts plain answered = record {
 pub bucket_alone : (m : Mapping) (view : List EntryState) (n f : ℕ) (given : Given) (row : CountRow) → IsAnswer m view n (bucket_by m f no_definitions row) given (record { key = row.key; count = row.count; inner = replies_of [] })
 bucket_alone m view n f given row = record { is = λ trees stand own. refl }
 
+pub no_replies : (m : Mapping) (view : List EntryState) (n : ℕ) (given : Given) → AreReplies m view n no_definitions given []
+no_replies m view n given = record { is = λ trees stand own. refl }
+
 -- ---- one answer after the other
 
 nothing_behind : (parts : List ReplyPart) → parts ++ [] ≡ parts

@@ -15,7 +15,6 @@ pub mod Placed
 pub mod Viewed
 pub mod Groups
 pub mod Told
-pub mod NearRows
 pub mod Sums
 pub mod Least
 pub mod Formed

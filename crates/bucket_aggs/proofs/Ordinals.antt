@@ -1,5 +1,5 @@
 -- The ordinals of a document, each counted once.
-use Rattle.std.proofs.Common.{◌≡◌, ℕ, ◌+◌, ◌==◌, Bool, true, false, ◌&&◌, cond, List, [], ◌∷◌, count_by, Option, Some, None, refl, sym, ap, ◌∙◌}
+use Rattle.std.proofs.Common.{◌≡◌, ℕ, ◌+◌, ◌==◌, Bool, true, false, ◌&&◌, cond, List, [], ◌∷◌, length, slice_get, count_by, Option, Some, None, refl, sym, ap, ◌∙◌, arith}
 use Rattle.std.specs.List.{list_any}
 use Rattle.std.specs.List.Sorted.{IsSorted}
 use Rattle.std.specs.Ordering.{is_eq, nat_cmp}
@@ -8,6 +8,7 @@ use Rattle.std.specs.declared.cmp.Ordering.TheVariants.{Less, Equal, Greater}
 use Rattle.std.proofs.lemmas.Bool.{eq-eqb, eqb-true, false≢true}
 use Rattle.std.proofs.lemmas.Cmp.{nat_cmp_total, tied_itself}
 use Rattle.std.proofs.lemmas.Map.Lookups.{exact_unsigned}
+use Rattle.std.proofs.lemmas.Option.{same_Some}
 use Rattle.bucket_aggs.specs.Counts.{has_ordinal, is_again, once_after}
 use Rattle.bucket_aggs.proofs.Lists.{any_same, by_test}
 use Rattle.bucket_aggs.proofs.Onces.{once_counts, sorted_up}
@@ -57,3 +58,9 @@ one_alone x ordinal = by_test (ordinal == x) (λ held. rw held refl) (λ failed.
 
 pub list_alone : (x : ℕ) (ordinals : List ℕ) → count_by (has_ordinal x) (ordinals ∷ []) ≡ cond (has_ordinal x ordinals) 1 0
 list_alone x ordinals = by_test (has_ordinal x ordinals) (λ held. rw held refl) (λ failed. rw failed refl)
+
+-- a document with one ordinal alone
+pub the_only : (ordinals : List ℕ) (ordinal : ℕ) → length ordinals ≡ 1 → slice_get ordinals 0 ≡ Some ordinal → ordinals ≡ ordinal ∷ []
+the_only [] ordinal one first = absurd (omega (arith, one))
+the_only (x ∷ []) ordinal one first = ap (λ n. n ∷ []) (same_Some x ordinal first)
+the_only (x ∷ y ∷ rest) ordinal one first = absurd (omega (arith, one))

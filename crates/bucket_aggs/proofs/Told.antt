@@ -1,8 +1,11 @@
 -- What the marked documents have, row by row.
-use Rattle.std.proofs.Common.{◌≡◌, ℕ, zero, suc, ◌+◌, ◌-◌, ◌==◌, ◌<◌, ◌≤◌, Bool, true, false, cond, List, [], ◌∷◌, ◌++◌, length, drop, get_or, slice_get, Some, refl, sym, ap, ◌∙◌, arith}
+use Rattle.std.proofs.Common.{◌≡◌, ℕ, zero, suc, ◌+◌, ◌-◌, ◌==◌, ◌<◌, ◌≤◌, Bool, true, false, cond, List, [], ◌∷◌, ◌++◌, length, drop, get_or, slice_get, sum_by, Some, refl, sym, ap, ◌∙◌, arith}
 use Rattle.std.specs.List.{flat_map}
 use Rattle.std.specs.List.Sorted.{IsStrictlyIncreasing}
 use Rattle.std.proofs.lemmas.Bool.{eqb-false, eqb-true, ne_eqb}
+use Rattle.std.proofs.lemmas.List.{length-append}
+use Rattle.std.proofs.lemmas.List.Sums.{sum_by-cons}
+use Rattle.std.proofs.lemmas.Option.{same_Some}
 use Rattle.doc_values.specs.Values.{documents, values_of}
 use Rattle.segment_parts.specs.Text.{marked_places}
 use Rattle.bucket_aggs.proofs.Lists.{Each, by_test, each_as}
@@ -130,3 +133,33 @@ module _ {A : Type 0} where
   told_end flags [] (suc at) past = refl
   told_end flags (row ∷ rows) zero past = absurd (omega (arith, past))
   told_end flags (row ∷ rows) (suc at) past = told_end flags rows at (omega (arith, past))
+
+  -- ---- how many there are
+
+  pub flat_length : {B : Type 0} (f : B → List A) (xs : List B) → length (flat_map f xs) ≡ sum_by (λ x. length (f x)) xs
+  flat_length f [] = refl
+  flat_length f (x ∷ xs) = omega (arith, length-append (f x) (flat_map f xs), flat_length f xs, sum_by-cons (λ x. length (f x)) x xs)
+
+  -- a row that is there
+  pub values_at : (rows : RowsOf A) (at : ℕ) → at < length rows → (values : List A) × (slice_get rows at ≡ Some (get_or (documents rows) at 0, values))
+  values_at [] at low = absurd (omega (arith, low))
+  values_at (row ∷ rows) zero low = (row.1, refl)
+  values_at (row ∷ rows) (suc at) low = values_at rows at (omega (arith, low))
+
+  pub count_alike : (rows : RowsOf A) (at doc : ℕ) (own values : List A) → slice_get rows at ≡ Some (doc, own) → slice_get rows at ≡ Some (doc, values) → length own ≡ length values
+  count_alike rows at doc own values is other = ap (λ (row : ℕ × List A). length row.1) (same_Some (doc, own) (doc, values) (sym is ∙ other))
+
+  length_if : (flag : Bool) (values : List A) → length (cond flag values []) ≡ cond flag (length values) 0
+  length_if true values = refl
+  length_if false values = refl
+
+  pub told_count : (flags : List Bool) (rows : RowsOf A) (at : ℕ) (values : List A) → at < length rows → slice_get rows at ≡ Some (get_or (documents rows) at 0, values)
+      → length (flat_map (told flags 0) (drop at rows)) ≡ cond (get_or flags (get_or (documents rows) at 0) false) (length values) 0 + length (flat_map (told flags 0) (drop (at + 1) rows))
+  told_count flags rows at values low is =
+      let here : Bool = get_or flags (get_or (documents rows) at 0) false in
+      omega (
+        arith,
+        ap length (told_next flags rows at (get_or (documents rows) at 0) values low refl is),
+        length-append (cond here values []) (flat_map (told flags 0) (drop (at + 1) rows)),
+        length_if here values,
+      )

@@ -3,7 +3,7 @@
 ghost use Rattle.std.specs.Prelude.{◌≡◌, ◌<◌, ℕ, true, List, [], Option, Some, None, map, pos, IfOk, OnOk};
 ghost use Rattle.join_ordinals.specs.Ordinals.{AreOrdinals};
 ghost use Rattle.query_ast.specs.Agg.View.{agg_of};
-ghost use Rattle.query_ast.specs.Definition.{definitions_of};
+ghost use Rattle.query_ast.specs.Definition.{definitions_of, no_definitions};
 ghost use Rattle.query_ast.specs.Joins.{agg_joins, form_joins, joins, some_agg_joins};
 ghost use Rattle.query_ast.specs.Replies.{no_buckets as no_bucket, several};
 ghost use Rattle.query_ast.specs.declared.agg.AggForm.{AggForm};
@@ -20,7 +20,7 @@ ghost use Rattle.bucket_aggs.specs.Sums.{IsKept};
 
 use crate::NoMemory;
 use crate::metrics::{FieldSummary, summed, value_count};
-use crate::objects::{alike, count_of, filtered, inside_of};
+use crate::objects::{alike, count_of, filtered, have_one_score, inside_of};
 use crate::rows::{CountRow, copied, ordered, sum_of_counts};
 use crate::terms::counted;
 use block_join::Matches;
@@ -29,7 +29,7 @@ use mapping::Mapping;
 use query_ast::{
     AggDef, AggForm, AggList, AggReplies, AggReply, AggValue, Bucket, BucketList, Query, QueryBox,
 };
-use query_eval::{ups, with_children, with_parent_by};
+use query_eval::{kept_hits, up_count, ups, with_children, with_parent_by};
 use score_math::ScoreMode;
 use segment_view::{Entry, View};
 use source_steps::Steps;
@@ -61,6 +61,18 @@ pub fn buckets<L: Ledger>(
     ensures steps { steps.new ≡ steps.old }
 {
     let entries = view.entries();
+    if have_one_score(hits) {
+        let replies = replies(
+            alloc,
+            entries,
+            mapping,
+            ordinals,
+            aggs.as_slice(),
+            scope,
+            hits,
+        )?;
+        return Ok(AggReplies::of(replies));
+    }
     let objects = alike(alloc, entries, mapping, ordinals, scope, hits)?;
     let replies = replies(
         alloc,
@@ -294,11 +306,37 @@ fn around(
     requires long { AreLong entries.now objects.now }
     ensures { (given : List Tree → Object → Option ℕ) → IsSeen mapping.now entries.now scope given objects.now → IfOk result (λ value. IsAnswer mapping.now entries.now scope (value_by mapping.now (AggForm.ReverseNested path) (definitions_of inner.now)) given (value_of value)) }
 {
+    if inner.as_slice().is_empty() {
+        return Ok(around_alone(alloc, entries, mapping, path, scope, objects)?);
+    }
     objects_nest();
     objects_are_parted();
     let _scopes = mapping.scope_count();
     let those = ups(alloc, entries, objects, path, ScoreMode::Max)?;
     Ok(single(alloc, entries, mapping, ordinals, inner, path, &those)?)
+}
+
+/// `reverse_nested` with nothing inside: it is counted alone.
+fn around_alone(
+    alloc: Global,
+    entries: &[Entry],
+    mapping: &Mapping,
+    path: u32,
+    scope: u32,
+    objects: &Matches,
+) -> Result<AggValue, NoMemory>
+    requires path { IsAbove mapping.now path scope }
+    requires long { AreLong entries.now objects.now }
+    ensures { (given : List Tree → Object → Option ℕ) → IsSeen mapping.now entries.now scope given objects.now → IfOk result (λ value. IsAnswer mapping.now entries.now scope (value_by mapping.now (AggForm.ReverseNested path) no_definitions) given (value_of value)) }
+{
+    objects_nest();
+    objects_are_parted();
+    let _scopes = mapping.scope_count();
+    let count = up_count(alloc, entries, objects, path)?;
+    Ok(AggValue::Single {
+        count,
+        inner: AggReplies::of(Vec::new(alloc)),
+    })
 }
 
 /// `children`: the child trees of the roots, by this relation.
@@ -534,7 +572,7 @@ fn bucket(
         value,
         boost: 1,
     };
-    let those = filtered(alloc, entries, mapping, ordinals, &query, scope, objects)?;
+    let those = kept_hits(alloc, entries, mapping, &query, scope, objects)?;
     let replies = replies(
         alloc,
         entries,

@@ -10,7 +10,6 @@ ghost use Rattle.bucket_aggs.specs.Counts.{Counted};
 
 use crate::NoMemory;
 use crate::distinct::is_again;
-use crate::near::values_near;
 use block_bits::BitSet;
 use doc_values::{Column, ColumnValue, OrdinalColumn, Values};
 use mapping::Kind;
@@ -50,13 +49,11 @@ fn count_documents(
 ) -> Result<(), NoMemory>
     ensures { OnOk result (Counted first (map (λ doc. values_of doc column.now) (marked_places 0 set.now)) counts.old.items counts.new.items) }
 {
-    let _ascending = column.values(0);
     let mut walk = set.walk();
     let mut near = 0;
     'documents: while let Some(doc) = walk.next() {
-        let (values, row) = values_near(column, near, doc);
+        let values = column.values_near(doc, &mut near);
         count_values(values, first, counts)?;
-        near = row;
     }
     Ok(())
 }
@@ -98,7 +95,20 @@ pub(crate) fn is_in(set: &BitSet, doc: u32) -> bool
 }
 
 /// Adds one to the count of each ordinal of a document, once for each.
+///
+/// Most documents have one value alone: it is looked at by itself.
 fn count_values(values: Values<u64>, first: u64, counts: &mut Vec<u64>) -> Result<(), NoMemory>
+    requires { IsSorted nat_cmp values }
+    ensures { OnOk result (Counted first (values.entry ∷ []) counts.old.items counts.new.items) }
+{
+    if values.len() == 1 {
+        return Ok(count_one(values.value(0), first, counts)?);
+    }
+    Ok(count_each(values, first, counts)?)
+}
+
+/// The same, value by value.
+fn count_each(values: Values<u64>, first: u64, counts: &mut Vec<u64>) -> Result<(), NoMemory>
     requires { IsSorted nat_cmp values }
     ensures { OnOk result (Counted first (values.entry ∷ []) counts.old.items counts.new.items) }
 {

@@ -8,7 +8,6 @@ ghost use Rattle.segment_parts.specs.Text.{marked_places};
 ghost use Rattle.bucket_aggs.specs.Counts.{is_again, once_by};
 
 use crate::NoMemory;
-use crate::near::values_near;
 use block_bits::BitSet;
 use doc_values::{Column, ColumnValue, Values};
 use std::alloc::Global;
@@ -25,9 +24,8 @@ pub(crate) fn distinct_values<T: ColumnValue>(
     let mut walk = set.walk();
     let mut near = 0;
     'documents: while let Some(doc) = walk.next() {
-        let (values, row) = values_near(column, near, doc);
+        let values = column.values_near(doc, &mut near);
         put_once(values, &mut made)?;
-        near = row;
     }
     Ok(made)
 }

@@ -10,7 +10,6 @@ mod columns;
 mod distinct;
 mod found;
 mod metrics;
-mod near;
 mod no_memory;
 mod objects;
 mod rows;

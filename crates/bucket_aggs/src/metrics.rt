@@ -1,9 +1,9 @@
 //! What the values of a field come to over all objects.
 
-ghost use Rattle.std.specs.Prelude.{◌≡◌, ◌++◌, ℤ, List, [], ◌∷◌, map, length, sum_by, IfOk, OnOk, Some, None};
+ghost use Rattle.std.specs.Prelude.{◌≡◌, ◌<◌, ◌++◌, ℤ, List, [], ◌∷◌, false, if◌then◌else◌, map, length, slice_get, slice_index, slice_index_or, sum_by, IfOk, OnOk, Some, None};
 ghost use Rattle.std.specs.List.{flat_map};
 ghost use Rattle.std.specs.Int.{saturate_signed, w64};
-ghost use Rattle.doc_values.specs.Values.{values_of};
+ghost use Rattle.doc_values.specs.Values.{documents, values_of};
 ghost use Rattle.query_eval.specs.Found.{AreLong};
 ghost use Rattle.segment.specs.Flat.{flat_of};
 ghost use Rattle.segment_parts.specs.Text.{marked_places};
@@ -12,7 +12,6 @@ ghost use Rattle.bucket_aggs.specs.Sums.{IsKept, IsSummary, above, below, first_
 
 use crate::NoMemory;
 use crate::columns::{has_most, is_in, is_text};
-use crate::near::values_near;
 use block_bits::BitSet;
 use block_join::Matches;
 use doc_values::{Column, ColumnValue, NumberColumn, Values};
@@ -179,9 +178,8 @@ fn add_each(set: &BitSet, column: &NumberColumn, sums: &mut Summary) -> Result<(
     let mut walk = set.walk();
     let mut near = 0;
     'documents: while let Some(doc) = walk.next() {
-        let (values, row) = values_near(column, near, doc);
+        let values = column.values_near(doc, &mut near);
         add_values(values, sums)?;
-        near = row;
     }
     Ok(())
 }
@@ -239,19 +237,57 @@ fn own_count(segment: &Segment, kind: Kind, field: u32, set: &BitSet) -> Result<
 }
 
 /// How many values the documents of a set have in a column.
+///
+/// Where the set has most documents of the column its rows are walked over, else each document's row is looked for near the one before.
 fn column_count<T: ColumnValue>(set: &BitSet, column: &Column<T>) -> Result<u64, NoMemory>
+    ensures { IfOk result (λ count. count ≡ sum_by (λ doc. length (values_of doc column.now)) (marked_places 0 set.now)) }
+{
+    if has_most(set, column) {
+        rows_count(set, column)
+    } else {
+        documents_count(set, column)
+    }
+}
+
+/// The same, row by row.
+fn rows_count<T: ColumnValue>(set: &BitSet, column: &Column<T>) -> Result<u64, NoMemory>
+    ensures { IfOk result (λ count. count ≡ sum_by (λ doc. length (values_of doc column.now)) (marked_places 0 set.now)) }
+{
+    let mut count: u64 = 0;
+    'rows: for row in 0..column.rows() {
+        let Some(more) = count.checked_add(u64::from(row_count(set, column, row))) else {
+            return Err(NoMemory);
+        };
+        count = more;
+    }
+    Ok(count)
+}
+
+/// How many values a row has, if its document is in a set.
+fn row_count<T: ColumnValue>(set: &BitSet, column: &Column<T>, row: u32) -> u32
+    requires { row < length column.now }
+    ensures { (values : List T) → slice_get column.now row ≡ Some (slice_index (documents column.now) row, values) → result ≡ (if slice_index_or set.now (slice_index (documents column.now) row) false then length values else 0) }
+{
+    if is_in(set, column.doc(row)) {
+        column.row_values(row).len()
+    } else {
+        0
+    }
+}
+
+/// The same, document by document.
+fn documents_count<T: ColumnValue>(set: &BitSet, column: &Column<T>) -> Result<u64, NoMemory>
     ensures { IfOk result (λ count. count ≡ sum_by (λ doc. length (values_of doc column.now)) (marked_places 0 set.now)) }
 {
     let mut count: u64 = 0;
     let mut walk = set.walk();
     let mut near = 0;
     'documents: while let Some(doc) = walk.next() {
-        let (values, row) = values_near(column, near, doc);
+        let values = column.values_near(doc, &mut near);
         let Some(more) = count.checked_add(u64::from(values.len())) else {
             return Err(NoMemory);
         };
         count = more;
-        near = row;
     }
     Ok(count)
 }

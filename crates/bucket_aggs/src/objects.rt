@@ -20,11 +20,18 @@ use block_join::{Matches, Rule};
 use join_ordinals::JoinOrdinals;
 use mapping::Mapping;
 use query_ast::Query;
-use query_eval::{downs, found, merged_hits};
+use query_eval::{downs, found, live_count, merged_hits};
 use segment_view::Entry;
 use std::alloc::Global;
 use tree_joins::objects_are_parted;
 use tree_objects::objects_nest;
+
+/// Whether the documents of each entry are known to have one score: then they are a set of bits already.
+pub(crate) fn have_one_score(hits: &Matches) -> bool {
+    hits.as_slice()
+        .iter()
+        .all(|scores| scores.shared().is_some())
+}
 
 /// The same documents, all with one score: a set of bits for each entry.
 pub(crate) fn alike(
@@ -68,15 +75,14 @@ fn are_all(
     alloc: Global,
     entries: &[Entry],
     mapping: &Mapping,
-    ordinals: &JoinOrdinals,
     scope: u32,
     objects: &Matches,
 ) -> Result<bool, NoMemory>
     ensures { (given : List Tree → Object → Option ℕ) → IsSeen mapping.now entries.now scope given objects.now → IfOk result (λ all. all ≡ true → AreAll mapping.now entries.now scope given) }
 {
-    let all = every(alloc, entries, mapping, ordinals, scope)?;
+    let all = live_count(alloc, entries, mapping, scope)?;
     let count = count_of(objects)?;
-    Ok(count == count_of(&all)?)
+    Ok(count == all)
 }
 
 /// The objects of a path inside these. Inside all live objects of a scope these are all of the path.
@@ -97,7 +103,7 @@ pub(crate) fn inside_of(
     objects_nest();
     objects_are_parted();
     let _scopes = mapping.scope_count();
-    if are_all(alloc, entries, mapping, ordinals, scope, objects)? {
+    if are_all(alloc, entries, mapping, scope, objects)? {
         Ok(every(alloc, entries, mapping, ordinals, path)?)
     } else {
         Ok(downs(alloc, entries, objects, scope, path)?)

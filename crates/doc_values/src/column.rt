@@ -7,7 +7,7 @@ ghost use Rattle.doc_values.specs.Text.{column_text};
 ghost use Rattle.doc_values.specs.Stands.{IsColumn, Stands, Belong};
 
 use crate::placing::{from_place, placed_entries};
-use crate::search::{document, index_of, value_bytes};
+use crate::search::{document, index_near, index_of, value_bytes};
 use crate::walk::head_at;
 use crate::written::put_column;
 use crate::{ColumnValue, RowList, Values};
@@ -108,6 +108,21 @@ impl<'a, T: ColumnValue> Column<'a, T> {
     {
         match index_of(self.places, self.bytes, doc) {
             Some(at) => Values::over(value_bytes(self.places, self.bytes, at)),
+            None => Values::over(self.bytes.split_at(0).0),
+        }
+    }
+
+    /// The values of a document, as `values` gives them, looked for from row `near` on. That is left behind the document's row, so
+    /// that documents in ascending order cost the way from row to row.
+    pub fn values_near(&self, doc: u32, near: &mut u32) -> Values<'a, T>
+        ensures values { result ≡ values_of doc self.now }
+        ensures ascending { IsSorted T.cmp result }
+    {
+        match index_near(self.places, self.bytes, doc, *near as usize) {
+            Some(at) => {
+                *near = at as u32 + 1;
+                Values::over(value_bytes(self.places, self.bytes, at))
+            }
             None => Values::over(self.bytes.split_at(0).0),
         }
     }

@@ -3,8 +3,8 @@
 //! A document may have several values (Lucene's `SortedNumericDocValues` and `SortedSetDocValues`, package
 //! `org.apache.lucene.index`; here a value is repeated as often as it stands there). A column is read in place, from the
 //! bytes of a segment; texts and places come from `part_text`. It is seen as the list of rows that its text is of: `count`,
-//! `value` and `values` give the values of a document, ascending, and none where it has no row. Begin reading with
-//! `specs/Values.antt` and `specs/Text.antt`.
+//! `value` and `values` give the values of a document, ascending, and none where it has no row; `values_near` gives them for
+//! documents in order. Begin reading with `specs/Values.antt` and `specs/Text.antt`.
 #![tactic(auto)]
 
 mod column;

@@ -60,6 +60,57 @@ pub(crate) fn index_of(places: &[u64], bytes: &[u8], doc: u32) -> Option<usize>
     None
 }
 
+/// The index of a document's entry, as `index_of` gives it.
+///
+/// It is looked for from entry `near` on, and from the one before: a document that has one of these is found at once, one that
+/// lies between them is missed at once, and a later one costs the way from there to its entry.
+pub(crate) fn index_near(places: &[u64], bytes: &[u8], doc: u32, near: usize) -> Option<usize>
+    requires { AreEntriesAt places.now bytes.now }
+    ensures found { IfSome result (λ at. (at + 1 < length places.now) × (slice_index (documents_in places.now bytes.now) at ≡ doc)) }
+    ensures missing { IfNone result (¬ Contains (documents_in places.now bytes.now) doc) }
+{
+    let count = places.len() - 1;
+    if near < count && document(places, bytes, near) == doc {
+        return Some(near);
+    }
+    let start = near.saturating_sub(1);
+    if count <= start || doc < document(places, bytes, start) {
+        return index_of(places, bytes, doc);
+    }
+    index_behind(places, bytes, doc, start)
+}
+
+/// The same from an entry on that isn't behind the document's: in steps that double, and then by halves.
+fn index_behind(places: &[u64], bytes: &[u8], doc: u32, start: usize) -> Option<usize>
+    requires entries { AreEntriesAt places.now bytes.now }
+    requires below { start + 1 < length places.now }
+    requires before { slice_index (documents_in places.now bytes.now) start ≤ doc }
+    ensures found { IfSome result (λ at. (at + 1 < length places.now) × (slice_index (documents_in places.now bytes.now) at ≡ doc)) }
+    ensures missing { IfNone result (¬ Contains (documents_in places.now bytes.now) doc) }
+{
+    let count = places.len() - 1;
+    let mut low = start;
+    let mut step = 1;
+    'steps: while step < count - low && document(places, bytes, low + step) <= doc {
+        low += step;
+        step = step.saturating_add(step);
+    }
+    let mut high = low + step.min(count - low);
+    'halves: while 1 < high - low {
+        let middle = low + (high - low) / 2;
+        if document(places, bytes, middle) <= doc {
+            low = middle;
+        } else {
+            high = middle;
+        }
+    }
+    if document(places, bytes, low) == doc {
+        Some(low)
+    } else {
+        None
+    }
+}
+
 /// About how many entries lie in so many documents, given how many lie in 2^32. Nothing but speed rests on it.
 fn entries_in(documents: u32, density: u64) -> usize {
     ((documents as u64).wrapping_mul(density) >> 32) as usize

@@ -20,11 +20,9 @@ fn column<T: ColumnValue>(
     let mut two = Vec::new(alloc);
     two.push(low)?;
     two.push(high)?;
-    let mut one = Vec::new(alloc);
-    one.push(low)?;
     let mut rows = Vec::new(alloc);
     rows.push((1, values(rt, two)))?;
-    rows.push((4, values(rt, one)))?;
+    rows.push((4, ValueList::one(alloc, low)))?;
     assert!(rt; RowList::are_entries(rows.as_slice()));
     Ok(RowList::of(3, rows))
 }
@@ -54,6 +52,10 @@ fn numbers(rt: HostRuntime) -> Result<(), Fail> {
                 (2, 0, 1)
             );
             assert_eq!(rt; column.rows(), 2);
+            let mut near = 0;
+            let none = column.values_near(2, &mut near);
+            let one = column.values_near(4, &mut near);
+            assert_eq!(rt; (none.len(), one.len()), (0, 1));
             let mut own = column.values(1);
             assert_eq!(rt;
                 (own.next(), own.next(), own.next()),

@@ -20,7 +20,7 @@ pub(crate) fn numbers(alloc: Global, kind: Kind, items: &[&Json]) -> Result<Vec<
     requires { IsTrue (has_values kind) }
     ensures { IfOk result (λ v. v.items ≡ ascending int_cmp (numbers_in (filter_map (convert kind) (map (λ j. view j.now) items.now)))) }
 {
-    let mut values = Vec::new(alloc);
+    let mut values = Vec::with_capacity(alloc, items.len())?;
     'items: for item in items {
         push_number(alloc, kind, *item, &mut values)?;
     }
@@ -59,7 +59,7 @@ fn sort_numbers(values: &mut Vec<i64>)
 pub(crate) fn keywords(alloc: Global, items: &[&Json]) -> Result<Vec<Vec<u8>>, NoMemory>
     ensures { IfOk result (λ v. map (λ b. b.items) v.items ≡ ascending bytes_cmp (texts_in (filter_map (convert Kind.Keyword) (map (λ j. view j.now) items.now)))) }
 {
-    let mut values = Vec::new(alloc);
+    let mut values = Vec::with_capacity(alloc, items.len())?;
     'items: for item in items {
         push_keyword(alloc, *item, &mut values)?;
     }

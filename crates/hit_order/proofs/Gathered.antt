@@ -1,10 +1,10 @@
 -- The page is what was selected, row by row.
-use Rattle.std.specs.Prelude.{◌≡◌, ℕ, zero, suc, ◌+◌, ◌<◌, ℤ, List, [], ◌∷◌, map, take, drop, filter, length, min, get_or, Option, Some, None, refl}
+use Rattle.std.specs.Prelude.{◌≡◌, ℕ, zero, suc, ◌+◌, ◌<◌, ℤ, List, [], ◌∷◌, map, take, drop, filter, length, get_or, Option, Some, None, refl}
 use Rattle.std.specs.Cmp.{IsStrictWeakOrder}
 use Rattle.std.specs.List.{range_with_len}
 use Rattle.std.proofs.Common.{arith, ap, sym, subst, ◌∙◌}
 use Rattle.std.proofs.lemmas.Bool.{true≢false}
-use Rattle.std.proofs.lemmas.List.{length-map, get_or-map, drop-take, drop-map, drop_min, take-map}
+use Rattle.std.proofs.lemmas.List.{length-map, get_or-map, drop-take, drop-map, take-map}
 use Rattle.std.proofs.lemmas.List.FromFn.{fill_by_all}
 use Rattle.query_ast.specs.Compare.{in_order}
 use Rattle.query_ast.specs.Page.{page_of, comes_before, comes_after}
@@ -90,9 +90,9 @@ selected_page t after from size o =
     ap (map at) (drop-take from size (in_order (is_before t) (filter (is_after t after) all)))
     ∙ sym (ap (λ rows. take size (drop from rows)) sorted ∙ (ap (take size) (drop-map at from _) ∙ take-map at size _))
 
--- the page of a table that is seen as this value: what was selected, without the first `from`
-pub page_found : (t made : Table) (value : KeyTable) (after : Option KeyRow) (from size : ℕ) (order page : List ℕ) → IsStrictWeakOrder (comes_before keys_of_row number_of_row (directions_of t.columns.items)) → table_of t.columns.items t.places.items ≡ value → order ≡ first_of (is_before t) (from + size) (filter (is_after t after) (range_with_len 0 (length t.places.items))) → page ≡ drop (min from (length order)) order → table_of made.columns.items made.places.items ≡ record { directions = directions_of t.columns.items; rows = map (row_at t.columns.items t.places.items) page } → (table_of made.columns.items made.places.items).rows ≡ page_of keys_of_row number_of_row value.directions after from size value.rows
-page_found t made value after from size order page o seen is cut gathered =
+-- the page of a table that is seen as this value: what was selected
+pub page_found : (t made : Table) (value : KeyTable) (after : Option KeyRow) (from size : ℕ) (page : List ℕ) → IsStrictWeakOrder (comes_before keys_of_row number_of_row (directions_of t.columns.items)) → table_of t.columns.items t.places.items ≡ value → page ≡ drop from (first_of (is_before t) (from + size) (filter (is_after t after) (range_with_len 0 (length t.places.items)))) → table_of made.columns.items made.places.items ≡ record { directions = directions_of t.columns.items; rows = map (row_at t.columns.items t.places.items) page } → (table_of made.columns.items made.places.items).rows ≡ page_of keys_of_row number_of_row value.directions after from size value.rows
+page_found t made value after from size page o seen is gathered =
     ap (λ (table : KeyTable). table.rows) gathered
-    ∙ (ap (map (row_at t.columns.items t.places.items)) (cut ∙ (drop_min from order ∙ ap (drop from) is))
+    ∙ (ap (map (row_at t.columns.items t.places.items)) is
     ∙ (selected_page t after from size o ∙ ap (λ (table : KeyTable). page_of keys_of_row number_of_row table.directions after from size table.rows) seen))

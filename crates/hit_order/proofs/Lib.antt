@@ -4,5 +4,6 @@ mod Reaching
 mod Cutting
 mod Meeting
 mod Gathered
+mod Paging
 mod Texts
 mod Found

@@ -1,13 +1,13 @@
 -- First keys that are met one after another.
-use Rattle.std.specs.Prelude.{◌≡◌, ℕ, zero, suc, ◌-◌, ◌≤◌, ℤ, pos, Bool, true, false, not, cond, List, [], ◌∷◌, ◌++◌, take, length, map, slice_get, Option, Some, None, IfSome, option_map, refl}
+use Rattle.std.specs.Prelude.{◌≡◌, ℕ, zero, suc, ◌-◌, ◌≤◌, ◌<◌, ℤ, pos, Bool, true, false, not, cond, List, [], ◌∷◌, ◌++◌, take, length, get_or, map, slice_get, Option, Some, None, IfSome, option_map, refl}
 use Rattle.std.specs.Cmp.{IsStrictWeakOrder}
 use Rattle.std.specs.List.{AllByRecursion, count_by}
-use Rattle.std.specs.List.Sorted.{IsPermutation, IsSortedBy}
+use Rattle.std.specs.List.Sorted.{IsPermutation}
 use Rattle.std.specs.Ordering.{int_cmp, is_lt, ordering_then}
 use Rattle.std.specs.declared.cmp.Ordering.{Ordering}
 use Rattle.std.specs.declared.cmp.Ordering.TheVariants.{Less, Equal, Greater}
 use Rattle.std.proofs.Common.{arith, ap, sym, subst, ◌∙◌}
-use Rattle.std.proofs.lemmas.List.{map-append}
+use Rattle.std.proofs.lemmas.List.{length-append, map-append}
 use Rattle.std.proofs.lemmas.List.Elements.{All-from_recursion, All-take, recursion_from_All}
 use Rattle.std.proofs.lemmas.List.Sorted.{All-permutation, sum_by-IsPermutation}
 use Rattle.std.proofs.lemmas.List.Sums.{sum_by-cons, sum_by-take-le, sum_by_push}
@@ -16,7 +16,7 @@ use Rattle.query_ast.specs.declared.sort.Direction.{Direction}
 use Rattle.query_ast.specs.declared.sort.Key.{Key}
 use Rattle.hit_order.specs.Reach.{AreMet, IsNarrower, IsWide, Met, is_near, is_next, key_before}
 use Rattle.hit_order.specs.Table.{number_or_null}
-use Rattle.hit_order.proofs.Cutting.{last_is_worst, sorted_take}
+use Rattle.hit_order.proofs.Selecting.{split}
 use Rattle.hit_order.proofs.Parting.{one}
 use Rattle.hit_order.proofs.Reaching.{isnt}
 
@@ -101,22 +101,39 @@ count_mapped test [] = refl
 count_mapped test (key ∷ keys) =
     omega (arith, sum_by-cons (λ k. cond (test k) 1 0) (number_or_null key) (map number_or_null keys), sum_by-cons (λ k. cond (test (number_or_null k)) 1 0) key keys, count_mapped test keys)
 
--- sorted and cut
-pub cut_fewer : (most : ℕ) (old sorted new : Numbers) → IsPermutation old sorted → new ≡ take most sorted → (test : Key → Bool) → count_by test (map number_or_null new) ≤ count_by test (map number_or_null old)
-cut_fewer most old sorted new moved is test =
-    let own : count_by test (map number_or_null new) ≡ count_by (λ key. test (number_or_null key)) (take most sorted) = count_mapped test new ∙ ap (count_by (λ key. test (number_or_null key))) is in
-    omega (arith, own, sum_by-take-le (λ key. cond (test (number_or_null key)) 1 0) sorted most, sum_by-IsPermutation (λ key. cond (test (number_or_null key)) 1 0) old sorted moved, count_mapped test old)
+-- moved and cut
+pub cut_fewer : (most : ℕ) (old moved new : Numbers) → IsPermutation old moved → new ≡ take most moved → (test : Key → Bool) → count_by test (map number_or_null new) ≤ count_by test (map number_or_null old)
+cut_fewer most old moved new turned is test =
+    let own : count_by test (map number_or_null new) ≡ count_by (λ key. test (number_or_null key)) (take most moved) = count_mapped test new ∙ ap (count_by (λ key. test (number_or_null key))) is in
+    omega (arith, own, sum_by-take-le (λ key. cond (test (number_or_null key)) 1 0) moved most, sum_by-IsPermutation (λ key. cond (test (number_or_null key)) 1 0) old moved turned, count_mapped test old)
 
-pub cut_all : (P : Option ℤ → Type 0) (most : ℕ) (old sorted new : Numbers) → IsPermutation old sorted → new ≡ take most sorted → AllByRecursion P old → AllByRecursion P new
-cut_all P most old sorted new moved is all =
-    subst (AllByRecursion P) (sym is) (recursion_from_All P (take most sorted) (All-take P most sorted (All-permutation P old sorted moved (All-from_recursion P old all))))
+pub cut_all : (P : Option ℤ → Type 0) (most : ℕ) (old moved new : Numbers) → IsPermutation old moved → new ≡ take most moved → AllByRecursion P old → AllByRecursion P new
+cut_all P most old moved new turned is all =
+    subst (AllByRecursion P) (sym is) (recursion_from_All P (take most moved) (All-take P most moved (All-permutation P old moved turned (All-from_recursion P old all))))
 
-pub cut_least : (d : Direction) → IsStrictWeakOrder (λ one other. key_before d (number_or_null one) (number_or_null other)) → (most : ℕ) (sorted new : Numbers) (last : Option (Option ℤ)) → IsSortedBy (λ one other. key_before d (number_or_null one) (number_or_null other)) sorted → new ≡ take most sorted → last ≡ slice_get new (length new - 1)
-    → IfSome last (λ bound. AllByRecursion (λ key. key_before d (number_or_null bound) (number_or_null key) ≡ false) new)
-cut_least d o most sorted new None up is at = tt
-cut_least d o most sorted new (Some bound) up is at =
-    let lt : Option ℤ → Option ℤ → Bool = λ one other. key_before d (number_or_null one) (number_or_null other) in
-    last_is_worst lt o new bound (subst (IsSortedBy lt) (sym is) (sorted_take lt most sorted up)) (sym at)
+-- the last of those that are kept, which none of the others stands behind
+pub cut_front : (most : ℕ) (front back moved new : Numbers) (last : Option ℤ) → moved ≡ front ++ last ∷ back → suc (length front) ≡ most → new ≡ take most moved → new ≡ front ++ last ∷ []
+cut_front most front back moved new last is long cut =
+    cut ∙ ap (take most) is ∙ subst (λ n. take n (front ++ last ∷ back) ≡ front ++ last ∷ []) long (by front)
+  where
+    by : (xs : Numbers) → take (suc (length xs)) (xs ++ last ∷ back) ≡ xs ++ last ∷ []
+    by [] = refl
+    by (x ∷ xs) = ap (λ ys. x ∷ ys) (by xs)
+
+pub last_of : (front : Numbers) (last : Option ℤ) → Some last ≡ slice_get (front ++ last ∷ []) (length (front ++ last ∷ []) - 1)
+last_of front last =
+    sym (ap (slice_get (front ++ last ∷ [])) (let all = length-append front (last ∷ []) in let own : length (front ++ last ∷ []) - 1 ≡ length front = omega (arith, all) in own) ∙ by front)
+  where
+    by : (xs : Numbers) → slice_get (xs ++ last ∷ []) (length xs) ≡ Some last
+    by [] = refl
+    by (x ∷ xs) = by xs
+
+pub least_last : (d : Direction) → IsStrictWeakOrder (λ one other. key_before d (number_or_null one) (number_or_null other)) → (front : Numbers) (last : Option ℤ)
+    → ((k : ℕ) (e : Option ℤ) → k < length front → key_before d (number_or_null last) (number_or_null (get_or front k e)) ≡ false)
+    → AllByRecursion (λ key. key_before d (number_or_null last) (number_or_null key) ≡ false) (front ++ last ∷ [])
+least_last d o [] last low =
+    (split (key_before d (number_or_null last) (number_or_null last)) (λ yes. o.one_way last last yes) (λ no. no), tt)
+least_last d o (x ∷ front) last low = (low 0 x (omega arith), least_last d o front last (λ k e below. low (suc k) e (omega (arith, below))))
 
 -- ---- one number is kept
 

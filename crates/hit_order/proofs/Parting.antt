@@ -1,5 +1,5 @@
 -- Elements that are left out of a list without a change of those that come first in order.
-use Rattle.std.specs.Prelude.{◌≡◌, ℕ, suc, ◌+◌, ◌≤◌, Bool, true, false, cond, List, [], ◌∷◌, take, drop, filter, length, ⊤, refl}
+use Rattle.std.specs.Prelude.{◌≡◌, ℕ, suc, ◌+◌, ◌≤◌, Bool, true, false, not, cond, List, [], ◌∷◌, take, drop, filter, length, ⊤, refl}
 use Rattle.std.specs.Cmp.{IsStrictWeakOrder}
 use Rattle.std.specs.List.{AllByRecursion, count_by}
 use Rattle.std.proofs.Common.{arith, ap, sym, ◌∙◌}
@@ -90,6 +90,17 @@ module _ {A : Type 0} where
         (λ yes. rw yes (ap (λ ys. x ∷ ys) (first_near xs parted.1)))
         (λ no. let none : filter near xs ≡ [] = none_near xs (parted.0 no) in rw (no, none) refl)
 
+    all_far : (xs : List A) → AllFar xs → filter (λ x. not (near x)) xs ≡ xs
+    all_far [] far = refl
+    all_far (x ∷ xs) far = rw far.0 (ap (λ ys. x ∷ ys) (all_far xs far.1))
+
+    far_behind : (xs : List A) → Parted xs → filter (λ x. not (near x)) xs ≡ drop (length (filter near xs)) xs
+    far_behind [] parted = refl
+    far_behind (x ∷ xs) parted =
+        split (near x)
+        (λ yes. rw yes (far_behind xs parted.1))
+        (λ no. let none : filter near xs ≡ [] = none_near xs (parted.0 no) in rw (no, none) (ap (λ ys. x ∷ ys) (all_far xs (parted.0 no))))
+
     module _ (lt : A → A → Bool) (o : IsStrictWeakOrder lt) (down : (x y : A) → lt x y ≡ false → near x ≡ true → near y ≡ true) where
       all_placed : (x : A) (ys : List A) → near x ≡ false → AllFar ys → AllFar (placed lt x ys)
       all_placed x [] far all = (far, tt)
@@ -126,6 +137,19 @@ module _ {A : Type 0} where
           split (near x)
           (λ yes. rw yes (near_placed x (in_order lt xs) yes (parted xs) ∙ ap (placed lt x) (near_in_order xs)))
           (λ no. rw no (placed_out lt near x (in_order lt xs) no ∙ near_in_order xs))
+
+      far_up : GoesUp lt (λ x. not (near x))
+      far_up x y behind far =
+          split (near y)
+          (λ yes. absurd (true≢false (sym far ∙ ap not (down y x behind yes))))
+          (λ no. rw no refl)
+
+      -- those that pass stand in front of all others
+      pub behind_near : (xs : List A) → in_order lt (filter (λ x. not (near x)) xs) ≡ drop (length (filter near xs)) (in_order lt xs)
+      behind_near xs =
+          sym (filter-in_order lt (λ x. not (near x)) far_up xs)
+          ∙ far_behind (in_order lt xs) (parted xs)
+          ∙ ap (λ n. drop n (in_order lt xs)) (ap length (near_in_order xs) ∙ length-in_order lt (filter near xs))
 
       -- ---- a page of those that pass a further test, for which one may be left out that it fails and one that doesn't come near
 

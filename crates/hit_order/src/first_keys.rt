@@ -1,5 +1,5 @@
 //! The first keys that the rows of a page can have.
-ghost use Rattle.std.specs.Prelude.{◌≡◌, ◌++◌, ◌∷◌, ◌-◌, ◌≤◌, [], List, None, Bool, map, true, false, length, min, slice_get, IfOk, IfSome, OnOk, OnErr, option_map};
+ghost use Rattle.std.specs.Prelude.{◌≡◌, ◌++◌, ◌∷◌, ◌-◌, ◌≤◌, [], List, None, Bool, map, true, false, length, slice_get, IfOk, IfSome, OnOk, option_map};
 ghost use Rattle.std.specs.List.{AllByRecursion, count_by};
 ghost use Rattle.query_ast.specs.declared.sort.Key.{Key as RowKey};
 ghost use Rattle.hit_order.specs.Reach.{AreMet, IsNarrower, first_of_row, is_late, is_near, is_next, is_within, key_before};
@@ -84,6 +84,21 @@ impl<'a> FirstKeys<'a> {
         Ok(true)
     }
 
+    /// Narrows what is within reach to the keys that were met so far.
+    pub fn narrow(&mut self)
+        ensures narrower { IsNarrower self.old self.new }
+        ensures met { (all : List RowKey) → AreMet all self.old → AreMet all self.new }
+    {
+        rows_stand_in_order::<Key>();
+        if self.keys.len() < self.most {
+            return;
+        }
+        let last = cut(self.direction, self.most, &mut self.keys);
+        if let Some(last) = last {
+            self.bound = Some(last);
+        }
+    }
+
     /// Whether a key doesn't stand before that of the row to go on behind.
     fn is_late(&self, key: Option<i64>) -> bool
         ensures { result ≡ is_late self.now.direction self.now.after (number_or_null key) }
@@ -121,36 +136,35 @@ impl<'a> FirstKeys<'a> {
         ensures narrower { OnOk result (IsNarrower self.old self.new) }
         ensures met { OnOk result ((all : List RowKey) → AreMet all self.old → AreMet (all ++ number_or_null key ∷ []) self.new) }
     {
-        rows_stand_in_order::<Key>();
         self.keys.push(key)?;
         if self.keys.len() / 2 < self.most {
             return Ok(());
         }
-        let last = cut(self.direction, self.most, &mut self.keys)?;
-        if let Some(last) = last {
-            self.bound = Some(last);
-        }
+        self.narrow();
         Ok(())
     }
 }
 
-/// Puts keys in order, and keeps the first so many. It gives the last of them.
-fn cut(
-    direction: Direction,
-    most: usize,
-    keys: &mut Vec<Option<i64>>,
-) -> Result<Option<Option<i64>>, NoMemory>
-    ensures counted { OnOk result ((test : RowKey → Bool) → count_by test (map number_or_null keys.new.items) ≤ count_by test (map number_or_null keys.old.items)) }
+/// Keeps the first so many keys, in no order but that the last of them comes last. It gives that one.
+fn cut(direction: Direction, most: usize, keys: &mut Vec<Option<i64>>) -> Option<Option<i64>>
+    requires { most ≤ length keys.old.items }
+    ensures counted { (test : RowKey → Bool) → count_by test (map number_or_null keys.new.items) ≤ count_by test (map number_or_null keys.old.items) }
     ensures all { (test : RowKey → Bool) → AllByRecursion (λ key. test (number_or_null key) ≡ true) keys.old.items → AllByRecursion (λ key. test (number_or_null key) ≡ true) keys.new.items }
-    ensures long { OnOk result (length keys.new.items ≡ min most (length keys.old.items)) }
-    ensures last { IfOk result (λ last. last ≡ slice_get keys.new.items (length keys.new.items - 1)) }
-    ensures least { IfOk result (λ last. IfSome last (λ bound. AllByRecursion (λ key. key_before direction (number_or_null bound) (number_or_null key) ≡ false) keys.new.items)) }
-    ensures unchanged { OnErr result (keys.new.items ≡ keys.old.items) }
+    ensures long { length keys.new.items ≡ most }
+    ensures last { result ≡ slice_get keys.new.items (length keys.new.items - 1) }
+    ensures least { IfSome result (λ bound. AllByRecursion (λ key. key_before direction (number_or_null bound) (number_or_null key) ≡ false) keys.new.items) }
 {
     rows_stand_in_order::<Option<i64>>();
-    keys.sort_by(|one, other| compared(direction, number_ref(*one), number_ref(*other)))?;
+    let Some(place) = most.checked_sub(1) else {
+        keys.clear();
+        return None;
+    };
+    let (_, last, _) = keys.select_nth_unstable_by(place, |one, other| {
+        compared(direction, number_ref(*one), number_ref(*other))
+    });
+    let last = *last;
     keys.truncate(most);
-    Ok(keys.last().copied())
+    Some(last)
 }
 
 /// A number where it stands; None is null.

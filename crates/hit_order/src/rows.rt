@@ -78,9 +78,8 @@ pub fn top(
 {
     rows_stand_in_order::<KeyRow>();
     let from = from as usize;
-    let order = selected(alloc, &rows.table, after, from + size as usize)?;
-    let page = order.as_slice().split_at(from.min(order.len())).1;
+    let page = selected(alloc, &rows.table, after, from, from + size as usize)?;
     Ok(KeyRows {
-        table: rows.table.gathered(alloc, page)?,
+        table: rows.table.gathered(alloc, page.as_slice())?,
     })
 }

@@ -1,5 +1,5 @@
 //! Documents with scores, and documents of a scope, in a range.
-ghost use Rattle.std.specs.Prelude.{◌≡◌, ◌++◌, ◌∷◌, ◌<◌, ◌≤◌, ◌+◌, [], ℕ, false, get_or, length, IfSome, IfNone, OnOk};
+ghost use Rattle.std.specs.Prelude.{◌≡◌, ◌++◌, ◌<◌, ◌≤◌, ◌+◌, ℕ, false, get_or, length, IfSome, IfNone, OnOk};
 ghost use Rattle.std.specs.List.{All};
 ghost use Rattle.block_bits.specs.Blocks.{documents_of};
 ghost use Rattle.query_eval.specs.Folds.{scopes_in};
@@ -8,7 +8,8 @@ ghost use Rattle.view_objects.specs.Hits.{count_between, hits_between, start_bef
 
 use crate::NoMemory;
 use block_bits::BitSet;
-use block_join::{Cursor, Scored};
+use block_join::Scored;
+use nested_sort::next_hit;
 use segment::{Segment, scopes_are_of_documents};
 use view_objects::Hit;
 
@@ -32,26 +33,6 @@ pub(crate) fn add_hits(
         hits.push(hit)?;
     }
     Ok(())
-}
-
-/// The next document with a score, before `end`. The cursor goes on behind it.
-#[tactic(auto, using(nested_sort::proofs::Ranges::next_hits))]
-fn next_hit(left: &mut Cursor, place: u64, end: u32) -> Option<Hit>
-    requires ordered { left.old.from ≤ end }
-    requires within { end ≤ length left.old.scores }
-    ensures scores { left.new.scores ≡ left.old.scores }
-    ensures later { IfSome result (λ hit. (left.old.from < left.new.from) × (left.new.from ≤ end)) }
-    ensures capped { IfSome result IsCapped }
-    ensures hit { IfSome result (λ hit. hits_between place left.old.from end left.old.scores ≡ hit ∷ hits_between place left.new.from end left.old.scores) }
-    ensures none { IfNone result (hits_between place left.old.from end left.old.scores ≡ []) }
-{
-    let doc = left.peek()?;
-    if doc >= end {
-        return None;
-    }
-    left.skip(doc);
-    let score = left.next_before(doc + 1)?;
-    Some(Hit { place, doc, score })
 }
 
 /// The documents of a scope; None where the segment has none of it.

@@ -13,7 +13,6 @@ pub mod Numbering
 pub mod Orders
 pub mod Ordinals
 pub mod Ranges
-pub mod RowValues
 pub mod Scopes
 pub mod Shown
 pub mod Tables

@@ -65,7 +65,7 @@ module _ (place : ℕ) where
       let left : k + suc n - (p + 1) ≡ k + 1 + n - (p + 1) = omega arith in
       rw (over, left) (first_from (k + 1) n xs p s is (omega (arith, low)) (rw skip at own))
 
-  pub first_hit : (from end : ℕ) (scores : Seq (Option ℕ)) (p s : ℕ) → next_place is_some from scores ≡ Some p → p < end → get_or scores p None ≡ Some s
+  first_hit : (from end : ℕ) (scores : Seq (Option ℕ)) (p s : ℕ) → next_place is_some from scores ≡ Some p → p < end → get_or scores p None ≡ Some s
       → hits_between place from end scores ≡ record { place = place; doc = p; score = s } ∷ hits_between place (p + 1) end scores
   first_hit from end scores p s is low own =
       let far : from ≤ p = behind is_some from (drop from scores) p is in
@@ -79,62 +79,38 @@ module _ (place : ℕ) where
       ∙ ap (take (end - (p + 1))) (drop_further (p + 1 - from) from scores ∙ ap (λ k. drop k scores) on)
       ∙ sym (drop_take (p + 1) end scores))
 
-  none_from : (k n : ℕ) (xs : Seq (Option ℕ)) → position_from is_some k xs ≡ None → hits_from place k (take n xs) ≡ []
-  none_from k zero xs is = refl
-  none_from k (suc n) [] is = refl
-  none_from k (suc n) (Some s ∷ xs) is = absurd (let no : ⊥ = cc in no)
-  none_from k (suc n) (None ∷ xs) is = none_from (k + 1) n xs is
+  -- the first score that is told is that of the next document
+  told_from : (k n : ℕ) (xs : Seq (Option ℕ)) (p s : ℕ) (rest : Seq ℕ) → position_from is_some k xs ≡ Some p → flat_map option_to_list (take n xs) ≡ s ∷ rest → get_or xs (p - k) None ≡ Some s
+  told_from k n [] p s rest is told = absurd (let no : ⊥ = cc in no)
+  told_from k zero (x ∷ xs) p s rest is told = absurd (let no : ⊥ = cc in no)
+  told_from k (suc n) (Some t ∷ xs) p s rest is told =
+      let none : p - k ≡ 0 = omega (arith, same_Some k p is) in
+      let own : t ≡ s = cc in
+      rw none (ap Some own)
+  told_from k (suc n) (None ∷ xs) p s rest is told =
+      let further : k + 1 ≤ p = behind is_some (k + 1) xs p is in
+      let skip : p - k ≡ suc (p - (k + 1)) = omega (arith, further) in
+      rw skip (told_from (k + 1) n xs p s rest is told)
 
-  pub no_hit_left : (from end : ℕ) (scores : Seq (Option ℕ)) → next_place is_some from scores ≡ None → hits_between place from end scores ≡ []
-  no_hit_left from end scores is = ap (hits_from place from) (drop_take from end scores) ∙ none_from from (end - from) (drop from scores) is
+  pub first_told : (from end new doc : ℕ) (scores : Seq (Option ℕ)) (s : ℕ) (rest : Seq ℕ) → next_place is_some from scores ≡ Some (new - 1) → doc ≡ new - 1 → from < new → new ≤ end → between scores from end ≡ s ∷ rest
+      → hits_between place from end scores ≡ record { place = place; doc = doc; score = s } ∷ hits_between place new end scores
+  first_told from end new doc scores s rest is last later low told =
+      let next : next_place is_some from scores ≡ Some doc = is ∙ ap Some (sym last) in
+      let to : from + (doc - from) ≡ doc = omega (arith, last, later) in
+      let own : get_or scores doc None ≡ Some s =
+      ap (λ k. get_or scores k None) (sym to) ∙ sym (get_at from (doc - from) scores None) ∙ told_from from (end - from) (drop from scores) doc s rest next told in
+      let on : doc + 1 ≡ new = omega (arith, last, later) in
+      first_hit from end scores doc s next (omega (arith, last, later, low)) own
+      ∙ ap (λ k. record { place = place; doc = doc; score = s } ∷ hits_between place k end scores) on
 
-  late_from : (k n : ℕ) (xs : Seq (Option ℕ)) (p : ℕ) → position_from is_some k xs ≡ Some p → k + n ≤ p → hits_from place k (take n xs) ≡ []
-  late_from k zero xs p is late = refl
-  late_from k (suc n) [] p is late = refl
-  late_from k (suc n) (Some s ∷ xs) p is late = absurd (omega (arith, late, same_Some k p is))
-  late_from k (suc n) (None ∷ xs) p is late = late_from (k + 1) n xs p is (omega (arith, late))
+  -- where none is told there is none
+  none_of : (k : ℕ) (xs : Seq (Option ℕ)) → flat_map option_to_list xs ≡ [] → hits_from place k xs ≡ []
+  none_of k [] told = refl
+  none_of k (Some t ∷ xs) told = absurd (let no : ⊥ = cc in no)
+  none_of k (None ∷ xs) told = none_of (k + 1) xs told
 
-  pub no_hit_before : (from end : ℕ) (scores : Seq (Option ℕ)) (p : ℕ) → next_place is_some from scores ≡ Some p → end ≤ p → hits_between place from end scores ≡ []
-  no_hit_before from end scores p is late =
-      let far : from ≤ p = behind is_some from (drop from scores) p is in
-      ap (hits_from place from) (drop_take from end scores) ∙ late_from from (end - from) (drop from scores) p is (omega (arith, late, far))
-
--- what a document that is found has
-pub found_some : (from : ℕ) (scores : Seq (Option ℕ)) (p : ℕ) → next_place is_some from scores ≡ Some p → is_some (get_or scores p None) ≡ true
-found_some from scores p is =
-    let far : from ≤ p = behind is_some from (drop from scores) p is in
-    let to : from + (p - from) ≡ p = omega (arith, far) in
-    ap (λ k. is_some (get_or scores k None)) (sym to) ∙ sym (ap is_some (get_at from (p - from) scores None)) ∙ at from (drop from scores) is
-  where
-    at : (k : ℕ) (xs : Seq (Option ℕ)) → position_from is_some k xs ≡ Some p → is_some (get_or xs (p - k) None) ≡ true
-    at k [] is = absurd (let no : ⊥ = cc in no)
-    at k (Some s ∷ xs) is = let none : p - k ≡ 0 = omega (arith, same_Some k p is) in rw none refl
-    at k (None ∷ xs) is =
-        let further : k + 1 ≤ p = behind is_some (k + 1) xs p is in
-        let skip : p - k ≡ suc (p - (k + 1)) = omega (arith, further) in
-        rw skip (at (k + 1) xs is)
-
--- what is told between a document and the next
-pub own_between : (scores : Seq (Option ℕ)) (doc s : ℕ) (rest : Seq ℕ) → between scores doc (doc + 1) ≡ s ∷ rest → get_or scores doc None ≡ Some s
-own_between scores doc s rest told = by doc scores (ap (λ k. flat_map option_to_list (take k (drop doc scores))) (let e : 1 ≡ doc + 1 - doc = omega arith in e) ∙ told)
-  where
-    by : (k : ℕ) (xs : Seq (Option ℕ)) → flat_map option_to_list (take 1 (drop k xs)) ≡ s ∷ rest → get_or xs k None ≡ Some s
-    by zero [] told = absurd (let no : ⊥ = cc in no)
-    by zero (None ∷ xs) told = absurd (let no : ⊥ = cc in no)
-    by zero (Some t ∷ xs) told = let e : t ≡ s = cc in ap Some e
-    by (suc k) [] told = absurd (let no : ⊥ = cc in no)
-    by (suc k) (x ∷ xs) told = by k xs told
-
--- and where nothing is told it has none
-pub none_between : (scores : Seq (Option ℕ)) (doc : ℕ) → between scores doc (doc + 1) ≡ [] → is_some (get_or scores doc None) ≡ false
-none_between scores doc told = by doc scores (ap (λ k. flat_map option_to_list (take k (drop doc scores))) (let e : 1 ≡ doc + 1 - doc = omega arith in e) ∙ told)
-  where
-    by : (k : ℕ) (xs : Seq (Option ℕ)) → flat_map option_to_list (take 1 (drop k xs)) ≡ [] → is_some (get_or xs k None) ≡ false
-    by zero [] told = refl
-    by zero (None ∷ xs) told = refl
-    by zero (Some t ∷ xs) told = absurd (let no : ⊥ = cc in no)
-    by (suc k) [] told = refl
-    by (suc k) (x ∷ xs) told = by k xs told
+  pub none_told : (from end : ℕ) (scores : Seq (Option ℕ)) → between scores from end ≡ [] → hits_between place from end scores ≡ []
+  none_told from end scores told = ap (hits_from place from) (drop_take from end scores) ∙ none_of from (take (end - from) (drop from scores)) told
 
 -- ---- hits that are added
 
@@ -144,4 +120,4 @@ hits_push had new all hit rest more is first goes = ap (λ l. l ++ more) is ∙ 
 pub capped_on : (first xs new : Seq Hit) (x : Hit) → (All IsCapped first → All IsCapped xs) → IsCapped x → new ≡ xs ++ x ∷ [] → All IsCapped first → All IsCapped new
 capped_on first xs new x on own is all = All-same IsCapped new (xs ++ x ∷ []) is (All-push IsCapped xs x (on all) own)
 
-pub ruleset next_hits = (first_hit, no_hit_left, no_hit_before, found_some, own_between, none_between)
+pub ruleset next_hits = (first_told, none_told)

@@ -109,6 +109,17 @@ module _ (key : Hit → Key) (d : Direction) (after : Option Key) (most : ℕ) w
       rw late (subst (λ (e : Direction). is_near e met.bound (key hit) ≡ true → is_near e old.bound (key hit) ≡ true) directed (narrow.within (key hit)) near))
       (λ early. absurd (false≢true (rw early at is)))
 
+  pub kept_narrower : (all : List Hit) (kept : List Candidate) (old met : Met) → IsNarrower old met → ((ks : List Key) → AreMet ks old → AreMet ks met) → AreKept key d after most all kept old → AreKept key d after most all kept met
+  kept_narrower all kept old met narrow meets are = record {
+    directed = narrow.direction ∙ are.directed;
+    behind = narrow.after ∙ are.behind;
+    upto = narrow.most ∙ are.upto;
+    capped = are.capped;
+    keyed = are.keyed;
+    same = fewer_same (reached met.bound) (reached old.bound) (tighter old met are.directed narrow) (hits_of_kept kept) all are.same;
+    known = meets (map key all) are.known;
+  }
+
   module _ (all : List Hit) (kept new : List Candidate) (old met : Met) (one : Option ℤ) (hit : Hit) (capped : IsCapped hit) (own : number_or_null one ≡ key hit) (narrow : IsNarrower old met)
       (meets : (ks : List Key) → AreMet ks old → AreMet (ks ++ number_or_null one ∷ []) met) (are : AreKept key d after most all kept old) where
     same_fewer : filter (reached met.bound) (hits_of_kept kept) ≡ filter (reached met.bound) all

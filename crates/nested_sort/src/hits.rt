@@ -36,7 +36,7 @@ fn add_hits(place: u64, found: &Scored, hits: &mut Vec<Hit>) -> Result<(), NoMem
 
 /// The next document with a score, before `end`. The cursor goes on behind it.
 #[tactic(auto, using(crate::proofs::Ranges::next_hits))]
-pub(crate) fn next_hit(left: &mut Cursor, place: u64, end: u32) -> Option<Hit>
+pub fn next_hit(left: &mut Cursor, place: u64, end: u32) -> Option<Hit>
     requires ordered { left.old.from ≤ end }
     requires within { end ≤ length left.old.scores }
     ensures scores { left.new.scores ≡ left.old.scores }
@@ -46,11 +46,7 @@ pub(crate) fn next_hit(left: &mut Cursor, place: u64, end: u32) -> Option<Hit>
     ensures within { IfSome result (λ hit. (hit.place ≡ place) × (hit.doc < end)) }
     ensures none { IfNone result (hits_between place left.old.from end left.old.scores ≡ []) }
 {
-    let doc = left.peek()?;
-    if doc >= end {
-        return None;
-    }
-    left.skip(doc);
-    let score = left.next_before(doc + 1)?;
+    let score = left.next_before(end)?;
+    let doc = left.from() - 1;
     Some(Hit { place, doc, score })
 }

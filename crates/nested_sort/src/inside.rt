@@ -8,10 +8,9 @@ ghost use Rattle.query_eval.specs.Folds.{scopes_in};
 ghost use Rattle.view_objects.specs.Hits.{start_before};
 
 use crate::NoMemory;
-use crate::nearby::add_near;
 use block_bits::BitSet;
 use block_join::Matches;
-use doc_values::{Column, ColumnValue};
+use doc_values::{Column, ColumnValue, Values};
 use query_ast::Chain;
 use segment::{Segment, scopes_are_of_documents};
 
@@ -37,7 +36,7 @@ pub(crate) fn gather<T: ColumnValue>(
     ensures { OnOk result (values.new.items ≡ values.old.items ++ flat_map (λ inside. values_of inside column.now) (chain_docs place (scopes_in segment.now) chain.now filters.now scope doc)) }
 {
     match chain {
-        [] => Ok(add_near(column, doc, row, values)?),
+        [] => Ok(add(column.values_near(doc, row), values)?),
         [step, rest @ ..] => {
             let start = start_of(segment, scope, doc);
             if step.filter.is_some() {
@@ -144,6 +143,16 @@ fn gather_in<T: ColumnValue>(
             column, segment, place, rest, filters, scope, doc, row, values,
         )?;
         from = doc + 1;
+    }
+    Ok(())
+}
+
+/// Adds values behind others.
+fn add<T: ColumnValue>(mut left: Values<'_, T>, values: &mut Vec<T>) -> Result<(), NoMemory>
+    ensures { OnOk result (values.new.items ≡ values.old.items ++ left.entry) }
+{
+    'values: while let Some(value) = left.next() {
+        values.push(value)?;
     }
     Ok(())
 }

@@ -2,7 +2,8 @@
 //!
 //! Stands on `query_eval` for what was found, on `segment` for the columns of values, on `view_objects` for the documents
 //! inside a document, and on `hit_order` for rows. The contract that others use: `keys` gives each hit that a page can show the
-//! `sort_key` of each clause; `columns` does so for any list of hits. Begin with `specs/Keyed`, then `rows`.
+//! `sort_key` of each clause; `columns` does so for any list of hits, and `next_hit` is one step of a walk over them. Begin with
+//! `specs/Keyed`, then `rows`.
 #![tactic(auto)]
 
 mod asked;
@@ -10,12 +11,12 @@ mod clauses;
 mod hits;
 mod inside;
 mod modes;
-mod nearby;
 mod no_memory;
 mod numbers;
 mod reached;
 mod rows;
 mod texts;
 
+pub use hits::next_hit;
 pub use no_memory::NoMemory;
 pub use rows::{columns, keys};

@@ -12,7 +12,6 @@ use crate::NoMemory;
 use crate::asked::Asked;
 use crate::inside::gather;
 use crate::modes::{is_of_one, number_of};
-use crate::nearby::only_near;
 use doc_values::NumberColumn;
 use hit_order::NumberKeys;
 use query_ast::Missing;
@@ -118,7 +117,12 @@ fn own_number(
     if !asked.chain.is_empty() || !is_of_one(asked.mode) {
         return None;
     }
-    only_near(column, doc, row)
+    let mut values = column.values_near(doc, row);
+    let first = values.next()?;
+    match values.next() {
+        None => Some(first),
+        Some(_) => None,
+    }
 }
 
 /// The numbers inside a document, in place of those before.

@@ -134,6 +134,7 @@ fn candidates(
             &mut values,
         )?;
     }
+    keys.narrow();
     Ok(kept)
 }
 

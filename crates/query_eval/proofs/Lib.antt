@@ -15,3 +15,5 @@ pub mod Relations
 pub mod Meeting
 pub mod Related
 pub mod Slots
+pub mod Cutting
+pub mod Tallied

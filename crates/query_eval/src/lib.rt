@@ -6,7 +6,9 @@
 #![tactic(auto)]
 
 mod answer;
+mod counts;
 mod evaluation;
+mod kept;
 mod law;
 mod leaves;
 mod merges;
@@ -17,7 +19,9 @@ mod tallies;
 mod tally;
 mod trees;
 
+pub use counts::{live_count, up_count};
 pub use evaluation::{found, matches};
+pub use kept::kept as kept_hits;
 pub use law::keys_join_trees;
 pub use merges::merges as merged_hits;
 pub use nests::{downs, ups};

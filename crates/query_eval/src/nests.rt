@@ -46,7 +46,7 @@ pub fn ups(
 }
 
 /// Those of one entry.
-fn up_scores(
+pub(crate) fn up_scores(
     alloc: Global,
     segment: &Segment,
     hits: &Scored,

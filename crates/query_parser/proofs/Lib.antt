@@ -13,3 +13,4 @@ pub mod BucketDefinitions
 pub mod Searches
 pub mod NoInner
 pub mod Joined
+pub mod Known

@@ -5,3 +5,5 @@ pub mod Sorts
 pub mod InnerHits
 pub mod Buckets
 pub mod Search
+-- For proofs alone.
+pub mod Known

@@ -1,22 +1,26 @@
 //! The definitions of inner hits that a body has.
-ghost use Rattle.std.specs.Prelude.{◌≡◌, ◌++◌, ◌∷◌, [], ℕ, List, false, map, codes, Option, Some, IfOk, OnOk};
+ghost use Rattle.std.specs.Prelude.{◌≡◌, ◌++◌, ◌∷◌, [], ℕ, List, false, map, codes, Option, Some, IfOk, IfSome, OnOk};
 ghost use Rattle.mapping.specs.Mapping.{Mapping};
-ghost use Rattle.tree_json.specs.Value.{members_of, member_of, elements_of, object as object_value};
+ghost use Rattle.tree_json.specs.Value.{JsonValue, members_of, member_of, elements_of, object as object_value};
 ghost use Rattle.tree_json.specs.View.{view, values, entries};
+ghost use Rattle.query_ast.specs.Clause.View.{clause_of};
 ghost use Rattle.query_ast.specs.Definition.{Definition, definition, definitions_of};
 ghost use Rattle.query_ast.specs.Inner.{Inner};
 ghost use Rattle.query_ast.specs.Inner.View.{inner_of as seen};
 ghost use Rattle.search_walk.specs.Names.{buckets_in as buckets_value, scope_inside};
 ghost use Rattle.search_walk.specs.Refusal.{name_or, inner_count};
 ghost use Rattle.search_form.specs.Form.{form_at};
-ghost use Rattle.search_form.specs.declared.form.Form.TheVariants.{Query, Sort, Buckets};
+ghost use Rattle.search_form.specs.declared.form.Form.TheVariants.{Buckets};
+ghost use Rattle.query_parser.specs.Known.{known_of, known_under, IsOf, IsOfObject, IsOfElements, IsOfMembers};
+ghost use Rattle.query_parser.specs.Queries.{clause_under};
 ghost use Rattle.query_parser.specs.InnerHits.{below_if, children_if, parents_if, inner_of, held_by, owned_by, inner_at, inner_in, inner_among, inner_if, inner_of_body};
 
+use crate::built::{Built, built_at, built_in, built_under, own_query};
 use crate::queries::clause_under;
 use crate::readings::{child_in, copied, number_under, parent_in, unless_false};
 use crate::sorts::sorts_under;
 use mapping::Mapping;
-use query_ast::{InnerDef, InnerList, InnerOver, NoMemory};
+use query_ast::{InnerDef, InnerList, InnerOver, NoMemory, Query, QueryBox};
 use search_form::{Form, element_of, form_at, single_of};
 use search_walk::{KnownNames, buckets_in, has_parts, member, text_of, text_under};
 use std::alloc::Global;
@@ -58,6 +62,24 @@ fn name_or<'a>(default: &'a [u8], inner: &'a JsonObject) -> &'a [u8]
     }
 }
 
+// The query of a clause, shared with what was built of the clause where that is known.
+fn query_of(
+    alloc: Global,
+    mapping: &Mapping,
+    known: &mut KnownNames,
+    inside: Option<u32>,
+    clause: &JsonObject,
+    shared: Option<&QueryBox>,
+) -> Result<QueryBox, NoMemory>
+    requires { IfSome shared (λ q. q.now ≡ clause_under mapping.now inside (codes "query") (members_of clause.now)) }
+    ensures { IfOk result (λ q. q ≡ clause_under mapping.now inside (codes "query") (members_of clause.now)) }
+{
+    match shared {
+        Some(query) => Ok(query.again()?),
+        None => Ok(clause_under(alloc, mapping, known, inside, b"query", clause)?),
+    }
+}
+
 // A definition with those that it owns: the scope of its hits, what they are looked for in, and its name by default.
 fn defined(
     alloc: Global,
@@ -67,15 +89,17 @@ fn defined(
     over: InnerOver,
     default: &[u8],
     clause: &JsonObject,
+    shared: Option<&QueryBox>,
     inner: &JsonObject,
     owned: Vec<InnerDef>,
 ) -> Result<InnerDef, NoMemory>
+    requires { IfSome shared (λ q. q.now ≡ clause_under mapping.now inside (codes "query") (members_of clause.now)) }
     ensures { IfOk result (λ def. seen def ≡ definition (inner_of mapping.now inside over default.now (members_of clause.now) (members_of inner.now)) (definitions_of (map seen owned.items))) }
 {
     Ok(InnerDef {
         name: copied(alloc, name_or(default, inner))?,
         over,
-        query: clause_under(alloc, mapping, known, inside, b"query", clause)?,
+        query: query_of(alloc, mapping, known, inside, clause, shared)?,
         from: number_under(100, 0, inner, b"from"),
         size: number_under(100, 3, inner, b"size"),
         sort: sorts_under(alloc, mapping, inside, inner)?,
@@ -93,15 +117,17 @@ fn held_by(
     over: InnerOver,
     default: &[u8],
     clause: &JsonObject,
+    shared: Option<&QueryBox>,
     owned: Vec<InnerDef>,
     found: &mut Vec<InnerDef>,
 ) -> Result<(), NoMemory>
+    requires { IfSome shared (λ q. q.now ≡ clause_under mapping.now inside (codes "query") (members_of clause.now)) }
     ensures { OnOk result (map seen found.new.items ≡ map seen found.old.items ++ held_by mapping.now inside over default.now (members_of clause.now) (member_of (members_of clause.now) (codes "inner_hits")) (map seen owned.items)) }
 {
     match member(clause, b"inner_hits") {
         Some(Json::Object(inner)) => {
             found.push(defined(
-                alloc, mapping, known, inside, over, default, clause, inner, owned,
+                alloc, mapping, known, inside, over, default, clause, shared, inner, owned,
             )?)?;
             Ok(())
         }
@@ -118,10 +144,12 @@ fn owned_by(
     inside: Option<u32>,
     form: Form,
     object: &JsonObject,
+    shared: Option<&QueryBox>,
     owned: Vec<InnerDef>,
     found: &mut Vec<InnerDef>,
 ) -> Result<(), NoMemory>
-    requires { inside ≡ scope_inside mapping.now scope form (members_of object.now) }
+    requires inside { inside ≡ scope_inside mapping.now scope form (members_of object.now) }
+    requires shared { IfSome shared (λ q. q.now ≡ clause_under mapping.now inside (codes "query") (members_of object.now)) }
     ensures { OnOk result (map seen found.new.items ≡ map seen found.old.items ++ owned_by mapping.now scope form (members_of object.now) (map seen owned.items)) }
 {
     match form {
@@ -129,21 +157,21 @@ fn owned_by(
             let path = text_under(object, b"path");
             let over = below_if(inside);
             Ok(held_by(
-                alloc, mapping, known, inside, over, path, object, owned, found,
+                alloc, mapping, known, inside, over, path, object, shared, owned, found,
             )?)
         }
         Form::HasChild => {
             let over = children_if(child_in(mapping, scope, object));
             let name = text_under(object, b"type");
             Ok(held_by(
-                alloc, mapping, known, inside, over, name, object, owned, found,
+                alloc, mapping, known, inside, over, name, object, shared, owned, found,
             )?)
         }
         Form::HasParent => {
             let over = parents_if(parent_in(mapping, scope, object));
             let name = text_under(object, b"parent_type");
             Ok(held_by(
-                alloc, mapping, known, inside, over, name, object, owned, found,
+                alloc, mapping, known, inside, over, name, object, shared, owned, found,
             )?)
         }
         _ => Ok(append(found, owned)?),
@@ -170,7 +198,7 @@ fn append(found: &mut Vec<InnerDef>, mut more: Vec<InnerDef>) -> Result<(), NoMe
 
 /// Appends the definitions that a value has.
 #[cycle(inner)]
-#[tactic(auto, using(search_form::specs::Sizes::sizes))]
+#[tactic(auto, using(search_form::specs::Sizes::sizes, crate::proofs::Known::built_walks))]
 fn inner_at(
     alloc: Global,
     mapping: &Mapping,
@@ -178,8 +206,10 @@ fn inner_at(
     scope: Option<u32>,
     form: Form,
     value: &Json,
+    built: Built<'_>,
     found: &mut Vec<InnerDef>,
 ) -> Result<(), NoMemory>
+    requires { IsOf mapping.now scope form (view value.now) (known_of built) }
     ensures { OnOk result (map seen found.new.items ≡ map seen found.old.items ++ inner_at mapping.now scope form (view value.now)) }
 {
     match value {
@@ -190,6 +220,7 @@ fn inner_at(
             scope,
             element_of(form),
             list.as_slice(),
+            built,
             found,
         )?),
         Json::Object(object) => Ok(inner_inside(
@@ -199,6 +230,7 @@ fn inner_at(
             scope,
             single_of(form),
             object,
+            built_in(built, object),
             found,
         )?),
         Json::Null | Json::Bool(_) | Json::Whole(_) | Json::Text(_) => Ok(()),
@@ -206,7 +238,7 @@ fn inner_at(
 }
 
 #[cycle(inner)]
-#[tactic(auto, using(search_form::specs::Sizes::sizes, crate::proofs::NoInner::no_inner))]
+#[tactic(auto, using(search_form::specs::Sizes::sizes, crate::proofs::NoInner::no_inner, crate::proofs::Known::built_walks))]
 fn inner_inside(
     alloc: Global,
     mapping: &Mapping,
@@ -214,8 +246,10 @@ fn inner_inside(
     scope: Option<u32>,
     form: Form,
     object: &JsonObject,
+    built: Built<'_>,
     found: &mut Vec<InnerDef>,
 ) -> Result<(), NoMemory>
+    requires { IsOfObject mapping.now scope form (members_of object.now) (known_of built) }
     ensures { OnOk result (map seen found.new.items ≡ map seen found.old.items ++ owned_by mapping.now scope form (members_of object.now) (inner_among mapping.now (scope_inside mapping.now scope form (members_of object.now)) form (members_of object.now))) }
 {
     if !may_own(form, object) {
@@ -230,6 +264,7 @@ fn inner_inside(
             inside,
             form,
             object.as_slice(),
+            built,
             found,
         )?;
         return Ok(());
@@ -243,16 +278,26 @@ fn inner_inside(
         inside,
         form,
         object.as_slice(),
+        built,
         &mut owned,
     )?;
     owned_by(
-        alloc, mapping, known, scope, inside, form, object, owned, found,
+        alloc,
+        mapping,
+        known,
+        scope,
+        inside,
+        form,
+        object,
+        own_query(built),
+        owned,
+        found,
     )?;
     Ok(())
 }
 
 #[cycle(inner)]
-#[tactic(auto, using(search_form::specs::Sizes::sizes))]
+#[tactic(auto, using(search_form::specs::Sizes::sizes, crate::proofs::Known::built_walks))]
 fn inner_in(
     alloc: Global,
     mapping: &Mapping,
@@ -260,18 +305,29 @@ fn inner_in(
     scope: Option<u32>,
     form: Form,
     elements: &[Json],
+    built: Built<'_>,
     found: &mut Vec<InnerDef>,
 ) -> Result<(), NoMemory>
+    requires { IsOfElements mapping.now scope form elements.now (known_of built) }
     ensures { OnOk result (map seen found.new.items ≡ map seen found.old.items ++ inner_in mapping.now scope form (elements_of (values elements.now))) }
 {
-    'elements: for element in elements {
-        inner_at(alloc, mapping, known, scope, form, element, found)?;
+    'elements: for index in 0..elements.len() {
+        inner_at(
+            alloc,
+            mapping,
+            known,
+            scope,
+            form,
+            &elements[index],
+            built_at(built, index),
+            found,
+        )?;
     }
     Ok(())
 }
 
 #[cycle(inner)]
-#[tactic(auto, using(search_form::specs::Sizes::sizes))]
+#[tactic(auto, using(search_form::specs::Sizes::sizes, crate::proofs::Known::built_walks))]
 fn inner_among(
     alloc: Global,
     mapping: &Mapping,
@@ -279,8 +335,10 @@ fn inner_among(
     scope: Option<u32>,
     form: Form,
     members: &[(JsonText, Json)],
+    built: Built<'_>,
     found: &mut Vec<InnerDef>,
 ) -> Result<(), NoMemory>
+    requires { IsOfMembers mapping.now scope form members.now (known_of built) }
     ensures { OnOk result (map seen found.new.items ≡ map seen found.old.items ++ inner_among mapping.now scope form (members_of (entries members.now))) }
 {
     'members: for (name, value) in members {
@@ -292,6 +350,7 @@ fn inner_among(
             form,
             name.as_slice(),
             value,
+            built,
             found,
         )?;
     }
@@ -300,7 +359,7 @@ fn inner_among(
 
 // Appends those that stand under a name. A single value has none, and its name isn't looked up.
 #[cycle(inner)]
-#[tactic(auto, using(search_form::specs::Sizes::sizes))]
+#[tactic(auto, using(search_form::specs::Sizes::sizes, crate::proofs::Known::built_walks))]
 fn inner_part(
     alloc: Global,
     mapping: &Mapping,
@@ -309,8 +368,10 @@ fn inner_part(
     form: Form,
     name: &[u8],
     value: &Json,
+    built: Built<'_>,
     found: &mut Vec<InnerDef>,
 ) -> Result<(), NoMemory>
+    requires { IsOf mapping.now scope (form_at form name.now) (view value.now) (known_under (known_of built) name.now) }
     ensures { OnOk result (map seen found.new.items ≡ map seen found.old.items ++ inner_at mapping.now scope (form_at form name.now) (view value.now)) }
 {
     match value {
@@ -321,6 +382,7 @@ fn inner_part(
             scope,
             form_at(form, name),
             value,
+            built_under(built, name),
             found,
         )?),
         Json::Null | Json::Bool(_) | Json::Whole(_) | Json::Text(_) => Ok(()),
@@ -334,12 +396,14 @@ fn inner_under(
     form: Form,
     name: &[u8],
     body: &JsonObject,
+    built: Built<'_>,
     found: &mut Vec<InnerDef>,
 ) -> Result<(), NoMemory>
+    requires { (v : JsonValue) → member_of (members_of body.now) name.now ≡ Some v → IsOf mapping.now (Some 0) form v (known_of built) }
     ensures { OnOk result (map seen found.new.items ≡ map seen found.old.items ++ inner_if mapping.now form (member_of (members_of body.now) name.now)) }
 {
     match body.member(name) {
-        Some(value) => Ok(inner_at(alloc, mapping, known, Some(0), form, value, found)?),
+        Some(value) => Ok(inner_at(alloc, mapping, known, Some(0), form, value, built, found)?),
         None => Ok(()),
     }
 }
@@ -354,21 +418,32 @@ fn inner_of_buckets(
     ensures { OnOk result (map seen found.new.items ≡ map seen found.old.items ++ inner_if mapping.now Buckets (buckets_value (members_of body.now))) }
 {
     match buckets_in(body) {
-        Some(value) => Ok(inner_at(alloc, mapping, known, Some(0), Form::Buckets, value, found)?),
+        Some(value) => Ok(inner_at(
+            alloc,
+            mapping,
+            known,
+            Some(0),
+            Form::Buckets,
+            value,
+            Built::Unknown,
+            found,
+        )?),
         None => Ok(()),
     }
 }
 
 /// The definitions that the search hit owns. So many clauses have inner hits; where none has, nothing is walked.
-#[tactic(auto, using(crate::proofs::NoInner::no_inner))]
+#[tactic(auto, using(crate::proofs::NoInner::no_inner, crate::proofs::Known::built_body))]
 pub(crate) fn inner_of_body(
     alloc: Global,
     mapping: &Mapping,
     known: &mut KnownNames,
     body: &JsonObject,
+    query: &Query,
     count: usize,
 ) -> Result<InnerList, NoMemory>
-    requires { count ≡ inner_count mapping.now (object_value (members_of body.now)) }
+    requires count { count ≡ inner_count mapping.now (object_value (members_of body.now)) }
+    requires query { clause_of query.now ≡ clause_under mapping.now (Some 0) (codes "query") (members_of body.now) }
     ensures { IfOk result (λ defs. defs ≡ inner_of_body mapping.now (members_of body.now)) }
 {
     let mut found = Vec::with_capacity(alloc, count)?;
@@ -382,9 +457,19 @@ pub(crate) fn inner_of_body(
         Form::Query,
         b"query",
         body,
+        Built::Query(query),
         &mut found,
     )?;
-    inner_under(alloc, mapping, known, Form::Sort, b"sort", body, &mut found)?;
+    inner_under(
+        alloc,
+        mapping,
+        known,
+        Form::Sort,
+        b"sort",
+        body,
+        Built::Unknown,
+        &mut found,
+    )?;
     inner_of_buckets(alloc, mapping, known, body, &mut found)?;
     Ok(InnerList::of(found))
 }

@@ -6,6 +6,7 @@
 #![tactic(auto)]
 
 mod buckets;
+mod built;
 mod inner;
 mod queries;
 mod readings;

@@ -106,14 +106,16 @@ fn search_by(
     ensures { IfOk result (λ search. search ≡ search_by mapping.now (members_of body.now)) }
 {
     let mut known = KnownNames::new();
+    let query = clause_under(alloc, mapping, &mut known, Some(0), b"query", body)?;
+    let inner = inner_of_body(alloc, mapping, &mut known, body, query.get(), inner_count)?;
     Ok(SearchBody {
-        query: clause_under(alloc, mapping, &mut known, Some(0), b"query", body)?,
+        query,
         sort: sorts_under(alloc, mapping, Some(0), body)?,
         after: after_of(alloc, body)?,
         from: number_under(10_000, 0, body, b"from"),
         size: number_under(10_000, 10, body, b"size"),
         aggs: buckets_inside(alloc, mapping, Some(0), body)?,
-        inner: inner_of_body(alloc, mapping, &mut known, body, inner_count)?,
+        inner,
         pit: pit_of(body),
         source: unless_false(body, b"_source"),
     })

@@ -134,7 +134,11 @@ fn terms_of<'a>(
     ensures groups { IfOk result (λ rows. AreGroups term_cmp ((words_lent words.now ++ keyword_terms (keywords_lent keywords.now)) ++ keys_kept keys.now) (map row_group rows)) }
     ensures are { IfOk result (λ rows. AreRows rows) }
 {
-    let mut terms = Vec::new(alloc);
+    let count = words
+        .len()
+        .saturating_add(keywords.len())
+        .saturating_add(keys.len());
+    let mut terms = Vec::with_capacity(alloc, count)?;
     add_word_terms(words, &mut terms)?;
     add_keyword_terms(keywords, &mut terms)?;
     add_number_terms(keys, &mut terms)?;

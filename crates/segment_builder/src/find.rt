@@ -5,6 +5,7 @@ ghost use Rattle.std.specs.Ordering.{is_gt};
 ghost use Rattle.term_table.specs.Terms.{AreAscending, term_cmp};
 ghost use Rattle.segment_builder.specs.Columns.{terms_in};
 
+use std::cmp::Ordering;
 use term_table::TermRow;
 
 /// The place of a term that is there.
@@ -31,5 +32,9 @@ fn is_after(row: &TermRow, field: u32, bytes: &[u8]) -> bool
     ensures { result ≡ is_gt (term_cmp row.now.term (field, bytes.now)) }
 {
     let (own, term) = &row.term;
-    own.cmp(&field).then(term.as_slice().cmp(bytes)).is_gt()
+    match own.cmp(&field) {
+        Ordering::Less => false,
+        Ordering::Equal => term.as_slice().cmp(bytes).is_gt(),
+        Ordering::Greater => true,
+    }
 }

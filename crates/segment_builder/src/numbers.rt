@@ -52,7 +52,7 @@ fn column_of(alloc: Global, field: u32, members: &[(u32, &[i64])]) -> Result<Row
     requires { IsColumn int_cmp (FitsSigned w64) (field, number_rows members.now) }
     ensures { IfOk result (λ column. column ≡ (field, number_rows members.now)) }
 {
-    let mut rows = Vec::new(alloc);
+    let mut rows = Vec::with_capacity(alloc, members.len())?;
     'members: for (doc, values) in members {
         rows.push((*doc, numbers_of(alloc, *values)?))?;
     }
@@ -65,5 +65,8 @@ fn numbers_of(alloc: Global, values: &[i64]) -> Result<ValueList<i64>, NoMemory>
     requires fit { All (FitsSigned w64) values.now }
     ensures { IfOk result (λ numbers. numbers ≡ values.now) }
 {
-    Ok(ValueList::of(values.to_vec(alloc)?))
+    match values {
+        [value] => Ok(ValueList::one(alloc, *value)),
+        _ => Ok(ValueList::of(values.to_vec(alloc)?)),
+    }
 }

@@ -25,7 +25,7 @@ pub(crate) fn roots_of(alloc: Global, blocks: &[Block]) -> Result<RowList, NoMem
 fn roots_from(alloc: Global, blocks: &[Block]) -> Result<Vec<Root>, NoMemory>
     ensures { IfOk result (λ roots. map root_seen roots.items ≡ map (λ block. block.root) (map block_seen blocks.now)) }
 {
-    let mut roots = Vec::new(alloc);
+    let mut roots = Vec::with_capacity(alloc, blocks.len())?;
     'each: for block in blocks {
         roots.push(root_of(alloc, &block.root)?)?;
     }

@@ -35,7 +35,7 @@ fn rows_from(
 ) -> Result<Vec<TermRow>, NoMemory>
     ensures { IfOk result (λ rows. map row_group rows.items ≡ rows_lent groups.entry.items) }
 {
-    let mut rows = Vec::new(alloc);
+    let mut rows = Vec::with_capacity(alloc, groups.len())?;
     'groups: for ((field, bytes), postings) in groups {
         rows.push(TermRow {
             term: (field, Bytes::of(bytes.to_vec(alloc)?)),
@@ -49,7 +49,7 @@ fn rows_from(
 fn postings_of(alloc: Global, members: &[(u32, &[u32])]) -> Result<PostingList, NoMemory>
     ensures { IfOk result (λ postings. postings ≡ postings_lent members.now) }
 {
-    let mut postings = Vec::new(alloc);
+    let mut postings = Vec::with_capacity(alloc, members.len())?;
     'members: for (doc, positions) in members {
         postings.push((*doc, PositionList::of(positions.to_vec(alloc)?)))?;
     }

@@ -110,7 +110,7 @@ pub(crate) fn number_keys(
 ) -> Result<Vec<(u32, (u32, [u8; 8]))>, NoMemory>
     ensures { IfOk result (λ keys. keys_kept keys.items ≡ number_terms (numbers_lent numbers.now)) }
 {
-    let mut keys = Vec::new(alloc);
+    let mut keys = Vec::with_capacity(alloc, numbers.len())?;
     'entries: for (field, (doc, values)) in numbers {
         add_keys(*field, *doc, *values, &mut keys)?;
     }

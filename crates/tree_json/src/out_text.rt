@@ -1,5 +1,5 @@
 //! The buffer that replies are written into.
-ghost use Rattle.std.specs.Prelude.{◌≡◌, ◌+◌, ◌<◌, ◌≤◌, ◌^◌, ◌++◌, [], length, OnOk, OnErr, IsOk};
+ghost use Rattle.std.specs.Prelude.{◌≡◌, ◌+◌, ◌<◌, ◌≤◌, ◌^◌, ◌++◌, [], ◌∷◌, length, OnOk, OnErr, IsOk};
 ghost use Rattle.tree_json.specs.Output.{room_of};
 
 use std::alloc::{AllocError, AllocFailed, Global};
@@ -72,6 +72,16 @@ impl OutText {
         ensures room { room_of self.old ≤ room_of self.new }
     {
         self.bytes.extend_from_slice(piece).unwrap();
+    }
+
+    /// Appends a byte for which there is room.
+    pub fn push_byte(&mut self, byte: u8)
+        requires { 1 ≤ self.old.spare }
+        ensures bytes { self.new.bytes ≡ self.old.bytes ++ byte ∷ [] }
+        ensures spare { self.old.spare ≤ self.new.spare + 1 }
+        ensures room { room_of self.old ≤ room_of self.new }
+    {
+        self.bytes.push_reserved(byte);
     }
 
     /// Appends a piece, and makes room for it where there is none.

@@ -113,14 +113,14 @@ pub fn put(value: &Json, into: &mut OutText)
         Json::Whole(number) => put_whole(*number, into),
         Json::Text(text) => put_quoted(text.as_slice(), into),
         Json::List(list) => {
-            into.push_spare(b"[");
+            into.push_byte(b'[');
             put_elements(list.as_slice(), into);
-            into.push_spare(b"]");
+            into.push_byte(b']');
         }
         Json::Object(object) => {
-            into.push_spare(b"{");
+            into.push_byte(b'{');
             put_members(object.as_slice(), into);
-            into.push_spare(b"}");
+            into.push_byte(b'}');
         }
     }
 }
@@ -167,7 +167,7 @@ fn put_member(member: &(JsonText, Json), into: &mut OutText)
 {
     let (name, value) = member;
     put_quoted(name.as_slice(), into);
-    into.push_spare(b":");
+    into.push_byte(b':');
     put(value, into);
 }
 
@@ -177,6 +177,6 @@ fn put_comma(later: bool, into: &mut OutText)
     ensures spare { into.old.spare ≤ into.new.spare + length (comma_if later) }
 {
     if later {
-        into.push_spare(b",");
+        into.push_byte(b',');
     }
 }

@@ -49,9 +49,9 @@ pub fn put_quoted(text: &[u8], into: &mut OutText)
     ensures spare { into.old.spare ≤ into.new.spare + length (quoted text.now) }
     ensures room { room_of into.old ≤ room_of into.new }
 {
-    into.push_spare(b"\"");
+    into.push_byte(b'"');
     put_escaped(text, into);
-    into.push_spare(b"\"");
+    into.push_byte(b'"');
 }
 
 // Runs of bytes that stand for themselves are copied whole.
@@ -116,7 +116,7 @@ fn put_escape(byte: u8, into: &mut OutText)
             hex_digit(byte % 16),
         ]);
     } else {
-        into.push_spare(&[byte]);
+        into.push_byte(byte);
     }
 }
 

@@ -9,3 +9,4 @@ pub mod Further
 pub mod Kept
 pub mod Faultless
 pub mod Weights
+pub mod Guesses

@@ -12,6 +12,7 @@ ghost use Rattle.tree_objects.specs.Values.{text_of};
 
 use crate::convert::{boolean_of, date_of, long_of};
 use crate::join::fault_of_join;
+use crate::near::field_near;
 use analysis::{Token, has_short_tokens, tokens};
 use itoa::Buffer;
 use mapping::{Kind, Mapping, NoMemory};
@@ -43,11 +44,14 @@ pub fn first_fault(
     ensures { IfOk result (λ fault. fault ≡ first_fault mapping.now generation (view source.now)) }
 {
     match source {
-        Json::Object(object) => fault_among(alloc, mapping, generation, b"", object.as_slice()),
+        Json::Object(object) => {
+            fault_among(alloc, mapping, generation, b"", 0, object.as_slice())
+        }
         _ => Ok(None),
     }
 }
 
+/// The first fault of members below a path. `first` is most often the number of the first one's field.
 #[cycle(faults)]
 #[tactic(auto, using(crate::proofs::Sizes::sizes))]
 fn fault_among(
@@ -55,10 +59,12 @@ fn fault_among(
     mapping: &Mapping,
     generation: u32,
     path: &[u8],
+    first: u32,
     members: &[(JsonText, Json)],
 ) -> Result<Option<Fault>, NoMemory>
     ensures { IfOk result (λ fault. fault ≡ fault_among mapping.now generation path.now (members_of (entries members.now))) }
 {
+    let mut near = first;
     'members: for (name, value) in members {
         if let Some(fault) = fault_below(
             alloc,
@@ -66,6 +72,7 @@ fn fault_among(
             generation,
             path,
             name.as_slice(),
+            &mut near,
             value,
         )? {
             return Ok(Some(fault));
@@ -74,7 +81,8 @@ fn fault_among(
     Ok(None)
 }
 
-/// The first fault of a value under a name, if the name has a field below the path.
+/// The first fault of a value under a name, if the name has a field below the path: most often that at `near`, which
+/// becomes the next one.
 #[cycle(faults)]
 #[tactic(auto, using(crate::proofs::Sizes::sizes))]
 fn fault_below(
@@ -83,12 +91,16 @@ fn fault_below(
     generation: u32,
     path: &[u8],
     name: &[u8],
+    near: &mut u32,
     value: &Json,
 ) -> Result<Option<Fault>, NoMemory>
     ensures { IfOk result (λ fault. fault ≡ option_and_then (λ f. fault_at mapping.now generation (joined path.now name.now) f (kind_at mapping.now f) (view value.now)) (field_below mapping.now generation path.now name.now)) }
 {
-    match mapping.field_below(generation, path, name) {
-        Some(field) => fault_at(alloc, mapping, generation, field, value),
+    match field_near(mapping, generation, path, name, *near) {
+        Some(field) => {
+            *near = field.saturating_add(1);
+            fault_at(alloc, mapping, generation, field, value)
+        }
         None => Ok(None),
     }
 }
@@ -119,6 +131,7 @@ fn fault_at(
                 mapping,
                 generation,
                 mapping.path(field),
+                field.saturating_add(1),
                 object.as_slice(),
             )
         }

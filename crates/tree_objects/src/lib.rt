@@ -10,6 +10,7 @@ mod fault;
 mod field_value;
 mod join;
 mod law;
+mod near;
 mod refusal;
 
 pub use convert::{is_of_kind, value_of};

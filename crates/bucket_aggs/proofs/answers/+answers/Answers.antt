@@ -17,7 +17,7 @@ use Rattle.query_ast.specs.Resolved.{IsForm}
 use Rattle.query_ast.specs.Uses.{IsValueOf}
 use Rattle.query_ast.specs.declared.agg.AggDef.{AggDef}
 use Rattle.query_ast.specs.declared.agg.AggForm.{AggForm}
-use Rattle.query_ast.specs.declared.agg.AggForm.TheVariants.{Children, Parent, Terms, Min as MinOf, Max as MaxOf, Sum as SumOf, ValueCount}
+use Rattle.query_ast.specs.declared.agg.AggForm.TheVariants.{Children, Parent, ReverseNested, Terms, Min as MinOf, Max as MaxOf, Sum as SumOf, ValueCount}
 use Rattle.query_ast.specs.declared.bucket.Bucket.{Bucket}
 use Rattle.query_eval.specs.Folds.{paired_by}
 use Rattle.query_eval.specs.Found.{IsSeen, score_by}
@@ -60,6 +60,12 @@ around-returns t c = λ given is.
     } in
     reverse_is m c.args.entries.now (definitions_of c.args.inner.now) given (value_of c.in_ok-single.field-0) c.args.scope c.args.path laws c.requires.path
     (c.in_ok-single.ensures (below_by m (mode_of Max) c.args.scope given) (c.in_ok-those.ensures.seen m c.args.scope given c.requires.path is))
+
+pub around-returns-then-is_empty : goal.around-returns-then-is_empty
+around-returns-then-is_empty t c = λ given is.
+    let m = c.args.mapping.now in
+    let none : definitions_of c.args.inner.now ≡ no_definitions = none_inside c.as_slice.result.now c.args.inner.now c.as_slice.ensures (eqb-true (length c.as_slice.result.now) 0 (sym c.is_empty.ensures ∙ c.if-is_empty.true)) in
+    subst (λ (ds : Definitions Agg). IsAnswer m c.args.entries.now c.args.scope (value_by m (ReverseNested c.args.path) ds) given (value_of c.in_ok-around_alone.field-0)) (sym none) (c.in_ok-around_alone.ensures given is)
 
 pub children-returns : goal.children-returns
 children-returns t c = λ given is.
@@ -180,8 +186,8 @@ bucket-returns-then-is_empty t c = λ given is.
     subst (λ (ds : Definitions Agg). IsAnswer m view c.args.scope (bucket_by m c.args.field ds row) given part) (sym none)
     (subst (λ (p : BucketPart). IsAnswer m view c.args.scope (bucket_by m c.args.field no_definitions row) given p) (sym alone) (bucket_alone m view c.args.scope c.args.field given row))
 
-pub bucket-filtered-requires-clause-resolved : goal.bucket-filtered-requires-clause-resolved
-bucket-filtered-requires-clause-resolved t c =
+pub bucket-kept-requires-clause-resolved : goal.bucket-kept-requires-clause-resolved
+bucket-kept-requires-clause-resolved t c =
     let kind = kind_at c.args.mapping.now c.args.field in
     ((c.requires.field.0, (sorted_valued kind c.requires.field.1, (subst (IsValueOf kind) (sym c.in_ok-value.ensures) c.requires.key, tt))), (omega arith, omega arith))
 

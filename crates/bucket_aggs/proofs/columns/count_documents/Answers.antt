@@ -6,14 +6,9 @@ use Rattle.doc_values.specs.Values.{values_of}
 use Rattle.segment_parts.specs.Text.{marked_places}
 use Rattle.bucket_aggs.specs.Counts.{has_ordinal}
 use Rattle.bucket_aggs.proofs.Documents.{left_of, sum_off, sum_on}
-use Rattle.std.specs.Ordering.{nat_cmp}
-use Rattle.bucket_aggs.proofs.NearRows.{values_ascend}
 use Rattle.bucket_aggs.proofs.Ordinals.{list_alone}
 use Rattle.bucket_aggs.proofs.Rowed.{count_mapped, one_if}
 use Rattle.bucket_aggs.proofs.columns.count_documents.Goals as goal
-
-pub count_values-requires : goal.count_values-requires
-count_values-requires c = rw c.values_near-values.ensures (values_ascend nat_cmp c.args.column.now c.in-Some.doc c.values-ascending.ensures.rows.valued)
 
 pub documents-preserved : goal.documents-preserved
 documents-preserved c =
@@ -29,8 +24,8 @@ documents-preserved c =
             arith,
             c.documents.invariant.2 k low,
             c.in_ok-count_values.ensures.each k (omega (arith, low, c.documents.invariant.1)),
-            list_alone (c.args.first + k) c.values_near-values.result.0,
-            ap (λ (vs : List ℕ). cond {A = ℕ} (has_ordinal (c.args.first + k) vs) 1 0) c.values_near-values.ensures,
+            list_alone (c.args.first + k) c.values_near-values.result,
+            ap (λ (vs : List ℕ). cond {A = ℕ} (has_ordinal (c.args.first + k) vs) 1 0) c.values_near-values.ensures.values,
             sum_on (one_if passes) flags from doc next,
             ap (λ (w : Walking). count_by passes (left_of flags w.from)) c.in-Some.ensures.found,
           ),

@@ -1,16 +1,10 @@
-use Rattle.std.proofs.Common.{◌+◌, ap, arith}
-use Rattle.bucket_aggs.proofs.Ordinals.{left_at_start, list_alone, one_left}
+use Rattle.std.proofs.Common.{ℕ, List, [], ◌∷◌, sym, subst, arith}
+use Rattle.std.proofs.lemmas.Bool.{eqb-true}
+use Rattle.bucket_aggs.specs.Counts.{Counted}
+use Rattle.bucket_aggs.proofs.Ordinals.{the_only}
 use Rattle.bucket_aggs.proofs.columns.count_values.Goals as goal
 
-pub returns : goal.returns
-returns c = record {
-  long = c.values.invariant.0;
-  each = λ k low.
-      omega (
-        arith,
-        c.values.invariant.1 k low,
-        left_at_start (c.args.first + k) c.args.values c.requires,
-        list_alone (c.args.first + k) c.args.values,
-        ap (one_left (c.args.first + k) c.values.before) c.in_default.ensures.none.0,
-      );
-}
+pub returns-then-len-eq1 : goal.returns-then-len-eq1
+returns-then-len-eq1 c =
+    subst (λ (ordinals : List ℕ). Counted c.args.first (ordinals ∷ []) c.args.counts.now.items c.count_one.new.counts.items)
+    (sym (the_only c.args.values c.value.result (omega (arith, c.len.ensures, c.if-len-eq1.true)) c.value.ensures)) c.in_ok-count_one.ensures

@@ -19,7 +19,7 @@ documents-preserved g c =
     let next : Some doc ≡ next_place is_marked from flags = sym c.in-Some.is ∙ c.next.ensures.value ∙ ap (next_place is_marked from) c.documents.invariant.0 in (
       ap (λ (w : Walking). w.documents) c.in-Some.ensures.found ∙ c.documents.invariant.0,
       ap (λ (w : Walking). new ++ flat_map of (left_of flags w.from)) c.in-Some.ensures.found
-          ∙ gathered_on of flags from doc old new (flat_map of (left_of flags 0)) next c.documents.invariant.1 (c.in_ok-put_once.ensures ∙ ap (λ (l : List g.row.T.Denot). old ++ once_by g.T.Ord.cmp l) c.values_near-values.ensures),
+          ∙ gathered_on of flags from doc old new (flat_map of (left_of flags 0)) next c.documents.invariant.1 (c.in_ok-put_once.ensures ∙ ap (λ (l : List g.row.T.Denot). old ++ once_by g.T.Ord.cmp l) c.values_near-values.ensures.values),
     )
 
 pub returns : goal.returns

@@ -19,11 +19,11 @@ documents-preserved c =
       ap (λ (w : Walking). w.documents) c.in-Some.ensures.found ∙ c.documents.invariant.0,
       λ zs is.
           let was = c.documents.invariant.1 zs is in
-          let new : List ℤ = was.0 ++ c.values_near-values.result.0 in (
+          let new : List ℤ = was.0 ++ c.values_near-values.result in (
             new,
-            subst (λ (l : List ℤ). IsSummary l c.add_values.new.sums) (append_assoc zs was.0 c.values_near-values.result.0) (c.in_ok-add_values.ensures (zs ++ was.0) was.1),
+            subst (λ (l : List ℤ). IsSummary l c.add_values.new.sums) (append_assoc zs was.0 c.values_near-values.result) (c.in_ok-add_values.ensures (zs ++ was.0) was.1),
             ap (λ (w : Walking). new ++ flat_map of (left_of flags w.from)) c.in-Some.ensures.found
-                ∙ gathered_on of flags from doc was.0 new total next was.2 (ap (λ (l : List ℤ). was.0 ++ l) c.values_near-values.ensures),
+                ∙ gathered_on of flags from doc was.0 new total next was.2 (ap (λ (l : List ℤ). was.0 ++ l) c.values_near-values.ensures.values),
           ),
     )
 

@@ -14,7 +14,7 @@ pub inner_among-inner_part-requires : goal.inner_among-inner_part-requires
 inner_among-inner_part-requires t c =
     let e = member_falls c.args.members.now c.members.name-index c.members-item.result (omega arith) in
     let f : value_size (view c.members-item.result.1) < members_size (members_of (entries c.args.members.now)) = rw (← c.members-item.is) at e in
-    omega (arith, f)
+    (omega (arith, f), rw c.as_slice.ensures.bytes (c.requires c.members.name-index c.members-item.result (omega arith) c.members-item.is))
 
 -- nothing is judged inside a leaf, which owns nothing
 pub inner_inside-returns-then-not-has_parts : goal.inner_inside-returns-then-not-has_parts

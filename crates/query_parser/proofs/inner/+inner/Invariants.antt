@@ -22,7 +22,7 @@ decreases-inner_among l = 2 * members_size (members_of (entries l.members.now))
 
 abbrev pub invariant-inner_in-elements : goal.invariant-inner_in-elements
 invariant-inner_in-elements l =
-    map inner_of l.found.items ++ inner_in l.mapping l.scope l.form (elements_of (values (drop l.element-index l.elements)))
+    map inner_of l.found.items ++ inner_in l.mapping l.scope l.form (elements_of (values (drop l.index l.elements)))
     ≡ map inner_of l.fn.found.items ++ inner_in l.mapping l.scope l.form (elements_of (values l.elements))
 
 abbrev pub invariant-inner_among-members : goal.invariant-inner_among-members

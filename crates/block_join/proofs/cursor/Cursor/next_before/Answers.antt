@@ -1,9 +1,9 @@
-use Rattle.std.proofs.Common.{◌≡◌, ℕ, ◌+◌, ◌<◌, ◌≤◌, List, [], ◌∷◌, length, take, Some, refl, sym, subst, ◌∙◌, arith}
+use Rattle.std.proofs.Common.{◌≡◌, ℕ, ◌+◌, ◌<◌, ◌≤◌, ◌-◌, List, [], ◌∷◌, length, take, Some, is_some, refl, sym, ap, subst, ◌∙◌, arith}
 use Rattle.block_bits.specs.Flags.{is_marked}
 use Rattle.block_bits.specs.Places.{next_place}
 use Rattle.block_join.specs.Kept.{shown, score_of, marks}
 use Rattle.block_join.specs.Scores.{Standing, between}
-use Rattle.block_join.proofs.Standing.{Passed, reads, place_known, stands_behind, stands_at, passes_all, passes_some, walk_documents, walk_behind, view_long, view_from}
+use Rattle.block_join.proofs.Standing.{Passed, reads, place_known, stands_behind, stands_at, passes_all, passes_some, next_shown, walk_documents, walk_behind, view_long, view_from}
 use Rattle.block_join.proofs.cursor.Cursor.next_before.Goals.{in_default-via-in-Some+else-doc-end, in_default-via-in_default}
 use Rattle.block_join.proofs.cursor.Cursor.next_before.Goals as goal
 
@@ -60,6 +60,14 @@ returns-in-Some-clause-later c =
     let from : c.from-self-inside.result ≡ c.in-Some.doc + 1 = c.from-self-inside.ensures.from ∙ behind in
     let same = view_from c.self.inside.walk.documents c.self.inside.scores.now c.self.inside.from c.args.self.now c.self.view_is in
     (omega (arith, from, same, read.later), omega (arith, from, c.if-doc-end.true))
+
+pub returns-in-Some-clause-document : goal.returns-in-Some-clause-document
+returns-in-Some-clause-document c =
+    let behind = rw c.in-Some.is at c.self.invariant.behind in
+    let from : c.from-self-inside.result ≡ c.in-Some.doc + 1 = c.from-self-inside.ensures.from ∙ behind in
+    let doc : c.in-Some.doc ≡ c.from-self-inside.result - 1 = omega (arith, from) in
+    subst (λ (v : Standing). next_place is_some v.from v.scores ≡ Some (c.from-self-inside.result - 1)) c.self.view_is
+    (next_shown (score_of c.self.inside.scores.now) c.self.inside.walk.documents c.self.inside.from ∙ sym c.self.invariant.next ∙ c.in-Some.is ∙ ap Some doc)
 
 pub returns-in_default-clause-none : goal.returns-in_default-clause-none
 returns-in_default-clause-none c =

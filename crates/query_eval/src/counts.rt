@@ -1,0 +1,61 @@
+//! How many hits there are, where the hits themselves are not wanted: an entry's set is let go before the next is made.
+
+ghost use Rattle.std.specs.Prelude.{◌≡◌, ℕ, List, Option, IfOk};
+ghost use Rattle.mapping.specs.Mapping.{Mapping as Meaning, IsAbove};
+ghost use Rattle.query_ast.specs.Clause.{leaf, match_all};
+ghost use Rattle.query_eval.specs.Counted.{IsCount};
+ghost use Rattle.query_eval.specs.Found.{AreLong, IsSeen, score_by};
+ghost use Rattle.query_eval.specs.Nested.{below_by};
+ghost use Rattle.score_math.specs.Scores.{mode_of};
+ghost use Rattle.score_math.specs.declared.score.ScoreMode.{ScoreMode};
+ghost use Rattle.tree_objects.specs.Object.{Object};
+ghost use Rattle.tree_objects.specs.Tree.{Tree};
+
+use crate::NoMemory;
+use crate::leaves::leaf_scores;
+use crate::nests::up_scores;
+use block_join::Matches;
+use mapping::Mapping;
+use query_ast::Query;
+use score_math::ScoreMode;
+use segment_view::Entry;
+use std::alloc::Global;
+
+/// How many objects of a scope have hits inside them.
+pub fn up_count(alloc: Global, entries: &[Entry], hits: &Matches, to: u32) -> Result<u64, NoMemory>
+    requires { AreLong entries.now hits.now }
+    ensures { (m : Meaning) (from : ℕ) (given : List Tree → Object → Option ℕ) → IsAbove m to from → IsSeen m entries.now from given hits.now
+        → IfOk result (IsCount m entries.now to (below_by m (mode_of ScoreMode.Max) from given)) }
+{
+    let hits = hits.as_slice();
+    let mut count: u64 = 0;
+    'entries: for at in 0..entries.len() {
+        let scores = up_scores(alloc, entries[at].segment(), &hits[at], to, ScoreMode::Max)?;
+        let Some(more) = count.checked_add(u64::from(scores.set().count())) else {
+            return Err(NoMemory);
+        };
+        count = more;
+    }
+    Ok(count)
+}
+
+/// How many live objects of a scope there are.
+pub fn live_count(
+    alloc: Global,
+    entries: &[Entry],
+    mapping: &Mapping,
+    scope: u32,
+) -> Result<u64, NoMemory>
+    ensures { IfOk result (IsCount mapping.now entries.now scope (score_by mapping.now (leaf match_all 1))) }
+{
+    let all = Query::MatchAll { boost: 1 };
+    let mut count: u64 = 0;
+    'entries: for at in 0..entries.len() {
+        let scores = leaf_scores(alloc, &entries[at], mapping, &all, scope, 1)?;
+        let Some(more) = count.checked_add(u64::from(scores.set().count())) else {
+            return Err(NoMemory);
+        };
+        count = more;
+    }
+    Ok(count)
+}
