@@ -3,4 +3,3 @@ pub mod Numbers
 pub mod Entries
 pub mod Kept
 pub mod Found
-pub mod Alone

@@ -1,5 +1,5 @@
 -- Which columns there are, and where one stands in the bytes of a segment.
-use Rattle.std.specs.Prelude.{◌≡◌, ℕ, ◌+◌, ◌<◌, ◌≤◌, ◌^◌, List, [], ◌∷◌, ◌++◌, length, drop, Option, Some, None}
+use Rattle.std.specs.Prelude.{◌≡◌, ℕ, ◌+◌, ◌<◌, ◌≤◌, ◌^◌, List, ◌++◌, length, drop}
 use Rattle.std.specs.List.{All}
 use Rattle.std.specs.declared.cmp.Ordering.{Ordering}
 use Rattle.part_text.specs.Places.{places_from}
@@ -37,8 +37,3 @@ pub record IsRow {X : Type 0} (cmp : X → X → Ordering) (Fits : X → Type 0)
   pub numbered : row.0 < 2 ^ 32
   pub valued : AreValues cmp row.1
   pub fit : All Fits row.1
-
--- the values that a list keeps: one alone, or those beside it
-abbrev pub values_kept : {X : Type 0} → Option X → List X → List X
-values_kept (Some value) values = value ∷ []
-values_kept None values = values

@@ -1,6 +1,6 @@
 //! Rows of values, as a column is written from them.
 
-ghost use Rattle.std.specs.Prelude.{◌≡◌, ◌++◌, ◌∷◌, [], ℕ, List, ◌<◌, ◌^◌, ◌↔◌, length, IsTrue};
+ghost use Rattle.std.specs.Prelude.{◌≡◌, ◌++◌, ℕ, List, ◌<◌, ◌^◌, ◌↔◌, length, IsTrue};
 ghost use Rattle.std.specs.List.{All};
 ghost use Rattle.std.specs.List.Sorted.{IsStrictlyIncreasing};
 ghost use Rattle.doc_values.specs.Values.{documents, AreValues};
@@ -8,14 +8,11 @@ ghost use Rattle.doc_values.specs.Text.{column_text};
 ghost use Rattle.doc_values.specs.Stands.{AreEntries, IsColumn, IsRow};
 
 use crate::ColumnValue;
-use std::alloc::Global;
 use std::marker::Model;
 
-/// The values of one document: one or more, ascending, a value as often as it stands there. One alone takes no memory of
-/// its own.
+/// The values of one document: one or more, ascending, a value as often as it stands there.
 #[derive(Drop)]
 pub struct ValueList<T: ColumnValue> {
-    alone: Option<T>,
     values: Vec<T>,
 }
 
@@ -23,13 +20,12 @@ impl<T: ColumnValue> Model for ValueList<T> {
     ghost use Rattle.std.specs.Prelude.{List};
     ghost use Rattle.std.specs.List.{All};
     ghost use Rattle.doc_values.specs.Values.{AreValues};
-    ghost use Rattle.doc_values.specs.Stands.{values_kept};
 
     ghost Value = { List T };
 
-    ghost view = { λ list. values_kept list.alone list.values.items };
+    ghost view = { λ list. list.values.items };
 
-    ghost invariant = { λ list. AreValues T.cmp (values_kept list.alone list.values.items) × All T.Fits (values_kept list.alone list.values.items) };
+    ghost invariant = { λ list. AreValues T.cmp list.values.items × All T.Fits list.values.items };
 }
 
 impl<T: ColumnValue> ValueList<T> {
@@ -39,24 +35,7 @@ impl<T: ColumnValue> ValueList<T> {
         requires fit { All T.Fits values.items }
         ensures { result ≡ values.items }
     {
-        ValueList {
-            alone: None,
-            values,
-        }
-    }
-
-    /// The list of one value. Takes no memory.
-    #[tactic(auto, using(crate::proofs::Alone::alone))]
-    pub fn one(alloc: Global, value: T) -> ValueList<T>
-        ensures value { result ≡ value ∷ [] }
-        ensures are { AreValues T.cmp result }
-        ensures fit { All T.Fits result }
-    {
-        value.fits();
-        ValueList {
-            alone: Some(value),
-            values: Vec::new(alloc),
-        }
+        ValueList { values }
     }
 
     /// Whether values are one or more, fewer than 2^32 and ascending, as a list wants them.
@@ -82,10 +61,7 @@ impl<T: ColumnValue> ValueList<T> {
         ensures are { AreValues T.cmp self.now }
         ensures fit { All T.Fits self.now }
     {
-        match &self.alone {
-            Some(value) => value.alone(),
-            None => self.values.as_slice(),
-        }
+        self.values.as_slice()
     }
 }
 

@@ -20,9 +20,11 @@ fn column<T: ColumnValue>(
     let mut two = Vec::new(alloc);
     two.push(low)?;
     two.push(high)?;
+    let mut one = Vec::new(alloc);
+    one.push(low)?;
     let mut rows = Vec::new(alloc);
     rows.push((1, values(rt, two)))?;
-    rows.push((4, ValueList::one(alloc, low)))?;
+    rows.push((4, values(rt, one)))?;
     assert!(rt; RowList::are_entries(rows.as_slice()));
     Ok(RowList::of(3, rows))
 }

@@ -1,6 +1,6 @@
 //! What a column keeps: values of eight bytes, in an order.
 
-ghost use Rattle.std.specs.Prelude.{◌≡◌, ◌≤◌, ◌++◌, ◌∷◌, [], ℕ, List, length, Option, OnOk, OnErr, FitsSigned};
+ghost use Rattle.std.specs.Prelude.{◌≡◌, ◌≤◌, ◌++◌, ℕ, List, length, Option, OnOk, OnErr, FitsSigned};
 ghost use Rattle.std.specs.Int.{w64};
 ghost use Rattle.part_text.specs.Text.{u64_text, i64_text};
 ghost use Rattle.doc_values.specs.Values.{IsOrdinal};
@@ -9,7 +9,6 @@ ghost use Rattle.part_text.specs.Front.{first_u64, first_i64};
 ghost use Rattle.part_text.specs.Reads.{Reads, u64_reads, i64_reads, first_u64-text, first_i64-text, length-u64_text, length-i64_text};
 
 use part_text::{NoMemory, first_i64, first_u64, i64_at, put_i64, put_u64, u64_at};
-use std::slice::from_ref;
 
 /// A value that a column keeps: a signed number or an ordinal, as eight bytes.
 pub trait ColumnValue: Ord + Copy {
@@ -34,10 +33,6 @@ pub trait ColumnValue: Ord + Copy {
     fn put(self, into: &mut Vec<u8>) -> Result<(), NoMemory>
         ensures put { OnOk result (into.new.items ≡ into.old.items ++ text self) }
         ensures unchanged { OnErr result (into.new.items ≡ into.old.items) };
-
-    /// The list of the value alone.
-    fn alone(&self) -> &[Self]
-        ensures { result.now ≡ self.now ∷ [] };
 
     /// Says that the value fits its eight bytes, as each does.
     fn fits(self)
@@ -71,10 +66,6 @@ impl ColumnValue for i64 {
         put_i64(into, self)
     }
 
-    fn alone(&self) -> &[i64] {
-        from_ref(self)
-    }
-
     fn fits(self) {}
 
     ghost reads = { i64_reads };
@@ -103,10 +94,6 @@ impl ColumnValue for u64 {
 
     fn put(self, into: &mut Vec<u8>) -> Result<(), NoMemory> {
         put_u64(into, self)
-    }
-
-    fn alone(&self) -> &[u64] {
-        from_ref(self)
     }
 
     fn fits(self) {}

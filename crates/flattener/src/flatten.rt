@@ -1,5 +1,5 @@
 //! The block of a tree.
-ghost use Rattle.std.specs.Prelude.{◌≡◌, ◌⊎◌, ◌≤◌, ◌<◌, ◌^◌, ℕ, List, length, map, [], Some, None, IfErr, IfOk, IsErrOf, IsOk, OnOk};
+ghost use Rattle.std.specs.Prelude.{◌≡◌, ◌⊎◌, ◌≤◌, ◌<◌, ◌^◌, ℕ, List, length, map, Some, None, IfErr, IfOk, IsErrOf, IsOk, OnOk};
 ghost use Rattle.tree_json.specs.Levels.{levels, most_levels};
 ghost use Rattle.tree_json.specs.Reading.{reading, value as is_value};
 ghost use Rattle.tree_json.specs.Text.{compact};
@@ -19,9 +19,6 @@ use segment::{Bytes, Root};
 use std::alloc::Global;
 use tree_json::{Json, OutText, print};
 use tree_objects::{Fault, first_fault};
-
-/// How many documents a tree usually has at most.
-const USUAL_DOCUMENTS: usize = 8;
 
 /// The block of a tree by its source, its id, its sequence number and the generation of the mapping that it is indexed
 /// under. The refusals are looked for in the order of `FlattenRefusal`: a fault is the first that a walk over the
@@ -84,7 +81,7 @@ fn documents(
 {
     let levels = mapping.scope_count();
     let mut found = Vec::new(alloc);
-    let mut documents = usual_room(alloc)?;
+    let mut documents = Vec::new(alloc);
     match walk(
         alloc,
         mapping,
@@ -99,13 +96,6 @@ fn documents(
         Err(WalkRefusal::TooManyObjects) => Err(FlattenRefusal::TooManyObjects),
         Err(WalkRefusal::NoMemory) => Err(FlattenRefusal::NoMemory),
     }
-}
-
-/// Room for the documents of a usual tree.
-fn usual_room(alloc: Global) -> Result<Vec<Document>, NoMemory>
-    ensures { IfOk result (λ v. v.items ≡ []) }
-{
-    Ok(Vec::with_capacity(alloc, USUAL_DOCUMENTS)?)
 }
 
 /// What is kept of a root.

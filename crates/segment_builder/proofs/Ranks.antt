@@ -1,5 +1,5 @@
 -- Ordinals of keywords ascend as the keywords do, and make columns that can be written.
-use Rattle.std.proofs.Common.{◌≡◌, ℕ, ◌+◌, ◌<◌, ◌^◌, true, false, List, [], ◌∷◌, length, map, get_or, slice_get, Option, Some, Contains, refl, sym, ap, subst, ◌∙◌, arith, Vec}
+use Rattle.std.proofs.Common.{◌≡◌, ℕ, ◌+◌, ◌<◌, ◌^◌, true, false, List, [], length, map, get_or, slice_get, Option, Some, Contains, refl, sym, ap, subst, ◌∙◌, arith, Vec}
 use Rattle.std.specs.Cmp.Lexicographic.{slice_cmp}
 use Rattle.std.specs.List.{All}
 use Rattle.std.specs.List.Sorted.{IsSorted, IsStrictlyIncreasing}
@@ -77,11 +77,6 @@ lent_at {A} P values i item inside is all =
     let count : i < length (bytes_lent values) = omega (arith, inside, length-map values (λ (bytes : Vec ℕ A). bytes.items)) in
     let own : get_or (bytes_lent values) i [] ≡ (get_or values i item).items = get_or-map (λ (bytes : Vec ℕ A). bytes.items) values i item [] inside in
     subst P (own ∙ ap (λ (bytes : Vec ℕ A). bytes.items) (sym is)) (all i [] count)
-
-pub there_alone : {A : Type 0} (terms : List (ℕ × List ℕ)) (field : ℕ) (value : Vec ℕ A) → All (λ bytes. Contains terms (field, bytes)) (bytes_lent (value ∷ [])) → Contains terms (field, value.items)
-there_alone terms field value all = all 0 [] (omega arith)
-
-pub ruleset alone = (there_alone)
 
 -- ---- rows and columns
 

@@ -65,8 +65,5 @@ fn numbers_of(alloc: Global, values: &[i64]) -> Result<ValueList<i64>, NoMemory>
     requires fit { All (FitsSigned w64) values.now }
     ensures { IfOk result (λ numbers. numbers ≡ values.now) }
 {
-    match values {
-        [value] => Ok(ValueList::one(alloc, *value)),
-        _ => Ok(ValueList::of(values.to_vec(alloc)?)),
-    }
+    Ok(ValueList::of(values.to_vec(alloc)?))
 }

@@ -1,6 +1,6 @@
 //! Keywords as ordinals of their terms.
 
-ghost use Rattle.std.specs.Prelude.{◌≡◌, ◌∷◌, [], ℕ, List, map, slice_get, Contains, IfOk};
+ghost use Rattle.std.specs.Prelude.{◌≡◌, ℕ, List, map, slice_get, Contains, IfOk};
 ghost use Rattle.std.specs.Cmp.Lexicographic.{slice_cmp};
 ghost use Rattle.std.specs.List.{All};
 ghost use Rattle.std.specs.Ordering.{nat_cmp};
@@ -94,39 +94,7 @@ fn rows_from(
 }
 
 /// The ordinals of the keywords of one document.
-#[tactic(auto, using(crate::proofs::Ranks::alone))]
 fn ordinals_of(
-    alloc: Global,
-    terms: &[TermRow],
-    field: u32,
-    values: &[Vec<u8>],
-) -> Result<ValueList<u64>, NoMemory>
-    requires ascending { AreAscending (terms_in terms.now) }
-    requires there { All (λ bytes. Contains (terms_in terms.now) (field, bytes)) (bytes_lent values.now) }
-    requires values { AreValues (slice_cmp nat_cmp) (bytes_lent values.now) }
-    ensures terms { IfOk result (λ ordinals. map (slice_get (terms_in terms.now)) ordinals ≡ named field (bytes_lent values.now)) }
-    ensures are { IfOk result (λ ordinals. AreValues nat_cmp ordinals) }
-    ensures fit { IfOk result (λ ordinals. All IsOrdinal ordinals) }
-{
-    match values {
-        [value] => Ok(ordinal_of(alloc, terms, field, value.as_slice())),
-        _ => Ok(ordinals_among(alloc, terms, field, values)?),
-    }
-}
-
-/// The ordinal of the only keyword of a document.
-fn ordinal_of(alloc: Global, terms: &[TermRow], field: u32, value: &[u8]) -> ValueList<u64>
-    requires ascending { AreAscending (terms_in terms.now) }
-    requires there { Contains (terms_in terms.now) (field, value.now) }
-    ensures terms { map (slice_get (terms_in terms.now)) result ≡ named field (value.now ∷ []) }
-    ensures are { AreValues nat_cmp result }
-    ensures fit { All IsOrdinal result }
-{
-    ValueList::one(alloc, find(terms, field, value) as u64)
-}
-
-/// The ordinals of several keywords of a document.
-fn ordinals_among(
     alloc: Global,
     terms: &[TermRow],
     field: u32,
