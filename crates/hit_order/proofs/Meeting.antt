@@ -112,13 +112,12 @@ cut_all P most old moved new turned is all =
     subst (AllByRecursion P) (sym is) (recursion_from_All P (take most moved) (All-take P most moved (All-permutation P old moved turned (All-from_recursion P old all))))
 
 -- the last of those that are kept, which none of the others stands behind
-pub cut_front : (most : ℕ) (front back moved new : Numbers) (last : Option ℤ) → moved ≡ front ++ last ∷ back → suc (length front) ≡ most → new ≡ take most moved → new ≡ front ++ last ∷ []
-cut_front most front back moved new last is long cut =
-    cut ∙ ap (take most) is ∙ subst (λ n. take n (front ++ last ∷ back) ≡ front ++ last ∷ []) long (by front)
+pub front_kept : (most : ℕ) (front back new : Numbers) (last : Option ℤ) → suc (length front) ≡ most → new ≡ front ++ last ∷ [] → new ≡ take most (front ++ last ∷ back)
+front_kept most front back new last long is = is ∙ subst (λ n. front ++ last ∷ [] ≡ take n (front ++ last ∷ back)) long (by front)
   where
-    by : (xs : Numbers) → take (suc (length xs)) (xs ++ last ∷ back) ≡ xs ++ last ∷ []
+    by : (keys : Numbers) → keys ++ last ∷ [] ≡ take (suc (length keys)) (keys ++ last ∷ back)
     by [] = refl
-    by (x ∷ xs) = ap (λ ys. x ∷ ys) (by xs)
+    by (key ∷ keys) = ap (λ others. key ∷ others) (by keys)
 
 pub last_of : (front : Numbers) (last : Option ℤ) → Some last ≡ slice_get (front ++ last ∷ []) (length (front ++ last ∷ []) - 1)
 last_of front last =

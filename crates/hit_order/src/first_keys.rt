@@ -1,5 +1,5 @@
 //! The first keys that the rows of a page can have.
-ghost use Rattle.std.specs.Prelude.{◌≡◌, ◌++◌, ◌∷◌, ◌-◌, ◌≤◌, [], List, None, Bool, map, true, false, length, slice_get, IfOk, IfSome, OnOk, option_map};
+ghost use Rattle.std.specs.Prelude.{◌≡◌, ◌++◌, ◌∷◌, ◌-◌, ◌≤◌, [], List, None, Bool, map, true, false, length, slice_get, vec_capacity, IfOk, IfSome, OnOk, option_map};
 ghost use Rattle.std.specs.List.{AllByRecursion, count_by};
 ghost use Rattle.query_ast.specs.declared.sort.Key.{Key as RowKey};
 ghost use Rattle.hit_order.specs.Reach.{AreMet, IsNarrower, first_of_row, is_late, is_near, is_next, is_within, key_before};
@@ -11,10 +11,12 @@ use crate::compare::{KeyRef, compared, first_key};
 use query_ast::{Direction, Key, KeyRow, rows_stand_in_order};
 use std::alloc::Global;
 use std::marker::Model;
+use std::mem::swap;
 
 /// Which first keys the rows of a page can have, where these are numbers or null, by the keys that were met so far.
 ///
-/// It keeps at most twice as many keys as the page has rows.
+/// It keeps at most twice as many keys as the page has rows, and has room for as many, in which those are put that are
+/// left when the keys are cut.
 #[derive(Drop)]
 pub struct FirstKeys<'a> {
     direction: Direction,
@@ -22,10 +24,11 @@ pub struct FirstKeys<'a> {
     most: usize,
     bound: Option<Option<i64>>,
     keys: Vec<Option<i64>>,
+    room: Vec<Option<i64>>,
 }
 
 impl<'a> Model for FirstKeys<'a> {
-    ghost use Rattle.std.specs.Prelude.{◌≡◌, true, map, option_map};
+    ghost use Rattle.std.specs.Prelude.{◌≡◌, ◌≤◌, [], true, map, length, option_map, vec_capacity};
     ghost use Rattle.std.specs.List.{AllByRecursion};
     ghost use Rattle.hit_order.specs.Reach.{Met, met_code, is_near};
     ghost use Rattle.hit_order.specs.Shown.{key_shown};
@@ -37,7 +40,7 @@ impl<'a> Model for FirstKeys<'a> {
 
     ghost view = { λ it. record { direction = it.direction; after = option_map key_shown it.after; most = it.most; bound = option_map number_or_null it.bound; keys = map number_or_null it.keys.items } };
 
-    ghost invariant = { λ it. AllByRecursion (λ key. is_near it.direction (option_map number_or_null it.bound) (number_or_null key) ≡ true) it.keys.items };
+    ghost invariant = { λ it. AllByRecursion (λ key. is_near it.direction (option_map number_or_null it.bound) (number_or_null key) ≡ true) it.keys.items × (it.room.items ≡ []) × (length it.keys.items ≤ vec_capacity it.room) };
 }
 
 impl<'a> FirstKeys<'a> {
@@ -59,6 +62,7 @@ impl<'a> FirstKeys<'a> {
             most,
             bound: None,
             keys: Vec::new(alloc),
+            room: Vec::new(alloc),
         }
     }
 
@@ -93,7 +97,7 @@ impl<'a> FirstKeys<'a> {
         if self.keys.len() < self.most {
             return;
         }
-        let last = cut(self.direction, self.most, &mut self.keys);
+        let last = cut(self.direction, self.most, &mut self.keys, &mut self.room);
         if let Some(last) = last {
             self.bound = Some(last);
         }
@@ -136,6 +140,7 @@ impl<'a> FirstKeys<'a> {
         ensures narrower { OnOk result (IsNarrower self.old self.new) }
         ensures met { OnOk result ((all : List RowKey) → AreMet all self.old → AreMet (all ++ number_or_null key ∷ []) self.new) }
     {
+        self.room.reserve(self.keys.len() + 1)?;
         self.keys.push(key)?;
         if self.keys.len() / 2 < self.most {
             return Ok(());
@@ -145,25 +150,37 @@ impl<'a> FirstKeys<'a> {
     }
 }
 
-/// Keeps the first so many keys, in no order but that the last of them comes last. It gives that one.
-fn cut(direction: Direction, most: usize, keys: &mut Vec<Option<i64>>) -> Option<Option<i64>>
-    requires { most ≤ length keys.old.items }
+/// Keeps the first so many keys, in no order but that the last of them comes last. It gives that one, and takes no memory.
+fn cut(
+    direction: Direction,
+    most: usize,
+    keys: &mut Vec<Option<i64>>,
+    room: &mut Vec<Option<i64>>,
+) -> Option<Option<i64>>
+    requires enough { most ≤ length keys.old.items }
+    requires empty { room.old.items ≡ [] }
+    requires fits { length keys.old.items ≤ vec_capacity room.old }
     ensures counted { (test : RowKey → Bool) → count_by test (map number_or_null keys.new.items) ≤ count_by test (map number_or_null keys.old.items) }
     ensures all { (test : RowKey → Bool) → AllByRecursion (λ key. test (number_or_null key) ≡ true) keys.old.items → AllByRecursion (λ key. test (number_or_null key) ≡ true) keys.new.items }
     ensures long { length keys.new.items ≡ most }
     ensures last { result ≡ slice_get keys.new.items (length keys.new.items - 1) }
     ensures least { IfSome result (λ bound. AllByRecursion (λ key. key_before direction (number_or_null bound) (number_or_null key) ≡ false) keys.new.items) }
+    ensures empty { room.new.items ≡ [] }
+    ensures fits { length keys.new.items ≤ vec_capacity room.new }
 {
     rows_stand_in_order::<Option<i64>>();
     let Some(place) = most.checked_sub(1) else {
         keys.clear();
         return None;
     };
-    let (_, last, _) = keys.select_nth_unstable_by(place, |one, other| {
+    let (front, last, _) = keys.select_nth_unstable_by(place, |one, other| {
         compared(direction, number_ref(*one), number_ref(*other))
     });
     let last = *last;
-    keys.truncate(most);
+    room.extend_from_slice(front).unwrap();
+    room.push(last).unwrap();
+    swap(keys, room);
+    room.clear();
     Some(last)
 }
 

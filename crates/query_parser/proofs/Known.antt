@@ -75,6 +75,18 @@ single_in : (o : Option (Seq (Seq ℕ × Presence × Form))) (name : Seq ℕ) (o
 single_in None name other all h = h
 single_in (Some lines) name other all h = single_among lines name other all h
 
+-- ---- an object with one member, and one with more
+
+pub only_one : (ms : Seq Entry) (o : Seq (Seq ℕ × JsonValue)) (c : Clause) → entries ms ≡ o → 1 ≤ length ms → length ms < 2 → known_in (of_query c) (members_of o) ≡ of_query c
+only_one [] o c is some few = absurd (omega (arith, some))
+only_one (x ∷ []) o c is some few = ap (λ (o : Seq (Seq ℕ × JsonValue)). known_in (of_query c) (members_of o)) (sym is)
+only_one (x ∷ y ∷ ms) o c is some few = absurd (omega (arith, few))
+
+pub not_one : (ms : Seq Entry) (o : Seq (Seq ℕ × JsonValue)) (c : Clause) → entries ms ≡ o → 2 ≤ length ms → known_in (of_query c) (members_of o) ≡ unknown
+not_one [] o c is many = absurd (omega (arith, many))
+not_one (x ∷ []) o c is many = absurd (omega (arith, many))
+not_one (x ∷ y ∷ ms) o c is many = ap (λ (o : Seq (Seq ℕ × JsonValue)). known_in (of_query c) (members_of o)) (sym is)
+
 module _ (m : Mapping) where
   -- ---- parts
 

@@ -1,6 +1,6 @@
 -- No part that is judged stands where a form has none.
 use Rattle.std.proofs.Common.{◌≡◌, ℕ, List as Seq, [], ◌∷◌, Bool, true, false, not, ◌&&◌, Option, Some, None, refl, sym, bytes_eq}
-use Rattle.std.proofs.lemmas.Bool.{and_parts, and_from, false≢true}
+use Rattle.std.proofs.lemmas.Bool.{and_parts, false≢true}
 use Rattle.std.specs.List.{list_all}
 use Rattle.tree_json.specs.Value.{JsonValue, null, bool, whole, text, list, object, Elements, no_elements, element, Members, no_members, member}
 use Rattle.mapping.specs.Mapping.{Mapping}

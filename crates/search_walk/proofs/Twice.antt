@@ -1,5 +1,5 @@
 -- A name comes twice exactly if one copy is dropped where each is kept once.
-use Rattle.std.proofs.Common.{◌≡◌, ◌∙◌, sym, ap, ℕ, suc, ◌+◌, ◌≤◌, ◌<◌, nat_lt, Bool, true, false, ◌||◌, List as Seq, [], ◌∷◌, map, length, bytes_eq, if◌then◌else◌, subst, refl, arith, Ordering, Less, nat_cmp}
+use Rattle.std.proofs.Common.{◌≡◌, ◌∙◌, sym, ap, ℕ, ◌+◌, ◌≤◌, nat_lt, Bool, true, false, ◌||◌, List as Seq, [], ◌∷◌, map, length, bytes_eq, if◌then◌else◌, subst, refl, arith, Ordering, Less, nat_cmp}
 use Rattle.std.proofs.lemmas.Bool.{false≢true, ltb-false, le-ltb}
 use Rattle.std.proofs.lemmas.List.Kept.{IsStrictlySortedBy-dedup}
 use Rattle.std.proofs.lemmas.List.Sorted.{IsPermutation-sym, length_permutation}

@@ -5,7 +5,6 @@ use Rattle.std.proofs.lemmas.List.Folds.{list_any-append}
 use Rattle.std.specs.Option.{option_or}
 use Rattle.std.specs.List.{list_any, filter}
 use Rattle.mapping.specs.Mapping.{Mapping}
-use Rattle.search_walk.specs.declared.refusal.SearchRefusal.{SearchRefusal}
 use Rattle.search_walk.specs.Fault.{first_fault, fault_of}
 use Rattle.search_walk.specs.Node.{Node}
 use Rattle.search_walk.specs.Refusal.{inner_name_at, inner_names, has_large_window, is_clause, is_deep, has_many_terms}

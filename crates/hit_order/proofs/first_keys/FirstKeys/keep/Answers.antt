@@ -2,7 +2,7 @@ use Rattle.std.proofs.Common.{◌++◌, ◌∷◌, []}
 use Rattle.std.specs.Prelude.{option_map}
 use Rattle.hit_order.specs.Shown.{key_shown}
 use Rattle.hit_order.specs.Table.{number_or_null}
-use Rattle.hit_order.proofs.Meeting.{keep_met, pushed_near}
+use Rattle.hit_order.proofs.Meeting.{keep_met}
 use Rattle.hit_order.proofs.first_keys.FirstKeys.keep.Goals as goal
 
 pub returns-then-len-self-clause-met : goal.returns-then-len-self-clause-met

@@ -7,19 +7,19 @@ use Rattle.hit_order.proofs.Meeting.{all_near_last, keep_cut, least_of, met_fewe
 use Rattle.hit_order.proofs.Reaching.{key_order}
 use Rattle.hit_order.proofs.first_keys.FirstKeys.narrow.Goals as goal
 
-pub invariant_of-self : goal.invariant_of-self-in-Some
-invariant_of-self c = all_near_last c.self.inside.direction c.in-Some.last c.cut-last.new.keys.items (least_of c.self.inside.direction c.cut-last.new.keys.items c.cut-last.result c.in-Some.last c.in-Some.is c.cut-last.ensures.least)
+pub invariant_of-self : goal.invariant_of-self
+invariant_of-self c = (all_near_last c.self.inside.direction c.in-Some.last c.cut-last.new.keys.items (least_of c.self.inside.direction c.cut-last.new.keys.items c.cut-last.result c.in-Some.last c.in-Some.is c.cut-last.ensures.least), c.cut-last.ensures.empty, c.cut-last.ensures.fits)
 
 pub invariant_of-self-in_default : goal.invariant_of-self-in_default
 invariant_of-self-in_default c =
     let s = c.self.inside in
-    c.cut-last.ensures.all (is_near s.direction (option_map number_or_null s.bound)) c.self.invariant
+    (c.cut-last.ensures.all (is_near s.direction (option_map number_or_null s.bound)) c.self.invariant.0, c.cut-last.ensures.empty, c.cut-last.ensures.fits)
 
 pub returns-in-Some-clause-narrower : goal.returns-in-Some-clause-narrower
 returns-in-Some-clause-narrower c =
     let s = c.self.inside in
     narrower s.direction (key_order s.direction c.rows_stand_in_order.ensures.order) (option_map key_shown s.after) s.most s.bound s.keys.items c.cut-last.new.keys.items c.in-Some.last c.args.self.now c.self.view_is
-    (c.cut-last.ensures.all (is_near s.direction (option_map number_or_null s.bound)) c.self.invariant)
+    (c.cut-last.ensures.all (is_near s.direction (option_map number_or_null s.bound)) c.self.invariant.0)
     (sym c.in-Some.is ∙ c.cut-last.ensures.last)
 
 pub returns-in-Some-clause-met : goal.returns-in-Some-clause-met
