@@ -1,5 +1,5 @@
 -- Hits that are counted entry by entry, and not kept.
-use Rattle.std.proofs.Common.{◌≡◌, ℕ, ◌+◌, ◌<◌, ◌≤◌, List, [], ◌∷◌, ◌++◌, length, map, take, get_or, count_by, sum_by, Option, is_some, refl, ◌∙◌, arith}
+use Rattle.std.proofs.Common.{◌≡◌, ℕ, ◌+◌, ◌<◌, ◌≤◌, List, [], ◌∷◌, ◌++◌, length, map, take, get_or, count_by, Option, is_some, refl, arith}
 use Rattle.std.proofs.lemmas.List.Sums.{sum_by-append}
 use Rattle.block_bits.specs.Flags.{is_marked}
 use Rattle.flattener.specs.StandsFor.{EntryStandsFor, ViewStandsFor}

@@ -1,6 +1,6 @@
 //! How many hits there are, where the hits themselves are not wanted: an entry's set is let go before the next is made.
 
-ghost use Rattle.std.specs.Prelude.{◌≡◌, ℕ, List, Option, IfOk};
+ghost use Rattle.std.specs.Prelude.{ℕ, List, Option, IfOk};
 ghost use Rattle.mapping.specs.Mapping.{Mapping as Meaning, IsAbove};
 ghost use Rattle.query_ast.specs.Clause.{leaf, match_all};
 ghost use Rattle.query_eval.specs.Counted.{IsCount};
@@ -48,10 +48,16 @@ pub fn live_count(
 ) -> Result<u64, NoMemory>
     ensures { IfOk result (IsCount mapping.now entries.now scope (score_by mapping.now (leaf match_all 1))) }
 {
-    let all = Query::MatchAll { boost: 1 };
     let mut count: u64 = 0;
     'entries: for at in 0..entries.len() {
-        let scores = leaf_scores(alloc, &entries[at], mapping, &all, scope, 1)?;
+        let scores = leaf_scores(
+            alloc,
+            &entries[at],
+            mapping,
+            &Query::MatchAll { boost: 1 },
+            scope,
+            1,
+        )?;
         let Some(more) = count.checked_add(u64::from(scores.set().count())) else {
             return Err(NoMemory);
         };

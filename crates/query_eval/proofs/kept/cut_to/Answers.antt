@@ -1,4 +1,4 @@
-use Rattle.std.proofs.Common.{◌≡◌, Bool, List, length, Some, sym, ap, ◌∙◌}
+use Rattle.std.proofs.Common.{Bool, List, length, Some, sym, ap, ◌∙◌}
 use Rattle.block_bits.specs.Flags.{intersection}
 use Rattle.block_join.specs.Merge.{paired, put_together}
 use Rattle.block_join.specs.Scores.{filled}
@@ -18,4 +18,4 @@ pub merged-requires : goal.merged-requires
 merged-requires c = c.requires ∙ sym (ap length c.same-in-None.ensures ∙ length_filled (Some 1) c.args.set)
 
 pub returns-in_ok-merged-in-None : goal.returns-in_ok-merged-in-None
-returns-in_ok-merged-in-None c = c.in_ok-merged-in-None.ensures ∙ ap (paired (put_together Kept) c.args.hits.now) c.same-in-None.ensures
+returns-in_ok-merged-in-None c = c.in_ok-merged-in-None.ensures.scores ∙ ap (paired (put_together Kept) c.args.hits.now) c.same-in-None.ensures

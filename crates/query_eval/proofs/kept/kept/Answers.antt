@@ -1,4 +1,4 @@
-use Rattle.std.proofs.Common.{◌<◌, ◌≤◌, List, [], length, get_or, ap, ◌∙◌, arith}
+use Rattle.std.proofs.Common.{◌<◌, List, [], length, get_or, ap, ◌∙◌, arith}
 use Rattle.block_join.specs.Merge.{paired, put_together}
 use Rattle.block_join.specs.declared.rule.Rule.TheVariants.{Kept}
 use Rattle.query_ast.specs.Clause.View.{clause_of}
