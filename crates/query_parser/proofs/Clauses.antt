@@ -6,7 +6,6 @@ use Rattle.std.specs.List.{AllByRecursion}
 use Rattle.tree_json.specs.Value.{JsonValue, null, bool, whole, text, list, object, Elements, no_elements, element, Members, no_members, member}
 use Rattle.mapping.specs.Mapping.{Mapping, scope_named, is_above}
 use Rattle.score_math.specs.declared.score.ScoreMode.TheVariants.{Avg, Zero}
-use Rattle.std.specs.Option.{option_or}
 use Rattle.search_walk.specs.declared.refusal.SearchRefusal.TheVariants.{PathOutOfScope}
 use Rattle.query_ast.specs.Clause.{clauses_of, nested, to_child, has_child, has_parent}
 use Rattle.query_ast.specs.Resolved.{IsUpTo, IsResolved, AreResolved}
@@ -14,10 +13,10 @@ use Rattle.search_form.specs.declared.form.Form.{Form}
 use Rattle.search_form.specs.declared.form.Form.TheVariants.{Query, MatchAll, MatchNone, Term, Terms, Range, Exists, Prefix, Match, MatchPhrase, Ids, BoolQuery, ConstantScore, DisMax, Nested, ToChild, HasChild, HasParent, ParentId, Queries, QueryList, Unknown, Text, ScoreMode, Positive, Flag, InnerHits}
 use Rattle.search_form.specs.declared.form.Presence.{Presence}
 use Rattle.search_form.specs.declared.form.Presence.TheVariants.{Required, Optional, Choice}
-use Rattle.search_form.specs.Form.{form_at, chosen, line_among, suits, suits_list, allows_inner, has_form, all_have_form, each_has_form}
-use Rattle.search_walk.specs.Fault.{below_fault, above_fault, relation_fault, ignores, fault_of}
+use Rattle.search_form.specs.Form.{form_at, line_among, suits, suits_list, allows_inner, has_form, all_have_form, each_has_form}
+use Rattle.search_walk.specs.Fault.{below_fault, above_fault, ignores, fault_of}
 use Rattle.search_walk.specs.Names.{text_under, flag_under, nested_under, child_under, parent_under, root_if}
-use Rattle.search_walk.specs.Node.{Node, nodes_at, nodes_in, nodes_among, level_under}
+use Rattle.search_walk.specs.Node.{nodes_at, nodes_in, nodes_among, level_under}
 use Rattle.query_parser.specs.Queries.{least_of, clause_by, form_named, clause_at, clause_among, clause_named, clause_under, clauses_under, clauses_at, clauses_in}
 use Rattle.query_parser.specs.Readings.{natural_under, boost_in, mode_in}
 use Rattle.query_parser.proofs.Faults.{Clean, node, clean_head, clean_parts}

@@ -1,7 +1,7 @@
 -- What was built of an object was built of its parts.
-use Rattle.std.specs.Prelude.{⊤, IfSome}
+use Rattle.std.specs.Prelude.{IfSome}
 use denote.Ref.{Bor}
-use Rattle.std.proofs.Common.{◌≡◌, ◌∙◌, ℕ, zero, suc, ◌+◌, ◌<◌, ◌≤◌, List as Seq, [], ◌∷◌, length, map, get_or, Bool, true, false, if◌then◌else◌, Option, Some, None, refl, sym, ap, subst, arith, bytes_eq, codes, Ordering, Less, nat_cmp}
+use Rattle.std.proofs.Common.{◌≡◌, ◌∙◌, ℕ, zero, suc, ◌<◌, ◌≤◌, List as Seq, [], ◌∷◌, length, map, get_or, Bool, true, false, if◌then◌else◌, Option, Some, None, refl, sym, ap, subst, arith, bytes_eq, codes, Less, nat_cmp}
 use Rattle.std.proofs.lemmas.Bool.{false≢true}
 use Rattle.std.proofs.lemmas.Map.Text.{is_eq-slice_cmp}
 use Rattle.std.proofs.lemmas.Slice.Eq.{bytes_eq-Decides}
@@ -24,7 +24,7 @@ use Rattle.search_form.specs.Form.{form_at, line_in, line_among, chosen}
 use Rattle.search_form.specs.Table.{lines_of, other_of, element_of, single_of}
 use Rattle.search_walk.specs.Names.{scope_inside}
 use Rattle.query_parser.specs.Queries.{clause_at, clause_under, clauses_under, clauses_in, clause_named, clause_by, leaf_named, field_leaf, form_named}
-use Rattle.query_parser.specs.Known.{Known, unknown, of_clause, of_query, of_queries, query_at, known_at, part_under, known_in, known_under, own_query_of, own_query, IsOf, IsOfOnly, IsOfObject, IsOfElements, IsOfMembers}
+use Rattle.query_parser.specs.Known.{Known, unknown, of_clause, of_query, of_queries, query_at, part_under, known_in, own_query_of, own_query, IsOf, IsOfOnly, IsOfObject, IsOfElements, IsOfMembers}
 use Rattle.query_parser.proofs.Found.{by_test}
 use Rattle.query_parser.proofs.Members.{clause_there, clauses_there}
 

@@ -14,7 +14,7 @@ use Rattle.search_form.specs.declared.form.Presence.TheVariants.{Optional}
 use Rattle.search_form.specs.Form.{suits, suits_list, clause_count, elements_length, starts_at_0, after_fits, has_form, all_have_form, each_has_form, is_search_body}
 use Rattle.search_form.specs.Texts.{AreTexts, EachAreTexts}
 use Rattle.search_walk.specs.After.{keys_are_taken}
-use Rattle.search_walk.specs.Fault.{bad_value_unless, first_fault}
+use Rattle.search_walk.specs.Fault.{first_fault}
 use Rattle.search_walk.specs.Names.{buckets_in}
 use Rattle.search_walk.specs.Node.{Node, nodes_at, nodes_in, nodes_if, nodes_under, after_nodes, after_nodes_if, hit_nodes, bucket_nodes, nodes_of}
 use Rattle.search_walk.specs.Refusal.{window, has_large_window, inner_names, has_twice, clause_count as counted_clauses, is_deep, has_many_terms, most_clauses, limit_refusal, first_refusal}

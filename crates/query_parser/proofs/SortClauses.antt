@@ -1,5 +1,5 @@
 -- A sort that is read and not refused is resolved in the scope in which it stands, and so are the keys of `search_after`.
-use Rattle.std.proofs.Common.{◌≡◌, ℕ, List as Seq, Bool, true, false, ◌&&◌, ◌||◌, not, if◌then◌else◌, Option, Some, None, option_map, refl, sym, ap, ◌∙◌, subst, bytes_eq, codes, ◌≤◌, ◌<◌, ◌+◌, length, [], ◌∷◌, arith, ◌++◌}
+use Rattle.std.proofs.Common.{◌≡◌, ℕ, List as Seq, Bool, true, false, ◌&&◌, ◌||◌, not, if◌then◌else◌, Option, Some, None, option_map, refl, sym, ap, ◌∙◌, subst, bytes_eq, codes, ◌≤◌, length, [], arith}
 use Rattle.std.proofs.lemmas.Bool.{and_parts, false≢true, leb-true}
 use Rattle.std.proofs.lemmas.Slice.Eq.{bytes_eq-Decides}
 use Rattle.tree_json.specs.Value.{JsonValue, null, bool, whole, text, list, object, Elements, no_elements, element, Members, no_members, member, member_of}

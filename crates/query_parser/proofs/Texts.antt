@@ -1,5 +1,5 @@
 -- The texts of a body are texts, and so are those of its parts and the values that they ask for.
-use Rattle.std.proofs.Common.{◌≡◌, ℕ, List as Seq, [], ◌∷◌, ◌++◌, ℤ, pos, negsuc, Bool, true, false, Option, Some, None, refl, sym, ◌∙◌, subst, bytes_eq, codes}
+use Rattle.std.proofs.Common.{◌≡◌, ℕ, List as Seq, [], ◌∷◌, ◌++◌, ℤ, Bool, true, false, Option, Some, None, refl, sym, ◌∙◌, subst, bytes_eq, codes}
 use Rattle.std.proofs.lemmas.Bool.{false≢true}
 use Rattle.std.proofs.lemmas.Fmt.{IsAscii-signed}
 use Rattle.std.proofs.lemmas.Str.{IsUtf8-from_ascii}
@@ -15,7 +15,7 @@ use Rattle.mapping.specs.Mapping.{Mapping}
 use Rattle.query_ast.specs.Resolved.{IsText}
 use Rattle.query_ast.specs.Uses.{IsValueOf, is_written}
 use Rattle.search_form.specs.declared.form.Form.{Form}
-use Rattle.search_form.specs.declared.form.Form.TheVariants.{Query, Sort, SearchAfter, Buckets}
+use Rattle.search_form.specs.declared.form.Form.TheVariants.{Query, Sort, Buckets}
 use Rattle.search_form.specs.Table.{element_of, single_of}
 use Rattle.search_form.specs.Form.{form_at}
 use Rattle.search_form.specs.Texts.{AreTexts, AllAreTexts, EachAreTexts}

@@ -1,4 +1,4 @@
-use Rattle.std.proofs.Common.{◌≡◌, sym}
+use Rattle.std.proofs.Common.{sym}
 use Rattle.query_ast.specs.Clause.View.{clause_of}
 use Rattle.query_parser.proofs.Known.{only_one, not_one}
 use Rattle.query_parser.proofs.built.built_in.Goals as goal

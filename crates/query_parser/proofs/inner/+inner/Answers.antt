@@ -1,7 +1,7 @@
 use Rattle.std.proofs.Common.{◌≡◌, ◌∙◌, ◌++◌, ◌<◌, List, [], append-nil, ap, arith, map, sym}
+use Rattle.std.proofs.lemmas.Grind.{common_steps}
 use Rattle.tree_json.specs.Value.{value_size, members_size, members_of}
 use Rattle.tree_json.specs.View.{view, entries}
-use Rattle.std.proofs.lemmas.Grind.{common_steps}
 use Rattle.query_ast.specs.Definition.{Definition}
 use Rattle.query_ast.specs.Inner.{Inner}
 use Rattle.query_ast.specs.Inner.View.{inner_of}
