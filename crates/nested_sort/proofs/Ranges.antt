@@ -119,5 +119,3 @@ hits_push had new all hit rest more is first goes = ap (λ l. l ++ more) is ∙ 
 
 pub capped_on : (first xs new : Seq Hit) (x : Hit) → (All IsCapped first → All IsCapped xs) → IsCapped x → new ≡ xs ++ x ∷ [] → All IsCapped first → All IsCapped new
 capped_on first xs new x on own is all = All-same IsCapped new (xs ++ x ∷ []) is (All-push IsCapped xs x (on all) own)
-
-pub ruleset next_hits = (first_told, none_told)

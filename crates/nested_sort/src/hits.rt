@@ -35,7 +35,7 @@ fn add_hits(place: u64, found: &Scored, hits: &mut Vec<Hit>) -> Result<(), NoMem
 }
 
 /// The next document with a score, before `end`. The cursor goes on behind it.
-#[tactic(auto, using(crate::proofs::Ranges::next_hits))]
+#[tactic(auto, using(crate::proofs::Ranges::none_told))]
 pub fn next_hit(left: &mut Cursor, place: u64, end: u32) -> Option<Hit>
     requires ordered { left.old.from ≤ end }
     requires within { end ≤ length left.old.scores }

@@ -1,7 +1,7 @@
 use Rattle.std.proofs.Common.{◌≡◌, List, [], map, sym, ap, subst, ◌∙◌}
 use Rattle.query_ast.specs.Definition.{no_definitions}
 use Rattle.query_ast.specs.Replies.{ReplyPart}
-use Rattle.query_ast.specs.Replies.View.{reply_part, value_of}
+use Rattle.query_ast.specs.Replies.View.{reply_part}
 use Rattle.query_eval.specs.Nested.{below_by}
 use Rattle.score_math.specs.Scores.{mode_of}
 use Rattle.score_math.specs.declared.score.ScoreMode.TheVariants.{Max}

@@ -1,5 +1,4 @@
 use Rattle.std.proofs.Common.{ℕ, List, [], ◌∷◌, sym, subst, arith}
-use Rattle.std.proofs.lemmas.Bool.{eqb-true}
 use Rattle.bucket_aggs.specs.Counts.{Counted}
 use Rattle.bucket_aggs.proofs.Ordinals.{the_only}
 use Rattle.bucket_aggs.proofs.columns.count_values.Goals as goal

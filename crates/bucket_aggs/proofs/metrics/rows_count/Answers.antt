@@ -1,4 +1,4 @@
-use Rattle.std.proofs.Common.{◌<◌, ◌≤◌, length, ap, arith}
+use Rattle.std.proofs.Common.{◌<◌, length, ap, arith}
 use Rattle.doc_values.specs.Values.{values_of}
 use Rattle.segment_parts.specs.Text.{marked_places}
 use Rattle.bucket_aggs.proofs.Told.{flat_length, rows_told, told_count, told_end, values_at}
