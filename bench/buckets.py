@@ -2,7 +2,8 @@
 """How long the built program takes for buckets and metrics over nested objects, for each object that they look at.
 
 The trees are those of the made input, each written once. When they are loaded, each search is sent and its reply awaited, so many times, and the
-least time counts; that of a search for nothing but the number of trees is taken away. The objects that a search looks at are
+least time counts; that of a search for nothing but the number of trees is taken away. Then all segments are merged to one, and the same is
+measured again. The objects that a search looks at are
 those of its own count: all offers for the bucket of `nested`. On a machine that does other work the figures are high. Run
 `./run --prove examples/shop.ndjson` once before: it builds the program.
 
@@ -54,12 +55,17 @@ def main():
         for number in range(count):
             ask(program, '{"index":{"_id":"%d"}}\n%s' % (number, product(number, draws)))
         trees = json.loads(ask(program, ALL))["hits"]["total"]
-        base = least(program, ALL)
-        print(f"{trees:,} live trees; a search for their number takes {base / 1e6:.2f} ms")
-        for name, line in SEARCHES.items():
-            offers = json.loads(ask(program, line))["aggregations"]["offers"]["doc_count"]
-            spent = least(program, line) - base
-            print(f"{name}: {spent / 1e6:.2f} ms over {offers:,} offers, {spent / offers:.1f} ns an offer")
+        print(f"{trees:,} live trees")
+        for state in ("as they were written", "merged to one"):
+            if state == "merged to one":
+                ask(program, '{"forcemerge":{}}')
+            segments = len(json.loads(ask(program, '{"segments":{}}'))["segments"])
+            base = least(program, ALL)
+            print(f"{state}, in {segments} segments: a search for the number of trees takes {base / 1e6:.2f} ms")
+            for name, line in SEARCHES.items():
+                offers = json.loads(ask(program, line))["aggregations"]["offers"]["doc_count"]
+                spent = least(program, line) - base
+                print(f"  {name}: {spent / 1e6:.2f} ms over {offers:,} offers, {spent / offers:.1f} ns an offer")
         program.stdin.close()
         program.wait()
 
