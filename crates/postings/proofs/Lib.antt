@@ -3,3 +3,4 @@ pub mod Lists
 pub mod Places
 pub mod Walks
 pub mod Marked
+pub mod Leaps

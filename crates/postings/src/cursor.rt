@@ -1,11 +1,13 @@
 //! A cursor over the postings of one term.
 
-ghost use Rattle.std.specs.Prelude.{◌≡◌, ℕ, ◌+◌, ◌<◌, length, min, slice_index, IsSome};
+ghost use Rattle.std.specs.Prelude.{◌≡◌, ℕ, ◌+◌, ◌<◌, length, min, slice_index, All, IsSome};
 ghost use Rattle.postings.specs.Postings.{ArePostings, present, present_document, present_positions, place_from};
 ghost use Rattle.postings.specs.Kept.{postings_of, IsList};
+ghost use Rattle.postings.specs.Skips.{IsSkip};
 
 use crate::entry::{behind_entry, is_plain};
 use crate::search::{first_from, gallop};
+use crate::skips::{APART, Skip, last_before};
 use part_text::first_u32;
 use std::marker::Model;
 
@@ -19,23 +21,27 @@ pub struct Cursor<'a> {
     at: u32,
     rest: &'a [u8],
     plain: bool,
+    skips: &'a [Skip],
 }
 
 impl<'a> Model for Cursor<'a> {
+    ghost use Rattle.std.specs.Prelude.{All};
     ghost use Rattle.postings.specs.Postings.{Standing};
     ghost use Rattle.postings.specs.Kept.{postings_of, IsAt};
+    ghost use Rattle.postings.specs.Skips.{IsSkip};
 
     ghost Value = { Standing };
 
     ghost view = { λ it. record { postings = postings_of it.text.now; at = it.at } };
 
-    ghost invariant = { λ it. IsAt (postings_of it.text.now) it.count it.at it.rest.now it.plain };
+    ghost invariant = { λ it. IsAt (postings_of it.text.now) it.count it.at it.rest.now it.plain × All (IsSkip it.text.now) it.skips.now };
 }
 
 impl<'a> Cursor<'a> {
-    /// A cursor at the first posting of a list.
-    pub(crate) fn over(text: &'a [u8]) -> Cursor<'a>
-        requires { IsList text.now }
+    /// A cursor at the first posting of a list, with entries to leap to.
+    pub(crate) fn over(text: &'a [u8], skips: &'a [Skip]) -> Cursor<'a>
+        requires list { IsList text.now }
+        requires skips { All (IsSkip text.now) skips.now }
         ensures { result ≡ record { postings = postings_of text.now; at = 0 } }
     {
         let count = first_u32(text);
@@ -46,6 +52,7 @@ impl<'a> Cursor<'a> {
             at: 0,
             rest,
             plain: is_plain(rest, count),
+            skips,
         }
     }
 
@@ -64,14 +71,15 @@ impl<'a> Cursor<'a> {
     /// Goes to the first document from `to` on that isn't before the present one, and gives it; past the
     /// last where there is none.
     ///
-    /// Where no posting has positions it looks at a number of documents that grows with the logarithm of those
-    /// that it passes over; else at each of them.
+    /// It looks at a number of documents that grows with the logarithm of those that it passes over. Where postings have
+    /// positions it walks over at most 31 besides; but over each where there are fewer than 128, or no skip lists are given.
     pub fn advance(&mut self, to: u32) -> Option<u32>
         ensures postings { self.new.postings ≡ self.old.postings }
         ensures place { self.new.at ≡ place_from to self.old }
         ensures document { result ≡ present_document self.new }
     {
         if !self.plain {
+            self.leap(to);
             return self.walk_to(to);
         }
         let left = (self.count - self.at) as usize;
@@ -80,6 +88,20 @@ impl<'a> Cursor<'a> {
         self.rest = self.rest.split_at(8 * passed).1;
         self.at += passed as u32;
         self.doc()
+    }
+
+    /// Goes to the last entry before `to` whose place is kept, where that lies ahead.
+    fn leap(&mut self, to: u32)
+        ensures postings { self.new.postings ≡ self.old.postings }
+        ensures place { place_from to self.new ≡ place_from to self.old }
+    {
+        let near = self.skips.len().min((self.at / APART + 1) as usize);
+        if let Some(skip) = last_before(self.skips, near, to) {
+            if skip.at > self.at {
+                self.rest = self.text.split_at(skip.offset as usize).1;
+                self.at = skip.at;
+            }
+        }
     }
 
     /// Goes from document to document up to the first from `to` on, and gives it.

@@ -1,19 +1,31 @@
-//! The entries of a list: a document, the number of its positions, and these.
+//! Lists behind the terms of their rows, and their entries: a document, the number of its positions, and these.
 
-ghost use Rattle.std.specs.Prelude.{◌≡◌, ◌+◌, ◌*◌, ◌≤◌, ◌↔◌, true, length, drop, IsTrue};
+ghost use Rattle.std.specs.Prelude.{◌≡◌, ◌+◌, ◌*◌, ◌<◌, ◌≤◌, ◌↔◌, true, [], length, drop, slice_index_or, IsTrue};
 ghost use Rattle.part_text.specs.Front.{first_u32};
+ghost use Rattle.part_text.specs.Places.{row};
 ghost use Rattle.term_table.specs.Kept.{HasTerm};
-ghost use Rattle.postings.specs.Kept.{list_text, HasEntry};
+ghost use Rattle.postings.specs.Kept.{postings_of, lists_of, list_text, HasEntry, IsList, IsTable};
 
-use part_text::first_u32;
+use part_text::{first_u32, row};
 
 /// The list behind the term of a row.
-pub(crate) fn list_text(row: &[u8]) -> &[u8]
+fn list_text(row: &[u8]) -> &[u8]
     requires { HasTerm row.now }
     ensures { result.now ≡ list_text row.now }
 {
     let term_length = first_u32(row.split_at(4).1) as usize;
     row.split_at(8 + term_length).1
+}
+
+/// The list of the term with this ordinal.
+pub(crate) fn list_at<'a>(bytes: &'a [u8], places: &[u64], ordinal: usize) -> &'a [u8]
+    requires table { IsTable bytes.now places.now }
+    requires below { ordinal < length (lists_of bytes.now places.now) }
+    ensures list { IsList result.now }
+    ensures text { result.now ≡ list_text (row places.now bytes.now ordinal) }
+    ensures postings { postings_of result.now ≡ slice_index_or (lists_of bytes.now places.now) ordinal [] }
+{
+    list_text(row(places, bytes, ordinal))
 }
 
 /// Whether so many entries have no positions: they are eight bytes each.

@@ -8,9 +8,11 @@
 mod cursor;
 mod entry;
 mod search;
+mod skips;
 mod table;
 #[cfg(test)]
 mod tests;
 
 pub use cursor::Cursor;
+pub use skips::SkipLists;
 pub use table::PostingsTable;

@@ -7,11 +7,13 @@ ghost use Rattle.term_table.specs.declared.rows.TermRow.{TermRow};
 ghost use Rattle.term_table.specs.Part.{Stand, Belong};
 ghost use Rattle.postings.specs.Marks.{has_document, has_positions};
 ghost use Rattle.postings.specs.Kept.{postings_of, lists_of, IsList, IsTable};
+ghost use Rattle.postings.specs.Skips.{AreSkips};
 
-use crate::Cursor;
-use crate::entry::{behind_entry, is_plain, list_text};
+use crate::entry::{behind_entry, is_plain, list_at};
+use crate::skips::{SkipList, skips_of};
+use crate::{Cursor, SkipLists};
 use block_bits::BitSet;
-use part_text::{PlaceList, first_u32, row};
+use part_text::{PlaceList, first_u32};
 use std::marker::Model;
 
 /// The postings of each term of a segment, by the term's ordinal.
@@ -21,17 +23,19 @@ use std::marker::Model;
 pub struct PostingsTable<'a> {
     bytes: &'a [u8],
     places: &'a [u64],
+    skips: &'a [SkipList],
 }
 
 impl<'a> Model for PostingsTable<'a> {
     ghost use Rattle.std.specs.Prelude.{ℕ, List};
     ghost use Rattle.postings.specs.Kept.{lists_of, IsTable};
+    ghost use Rattle.postings.specs.Skips.{AreSkips};
 
     ghost Value = { List (List (ℕ × List ℕ)) };
 
     ghost view = { λ table. lists_of table.bytes.now table.places.now };
 
-    ghost invariant = { λ table. IsTable table.bytes.now table.places.now };
+    ghost invariant = { λ table. IsTable table.bytes.now table.places.now × AreSkips table.bytes.now table.places.now table.skips.now };
 }
 
 impl<'a> PostingsTable<'a> {
@@ -43,6 +47,24 @@ impl<'a> PostingsTable<'a> {
         PostingsTable {
             bytes,
             places: places.as_slice(),
+            skips: &[],
+        }
+    }
+
+    /// The same table, whose cursors leap in long lists with positions.
+    pub fn leaping(
+        bytes: &'a [u8],
+        places: &'a PlaceList,
+        skips: &'a SkipLists,
+    ) -> PostingsTable<'a>
+        requires places { Belong bytes.now places.now }
+        requires skips { AreSkips bytes.now places.now skips.now }
+        ensures { (at : ℕ) (rows : List TermRow) (end : ℕ) → Stand bytes.now at rows places.now end → result ≡ map (λ row. row.postings) rows }
+    {
+        PostingsTable {
+            bytes,
+            places: places.as_slice(),
+            skips: skips.as_slice(),
         }
     }
 
@@ -76,7 +98,8 @@ impl<'a> PostingsTable<'a> {
         requires { ordinal < length self.now }
         ensures { result ≡ record { postings = slice_index_or self.now ordinal []; at = 0 } }
     {
-        Cursor::over(list_at(self.bytes, self.places, ordinal as usize))
+        let text = list_at(self.bytes, self.places, ordinal as usize);
+        Cursor::over(text, skips_of(self.skips, ordinal))
     }
 
     /// Puts the documents that have the term with this ordinal into a set.
@@ -89,16 +112,6 @@ impl<'a> PostingsTable<'a> {
     {
         mark_list(list_at(self.bytes, self.places, ordinal as usize), set);
     }
-}
-
-/// The list of the term with this ordinal.
-fn list_at<'a>(bytes: &'a [u8], places: &[u64], ordinal: usize) -> &'a [u8]
-    requires table { IsTable bytes.now places.now }
-    requires below { ordinal < length (lists_of bytes.now places.now) }
-    ensures list { IsList result.now }
-    ensures postings { postings_of result.now ≡ slice_index_or (lists_of bytes.now places.now) ordinal [] }
-{
-    list_text(row(places, bytes, ordinal))
 }
 
 /// Puts the documents of a list into a set.

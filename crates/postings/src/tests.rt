@@ -75,3 +75,51 @@ fn cursors(rt: HostRuntime) -> Result<(), Fail> {
     assert_eq!(rt; cursor.position(1), 102);
     Ok(())
 }
+
+/// A term of so many documents, each third one, with one to three positions in turn.
+fn long_row(alloc: Global, count: u32) -> Result<TermRow, Fail> {
+    let mut list = Vec::new(alloc);
+    for i in 0..count {
+        let mut positions = Vec::new(alloc);
+        for position in 0..i % 3 + 1 {
+            positions.push(position)?;
+        }
+        list.push((i.wrapping_mul(3), PositionList::of(positions)))?;
+    }
+    Ok(TermRow {
+        term: (0, Bytes::of(b"word".to_vec(alloc)?)),
+        postings: PostingList::of(list),
+    })
+}
+
+#[test]
+fn leaps(rt: HostRuntime) -> Result<(), Fail> {
+    let mut rows = Vec::new(rt.alloc());
+    rows.push(long_row(rt.alloc(), 200)?)?;
+    let bytes = written(&rt, rt.alloc(), rows)?;
+    let found = TermTable::places(rt.alloc(), bytes.as_slice(), 0)?;
+    assert!(rt; found.is_some());
+    let Some((places, _)) = found else {
+        return Ok(());
+    };
+    let skips = SkipLists::made(rt.alloc(), bytes.as_slice(), &places)?;
+    let table = PostingsTable::leaping(bytes.as_slice(), &places, &skips);
+    assert_eq!(rt; table.count(), 1);
+    // entries 32, 64 .. are kept: documents 96, 192 ..; each move from the place where the one before it left the cursor
+    let moves: [(u32, Option<u32>); 9] = [
+        (1, Some(3)),
+        (96, Some(96)),
+        (97, Some(99)),
+        (50, Some(99)),
+        (480, Some(480)),
+        (481, Some(483)),
+        (596, Some(597)),
+        (598, None),
+        (0, None),
+    ];
+    let mut cursor = table.cursor(0);
+    for (to, document) in moves {
+        assert!(rt; cursor.advance(to) == document);
+    }
+    Ok(())
+}

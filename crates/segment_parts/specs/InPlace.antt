@@ -7,6 +7,7 @@ use Rattle.part_text.specs.Text.{u64_text, i64_text}
 use Rattle.part_text.specs.Reading.{u64_at, i64_at}
 use Rattle.stored_sources.specs.Stands.{Belong}
 use Rattle.doc_values.specs.Values.{IsOrdinal}
+use Rattle.postings.specs.Skips.{AreSkips}
 use Rattle.segment_parts.specs.Text.{segment_text}
 use Rattle.segment_parts.specs.Parts.{AreParts}
 use Rattle.segment_parts.specs.Kept.{columns_in, IsKept}
@@ -32,5 +33,6 @@ pub record IsInPlace (it : Inside) : Type 0 where
   pub text : it.bytes.items ≡ segment_text (columns_of it)
   pub roots_kept : Belong it.bytes.items it.roots (roots_in it.bytes.items it.roots)
   pub terms_kept : AreTermsKept it.bytes.items it.terms
+  pub skips_kept : AreSkips it.bytes.items it.terms it.skips
   pub ordinals_kept : All (IsKept nat_cmp IsOrdinal u64_text u64_at it.bytes.items) it.ordinals
   pub numbers_kept : All (IsKept int_cmp (FitsSigned w64) i64_text i64_at it.bytes.items) it.numbers

@@ -19,7 +19,7 @@ use crate::{ByField, NoMemory};
 use block_bits::{BitList, BitSet, words_are_of_one_set};
 use doc_values::{NumberColumn, OrdinalColumn};
 use part_text::PlaceList;
-use postings::PostingsTable;
+use postings::{PostingsTable, SkipLists};
 use std::alloc::Global;
 use std::marker::Model;
 use stored_sources::StoredSources;
@@ -33,6 +33,7 @@ pub struct Parts {
     scopes: BitList,
     roots: PlaceList,
     terms: PlaceList,
+    skips: SkipLists,
     ordinals: ByField<PlaceList>,
     numbers: ByField<PlaceList>,
     present: ByField<BitSet>,
@@ -67,16 +68,20 @@ impl Parts {
             return Ok(None);
         };
         match fields_at(alloc, bytes.as_slice(), at, documents)? {
-            Some((ordinals, numbers, present)) => Ok(Some(Parts {
-                bytes,
-                documents,
-                scopes,
-                roots,
-                terms,
-                ordinals,
-                numbers,
-                present,
-            })),
+            Some((ordinals, numbers, present)) => {
+                let skips = SkipLists::made(alloc, bytes.as_slice(), &terms)?;
+                Ok(Some(Parts {
+                    bytes,
+                    documents,
+                    scopes,
+                    roots,
+                    terms,
+                    skips,
+                    ordinals,
+                    numbers,
+                    present,
+                }))
+            }
             None => Ok(None),
         }
     }
@@ -121,7 +126,7 @@ impl Parts {
     pub fn postings(&self) -> PostingsTable<'_>
         ensures { result ≡ postings_of self.now }
     {
-        PostingsTable::over(self.bytes.as_slice(), &self.terms)
+        PostingsTable::leaping(self.bytes.as_slice(), &self.terms, &self.skips)
     }
 
     /// The numbers of a field.

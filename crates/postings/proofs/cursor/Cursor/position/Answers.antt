@@ -8,19 +8,19 @@ pub split_at-requires : goal.split_at-requires
 split_at-requires c =
     let it = c.self.inside in
     let ps : List (ℕ × List ℕ) = postings_of it.text.now in
-    let sh : Shown it.rest.now c.args.self.now = shown ps it.count it.at it.rest.now it.plain c.args.self.now c.self.view_is c.self.invariant (position_inside ps it.at c.args.i c.args.self.now c.self.view_is c.requires) in
+    let sh : Shown it.rest.now c.args.self.now = shown ps it.count it.at it.rest.now it.plain c.args.self.now c.self.view_is c.self.invariant.0 (position_inside ps it.at c.args.i c.args.self.now c.self.view_is c.requires) in
     omega (arith, sh.long, c.requires)
 
 pub first_u32-requires : goal.first_u32-requires
 first_u32-requires c =
     let it = c.self.inside in
     let ps : List (ℕ × List ℕ) = postings_of it.text.now in
-    let sh : Shown it.rest.now c.args.self.now = shown ps it.count it.at it.rest.now it.plain c.args.self.now c.self.view_is c.self.invariant (position_inside ps it.at c.args.i c.args.self.now c.self.view_is c.requires) in
+    let sh : Shown it.rest.now c.args.self.now = shown ps it.count it.at it.rest.now it.plain c.args.self.now c.self.view_is c.self.invariant.0 (position_inside ps it.at c.args.i c.args.self.now c.self.view_is c.requires) in
     omega (arith, sh.long, c.requires, c.split_at.ensures.back_len)
 
 pub returns : goal.returns
 returns c =
     let it = c.self.inside in
     let ps : List (ℕ × List ℕ) = postings_of it.text.now in
-    let sh : Shown it.rest.now c.args.self.now = shown ps it.count it.at it.rest.now it.plain c.args.self.now c.self.view_is c.self.invariant (position_inside ps it.at c.args.i c.args.self.now c.self.view_is c.requires) in
+    let sh : Shown it.rest.now c.args.self.now = shown ps it.count it.at it.rest.now it.plain c.args.self.now c.self.view_is c.self.invariant.0 (position_inside ps it.at c.args.i c.args.self.now c.self.view_is c.requires) in
     c.first_u32.ensures ∙ ap first_u32 c.split_at.ensures.back ∙ sh.position c.args.i c.requires

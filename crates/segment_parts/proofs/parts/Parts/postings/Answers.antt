@@ -5,4 +5,4 @@ use Rattle.segment_parts.proofs.parts.Parts.postings.Goals as goal
 pub returns : goal.returns
 returns c =
     let kept = c.self.invariant.terms_kept in
-    c.over.ensures kept.at _ kept.end (rw c.as_slice.ensures.value kept.stand) ∙ ap postings_of c.self.view_is
+    c.leaping.ensures kept.at _ kept.end (rw c.as_slice.ensures.value kept.stand) ∙ ap postings_of c.self.view_is

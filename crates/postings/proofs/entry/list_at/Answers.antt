@@ -1,7 +1,7 @@
 use Rattle.std.proofs.Common.{◌+◌, ◌<◌, length, ap, ◌∙◌, arith}
 use Rattle.postings.specs.Kept.{postings_of, list_text}
 use Rattle.postings.proofs.Lists.{length-lists_of, list_at_row}
-use Rattle.postings.proofs.table.list_at.Goals as goal
+use Rattle.postings.proofs.entry.list_at.Goals as goal
 
 pub row-requires-clause-below : goal.row-requires-clause-below
 row-requires-clause-below c = omega (arith, c.requires.below, length-lists_of c.args.bytes.now c.args.places.now)
