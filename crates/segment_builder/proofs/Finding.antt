@@ -1,16 +1,21 @@
--- A term among terms in order, by halves.
-use Rattle.std.proofs.Common.{◌≡◌, ℕ, ◌+◌, ◌<◌, ◌≤◌, true, false, List, length, get_or, slice_get, Some, Contains, inl, inr, refl, sym, ap, subst, ◌∙◌, arith}
+-- A term among terms in order: found by halves, and its ordinal.
+use denote.Ref.{Bor}
+use Rattle.std.proofs.Common.{◌≡◌, ℕ, zero, suc, ◌+◌, ◌<◌, ◌≤◌, true, false, List, [], ◌∷◌, length, map, get_or, slice_get, Some, Contains, inl, inr, refl, sym, ap, subst, ◌∙◌, arith}
+use Rattle.std.specs.List.{All, AllByRecursion}
 use Rattle.std.specs.Ordering.{is_gt, is_eq, eq_by_cmp, ordering_reverse}
 use Rattle.std.specs.declared.cmp.Ordering.{Ordering}
 use Rattle.std.specs.declared.cmp.Ordering.TheVariants.{Less, Equal, Greater}
 use Rattle.std.proofs.lemmas.Bool.{cases_lt}
 use Rattle.std.proofs.lemmas.Cmp.{eq_by_cmp_equiv}
 use Rattle.std.proofs.lemmas.List.{get_or-map, length-map}
+use Rattle.std.proofs.lemmas.List.Elements.{recursion_from_All}
 use Rattle.std.proofs.lemmas.Map.Keys.{Less-from_sorted}
 use Rattle.std.proofs.lemmas.Option.{get_or_from_slice_get, slice_get-get_or, slice_get_within}
 use Rattle.term_table.specs.Terms.{AreAscending, term_cmp}
-use Rattle.term_table.specs.declared.rows.TermRow.{TermRow}
-use Rattle.segment_builder.specs.Columns.{terms_in}
+use Rattle.segment_builder.specs.Columns.{column_terms, named, named_group, named_row, ordinal_column, ordinal_of, ordinal_row, row_terms, terms_lent, IsKeywordColumn}
+use Rattle.segment_builder.proofs.Among.{each_at}
+use Rattle.segment_builder.proofs.InOrder.{less_back}
+use Rattle.segment_builder.proofs.Sorted.{sorted_first, sorted_rest}
 use Rattle.segment_builder.proofs.Orders.{term_order}
 
 -- a term stands at a place from `low` on and below `high`
@@ -87,11 +92,37 @@ found_at_last terms term low high between one =
     let place : low ≡ between.at = omega (arith, between.from, between.below, one) in
     ap (slice_get terms) place ∙ between.is
 
-abbrev own_term : TermRow → ℕ × List ℕ
-own_term row = row.term
+-- the term at a place
+pub term_there : (terms : List (ℕ × Bor (List ℕ))) (place : ℕ) (d : ℕ × Bor (List ℕ)) → place < length terms → slice_get (terms_lent terms) place ≡ Some ((get_or terms place d).0, (get_or terms place d).1.now)
+term_there terms place d inside =
+    slice_get-get_or (terms_lent terms) place (d.0, d.1.now) (omega (arith, inside, length-map {B = ℕ × List ℕ} terms (λ (term : ℕ × Bor (List ℕ)). (term.0, term.1.now))))
+    ∙ ap Some (get_or-map (λ (term : ℕ × Bor (List ℕ)). (term.0, term.1.now)) terms place d (d.0, d.1.now) inside)
 
--- the term of the row at a place
-pub term_there : (rows : List TermRow) (place : ℕ) (row : TermRow) → place < length rows → row ≡ get_or rows place row → slice_get (terms_in rows) place ≡ Some row.term
-term_there rows place row inside is =
-    slice_get-get_or (terms_in rows) place row.term (omega (arith, inside, length-map rows own_term))
-    ∙ ap Some (get_or-map own_term rows place row row.term inside ∙ sym (ap own_term is))
+-- ---- ordinals
+
+-- a term stands once
+pub ordinal_at : (terms : List (ℕ × List ℕ)) (at : ℕ) (term : ℕ × List ℕ) → AreAscending terms → slice_get terms at ≡ Some term → ordinal_of terms term ≡ at
+ordinal_at [] at term up is = absurd (cc (is))
+ordinal_at (own ∷ terms) zero term up is =
+    let same : own ≡ term = cc (is) in
+    rw (subst (λ t. eq_by_cmp term_cmp term t ≡ true) (sym same) ((eq_by_cmp_equiv term_order.total).refl term)) refl
+ordinal_at (own ∷ terms) (suc at) term up is =
+    let less : term_cmp own term ≡ Less = each_at (λ t. term_cmp own t ≡ Less) terms at term (sorted_first term_cmp own terms up) is in
+    rw (less_back term_cmp term_order.total own term less) (ap suc (ordinal_at terms at term (sorted_rest term_cmp own terms up) is))
+
+module _ (terms : List (ℕ × List ℕ)) (up : AreAscending terms) where
+  named_values : (field : ℕ) (values : List (List ℕ)) → AllByRecursion (λ bytes. Contains terms (field, bytes)) values → map (slice_get terms) (map (λ bytes. ordinal_of terms (field, bytes)) values) ≡ named field values
+  named_values field [] all = refl
+  named_values field (value ∷ values) all =
+      let is : slice_get terms all.0.0 ≡ Some (field, value) = slice_get-get_or terms all.0.0 (field, value) all.0.1 ∙ ap Some all.0.2 in
+      rw (ordinal_at terms all.0.0 (field, value) up is, is, named_values field values all.1) refl
+
+  named_rows : (field : ℕ) (rows : List (ℕ × List (List ℕ))) → AllByRecursion (λ (row : ℕ × List (List ℕ)). All (λ bytes. Contains terms (field, bytes)) row.1) rows → map (row_terms terms) (map (ordinal_row terms field) rows) ≡ map (named_row field) rows
+  named_rows field [] all = refl
+  named_rows field (row ∷ rows) all =
+      rw (named_values field row.1 (recursion_from_All (λ bytes. Contains terms (field, bytes)) row.1 all.0), named_rows field rows all.1) refl
+
+  pub named_columns : (groups : List (ℕ × List (ℕ × List (List ℕ)))) → AllByRecursion (IsKeywordColumn terms) groups → map (column_terms terms) (map (ordinal_column terms) groups) ≡ map named_group groups
+  named_columns [] all = refl
+  named_columns (group ∷ groups) all =
+      rw (named_rows group.0 group.1 (recursion_from_All (λ (row : ℕ × List (List ℕ)). All (λ bytes. Contains terms (group.0, bytes)) row.1) group.1 all.0.entries.fit), named_columns groups all.1) refl

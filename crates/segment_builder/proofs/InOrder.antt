@@ -55,7 +55,7 @@ gt_is Less b e = rw e refl
 gt_is Equal b e = rw e refl
 gt_is Greater b e = rw e refl
 
-less_back : {K : Type 0} (cmp : K → K → Ordering) (o : IsTotalOrder cmp) (x y : K) → cmp x y ≡ Less → eq_by_cmp cmp y x ≡ false
+pub less_back : {K : Type 0} (cmp : K → K → Ordering) (o : IsTotalOrder cmp) (x y : K) → cmp x y ≡ Less → eq_by_cmp cmp y x ≡ false
 less_back cmp o x y less = (eq_by_cmp_equiv o).symm y x ∙ rw less refl
 
 module _ {K P : Type 0} (cmp : K → K → Ordering) (o : IsTotalOrder cmp) where

@@ -3,6 +3,8 @@ pub mod InOrder
 pub mod Merged
 pub mod Orders
 pub mod Sorted
+pub mod Runs
+pub mod Listed
 pub mod Grown
 pub mod Among
 pub mod Shown
@@ -40,3 +42,4 @@ pub mod Again
 pub mod AtFields
 pub mod ByDocuments
 pub mod Gathered
+pub mod Put

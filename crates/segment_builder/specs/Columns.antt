@@ -1,14 +1,18 @@
 -- Columns made of groups.
 use denote.Ref.{Bor}
-use Rattle.std.specs.Prelude.{ℕ, ℤ, Bool, true, false, List, [], ◌∷◌, map, replicate, slice_get, slice_set, Contains, Option, Some, Vec}
+use Rattle.std.specs.Prelude.{ℕ, ℤ, suc, Bool, true, false, cond, List, [], ◌∷◌, map, replicate, slice_get, slice_set, Contains, Option, Some, Vec}
 use Rattle.std.specs.Cmp.Lexicographic.{slice_cmp}
-use Rattle.std.specs.Ordering.{nat_cmp}
+use Rattle.std.specs.Ordering.{eq_by_cmp, nat_cmp}
 use Rattle.doc_values.specs.Stands.{IsColumn}
+use Rattle.term_table.specs.Terms.{term_cmp}
 use Rattle.term_table.specs.declared.rows.TermRow.{TermRow}
 use Rattle.segment_builder.specs.Entries.{bytes_lent}
 
 abbrev pub terms_in : List TermRow → List (ℕ × List ℕ)
 terms_in rows = map (λ (row : TermRow). row.term) rows
+
+abbrev pub terms_lent : List (ℕ × Bor (List ℕ)) → List (ℕ × List ℕ)
+terms_lent terms = map (λ (term : ℕ × Bor (List ℕ)). (term.0, term.1.now)) terms
 
 -- ---- rows that are lent
 
@@ -32,6 +36,17 @@ row_terms terms row = (row.0, map (slice_get terms) row.1)
 
 abbrev pub column_terms : List (ℕ × List ℕ) → ℕ × List (ℕ × List ℕ) → ℕ × List (ℕ × List (Option (ℕ × List ℕ)))
 column_terms terms column = (column.0, map (row_terms terms) column.1)
+
+-- the place of a term that is there
+abbrev pub ordinal_of : List (ℕ × List ℕ) → ℕ × List ℕ → ℕ
+ordinal_of [] term = 0
+ordinal_of (own ∷ terms) term = cond (eq_by_cmp term_cmp term own) 0 (suc (ordinal_of terms term))
+
+abbrev pub ordinal_row : List (ℕ × List ℕ) → ℕ → ℕ × List (List ℕ) → ℕ × List ℕ
+ordinal_row terms field row = (row.0, map (λ bytes. ordinal_of terms (field, bytes)) row.1)
+
+abbrev pub ordinal_column : List (ℕ × List ℕ) → ℕ × List (ℕ × List (List ℕ)) → ℕ × List (ℕ × List ℕ)
+ordinal_column terms group = (group.0, map (ordinal_row terms group.0) group.1)
 
 -- keywords as terms of their field
 abbrev pub named : ℕ → List (List ℕ) → List (Option (ℕ × List ℕ))

@@ -3,15 +3,19 @@ use denote.Ref.{Bor}
 use Rattle.std.specs.Prelude.{ℕ, ℤ, List, [], ◌∷◌, ◌++◌, length, map, Vec}
 use Rattle.std.specs.List.{flat_map}
 use Rattle.segment.specs.Flat.{FlatDocument}
-use Rattle.segment_builder.specs.Parts.{tagged, fields_with}
+use Rattle.segment_builder.specs.Parts.{tagged, fields_with, entries_from, texts_from}
 use Rattle.flattener.specs.Block.{BlockState}
-use Rattle.segment_builder.specs.declared.entries.Entries.{Entries}
+use Rattle.flattener.specs.Seen.{document_seen}
+use Rattle.flattener.specs.declared.document.Document.{Document}
 
 -- the documents of blocks, one block behind the other
 abbrev pub flats_in : List BlockState → List FlatDocument
 flats_in blocks = flat_map (λ (block : BlockState). block.flats) blocks
 
--- ---- entries that are lent
+-- ---- what is lent
+
+abbrev pub flats_lent : List (Bor Document) → List FlatDocument
+flats_lent documents = map (λ (document : Bor Document). document_seen document.now) documents
 
 abbrev pub numbers_lent : List (ℕ × (ℕ × Bor (List ℤ))) → List (ℕ × (ℕ × List ℤ))
 numbers_lent entries = map (λ (entry : ℕ × (ℕ × Bor (List ℤ))). (entry.0, (entry.1.0, entry.1.1.now))) entries
@@ -32,13 +36,14 @@ pub record EntriesState : Type 0 where
   pub words : List ((ℕ × List ℕ) × (ℕ × List ℕ))
   pub texts : List (ℕ × ℕ)
 
-abbrev pub entries_lent : Entries → EntriesState
-entries_lent it = record {
-  scopes = it.scopes.items;
-  numbers = numbers_lent it.numbers.items;
-  keywords = keywords_lent it.keywords.items;
-  words = words_lent it.words.items;
-  texts = it.texts.items;
+-- what documents carry, one document after the other
+abbrev pub entries_in : List FlatDocument → EntriesState
+entries_in flats = record {
+  scopes = map (λ (flat : FlatDocument). flat.scope) flats;
+  numbers = entries_from (λ flat. flat.numbers) 0 flats;
+  keywords = entries_from (λ flat. flat.keywords) 0 flats;
+  words = entries_from (λ flat. flat.words) 0 flats;
+  texts = texts_from 0 flats;
 }
 
 abbrev pub no_entries : EntriesState

@@ -1,9 +1,13 @@
 -- Entries put together by key, in their order.
-use Rattle.std.specs.Prelude.{◌≡◌, ◌<◌, true, false, cond, List, [], ◌∷◌, ◌++◌, length, map, Vec}
+use Rattle.std.specs.Prelude.{◌≡◌, ℕ, suc, ◌<◌, true, false, cond, List, [], ◌∷◌, ◌++◌, length, map, Vec}
 use Rattle.std.specs.List.{AllByRecursion, list_any}
 use Rattle.std.specs.List.Sorted.{IsStrictlySortedBy}
 use Rattle.std.specs.Ordering.{eq_by_cmp, is_gt}
 use Rattle.std.specs.declared.cmp.Ordering.{Ordering}
+
+-- what entries carry
+abbrev pub members : {K P : Type 0} → List (K × P) → List P
+members {K} {P} entries = map (λ (entry : K × P). entry.1) entries
 
 module _ {K P : Type 0} (cmp : K → K → Ordering) where
   -- what the entries of a key carry
@@ -20,6 +24,21 @@ module _ {K P : Type 0} (cmp : K → K → Ordering) where
   abbrev pub AreRising : List (K × P) → Type 0
   AreRising [] = Unit {0}
   AreRising (entry ∷ entries) = AllByRecursion (λ (later : K × P). is_gt (cmp entry.0 later.0) ≡ false) entries × AreRising entries
+
+  -- how many entries in front have a key
+  abbrev pub run_length : K → List (K × P) → ℕ
+  run_length key [] = 0
+  run_length key (entry ∷ entries) = cond (eq_by_cmp cmp key entry.0) (suc (run_length key entries)) 0
+
+  -- an entry in front of groups, in the first of them where it has its key
+  abbrev pub in_front : K × P → List (K × List P) → List (K × List P)
+  in_front entry [] = (entry.0, entry.1 ∷ []) ∷ []
+  in_front entry (group ∷ groups) = cond (eq_by_cmp cmp entry.0 group.0) ((entry.0, entry.1 ∷ group.1) ∷ groups) ((entry.0, entry.1 ∷ []) ∷ group ∷ groups)
+
+  -- the groups of entries whose keys rise: each run of a key
+  abbrev pub runs : List (K × P) → List (K × List P)
+  runs [] = []
+  runs (entry ∷ entries) = in_front entry (runs entries)
 
   -- the key of no group comes after this one
   abbrev pub AreUpTo : K → List (K × List P) → Type 0

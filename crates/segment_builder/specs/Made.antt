@@ -19,6 +19,12 @@ all_terms it = (it.words ++ keyword_terms it.keywords) ++ number_terms it.number
 abbrev pub marked_groups : ℕ → List (ℕ × List ℕ) → List (ℕ × List Bool)
 marked_groups documents groups = map (λ (group : ℕ × List ℕ). (group.0, marks_of documents group.1)) groups
 
+-- the documents of each scope up to the greatest one
+pub record AreSetsOf (scopes : List ℕ) (sets : List (List Bool)) : Type 0 where
+  pub are : sets ≡ map (documents_of scopes) (range_with_len 0 (length sets))
+  pub within : All (λ scope. scope < length sets) scopes
+  pub greatest : 0 < length scopes → Contains scopes (length sets - 1)
+
 pub record IsMade (it : EntriesState) (columns : Columns) : Type 0 where
   pub documents : columns.documents ≡ length it.scopes
   pub scopes : columns.scopes ≡ map (documents_of it.scopes) (range_with_len 0 (length columns.scopes))

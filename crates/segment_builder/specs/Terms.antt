@@ -1,9 +1,12 @@
 -- The terms of keyword and number fields, from the entries of documents.
 use denote.Ref.{Bor}
-use Rattle.std.specs.Prelude.{ℕ, ℤ, List, [], ◌∷◌, ◌++◌, map, if◌then◌else◌, Vec}
+use Rattle.std.specs.Prelude.{ℕ, ℤ, List, [], ◌∷◌, ◌++◌, map, if◌then◌else◌}
 use Rattle.std.specs.Str.{bytes_eq}
+use Rattle.std.specs.declared.cmp.Ordering.{Ordering}
 use Rattle.term_table.specs.Keys.{number_key}
+use Rattle.term_table.specs.Terms.{term_cmp}
 use Rattle.term_table.specs.declared.rows.TermRow.{TermRow}
+use Rattle.segment_builder.specs.Groups.{runs}
 
 -- terms of a field in a document, without positions
 abbrev pub terms_at : ℕ → ℕ → List (List ℕ) → List ((ℕ × List ℕ) × (ℕ × List ℕ))
@@ -38,10 +41,19 @@ keys_kept keys = map (λ (entry : ℕ × (ℕ × List ℕ)). ((entry.0, entry.1.
 abbrev pub row_group : TermRow → (ℕ × List ℕ) × List (ℕ × List ℕ)
 row_group row = (row.term, row.postings)
 
--- lent postings
+-- ---- terms that are lent
+
 abbrev pub postings_lent : List (ℕ × Bor (List ℕ)) → List (ℕ × List ℕ)
 postings_lent postings = map (λ (posting : ℕ × Bor (List ℕ)). (posting.0, posting.1.now)) postings
 
--- groups of postings by the bytes of their terms
-abbrev pub rows_lent : {A : Type 0} → List ((ℕ × Bor (List ℕ)) × Vec (ℕ × Bor (List ℕ)) A) → List ((ℕ × List ℕ) × List (ℕ × List ℕ))
-rows_lent {A} groups = map (λ (group : (ℕ × Bor (List ℕ)) × Vec (ℕ × Bor (List ℕ)) A). ((group.0.0, group.0.1.now), postings_lent group.1.items)) groups
+-- their order
+abbrev pub lent_cmp : ℕ × Bor (List ℕ) → ℕ × Bor (List ℕ) → Ordering
+lent_cmp term other = term_cmp (term.0, term.1.now) (other.0, other.1.now)
+
+-- a term with its postings as a row
+abbrev pub lent_row : (ℕ × Bor (List ℕ)) × List (ℕ × Bor (List ℕ)) → TermRow
+lent_row group = record { term = (group.0.0, group.0.1.now); postings = postings_lent group.1 }
+
+-- the rows of entries whose terms rise
+abbrev pub rows_in : List ((ℕ × Bor (List ℕ)) × (ℕ × Bor (List ℕ))) → List TermRow
+rows_in entries = map lent_row (runs lent_cmp entries)

@@ -1,40 +1,39 @@
 //! The segment of blocks.
 
-ghost use Rattle.std.specs.Prelude.{◌≡◌, ◌<◌, ◌≤◌, ◌^◌, ◌++◌, ℕ, List, length, map, IfOk};
-ghost use Rattle.std.specs.List.{All, AllByRecursion, flat_map};
-ghost use Rattle.block_bits.specs.Blocks.{documents_of};
-ghost use Rattle.flattener.specs.Block.{BlockState};
+ghost use Rattle.std.specs.Prelude.{◌≡◌, ◌+◌, ◌<◌, ◌≤◌, ◌^◌, ◌++◌, Bool, List, length, map, IfOk, OnOk};
+ghost use Rattle.std.specs.List.{All, AllByRecursion};
 ghost use Rattle.flattener.specs.Fits.{BlockFits, IsRootOf, SegmentFits, most_live};
 ghost use Rattle.flattener.specs.Seen.{block_seen};
 ghost use Rattle.mapping.specs.Mapping.{Mapping};
-ghost use Rattle.segment.specs.Fields.{AreByField};
 ghost use Rattle.segment.specs.Flat.{flats_of, roots_of};
-ghost use Rattle.segment.specs.Parts.{IsNumberColumn, IsOrdinalColumn, IsPresence};
-ghost use Rattle.term_table.specs.Part.{AreRows};
+ghost use Rattle.segment_parts.specs.Text.{head_text, segment_text};
+ghost use Rattle.segment_parts.specs.declared.columns.Columns.{Columns};
 ghost use Rattle.term_table.specs.Terms.{term_cmp};
 ghost use Rattle.segment_builder.specs.Blocks.{blocks_of, objects_of};
-ghost use Rattle.segment_builder.specs.Entries.{entries_lent, flats_in, keywords_lent, no_entries, with_blocks, words_lent};
+ghost use Rattle.segment_builder.specs.Entries.{entries_in, flats_in, flats_lent, no_entries, with_blocks};
 ghost use Rattle.segment_builder.specs.Given.{AreGiven};
 ghost use Rattle.segment_builder.specs.Groups.{AreGroups};
-ghost use Rattle.segment_builder.specs.Made.{IsMade};
-ghost use Rattle.segment_builder.specs.Taken.{AreTermEntries};
-ghost use Rattle.segment_builder.specs.Terms.{keyword_terms, keys_kept, row_group};
+ghost use Rattle.segment_builder.specs.Made.{AreSetsOf, IsMade, all_terms};
+ghost use Rattle.segment_builder.specs.Terms.{keys_kept, number_terms, row_group, rows_in};
 
-use crate::NoMemory;
-use crate::entries::{Entries, entries_of};
+use crate::entries::{documents_of, keywords_of, numbers_of, scopes_of, texts_of};
 use crate::fit::blocks_fit;
-use crate::numbers::number_columns;
-use crate::ordinals::ordinal_columns;
-use crate::present::present_of;
-use crate::roots::roots_of;
-use crate::rows::rows_of;
+use crate::numbers::put_numbers;
+use crate::ordinals::put_ordinals;
+use crate::present::put_texts;
+use crate::roots::put_roots;
+use crate::rows::{put_terms, sort_terms};
 use crate::scopes::scope_sets;
-use crate::terms::{add_keyword_terms, add_number_terms, add_word_terms, number_keys};
-use flattener::{Block, blocks_are_of_their_mapping, blocks_are_small};
+use crate::terms::{keys_of, terms_of};
+use crate::{NoMemory, made_columns_agree, made_segments_are_blocks};
+use block_bits::words_are_of_one_set;
+use flattener::{Block, Document, blocks_are_of_their_mapping, blocks_are_small};
 use mapping::{Mapping, names_lead_to_fields};
-use segment::{Columns, Segment, scopes_are_of_documents};
+use segment::{Segment, SegmentRefusal, scopes_are_of_documents};
+use segment_parts::put_head_of;
 use std::alloc::Global;
-use term_table::{RowList, keys_are_ordered};
+use stored_sources::Bytes;
+use term_table::keys_are_ordered;
 
 /// The segment of these blocks, in their order: its documents are theirs, one block behind the other. The mapping is the one
 /// that they were made with. The blocks are lent: they stay as they are.
@@ -69,78 +68,71 @@ fn made_of(alloc: Global, blocks: &[Block]) -> Result<Segment, NoMemory>
     // under each mapping that each of the blocks is of
     ensures fits { IfOk result (λ segment. (m : Mapping) → AllByRecursion (λ block. IsRootOf m block.root block.flats) (map block_seen blocks.now) → SegmentFits m segment) }
 {
-    let entries = entries_of(alloc, blocks)?;
-    let roots = roots_of(alloc, blocks)?;
-    let columns = made(alloc, entries, roots)?;
-    let segment = Segment::of_agreeing(alloc, columns)?;
-    scopes_are_of_documents(&segment);
-    Ok(segment)
+    words_are_of_one_set();
+    made_columns_agree();
+    let bytes = bytes_of(alloc, blocks)?;
+    match Segment::of_bytes(alloc, Bytes::of(bytes)) {
+        Ok(segment) => {
+            made_segments_are_blocks(&segment);
+            scopes_are_of_documents(&segment);
+            Ok(segment)
+        }
+        Err(SegmentRefusal::NoMemory) => Err(NoMemory),
+        Err(SegmentRefusal::NotASegment) => unreachable!(),
+    }
 }
 
-/// The columns that hold what these entries say.
-fn made(
-    alloc: Global,
-    entries: Entries,
-    roots: stored_sources::RowList,
-) -> Result<Columns, NoMemory>
-    requires { (m : Mapping) × (blocks : List BlockState) × AreGiven m blocks × (entries_lent entries ≡ with_blocks no_entries blocks) }
-    ensures made { IfOk result (λ columns. IsMade (entries_lent entries.entry) columns) }
-    ensures roots { IfOk result (λ columns. columns.roots ≡ roots) }
-    ensures terms { IfOk result (λ columns. AreRows columns.terms) }
-    ensures ordinals { IfOk result (λ columns. AreByField IsOrdinalColumn columns.ordinals) }
-    ensures numbers { IfOk result (λ columns. AreByField IsNumberColumn columns.numbers) }
-    ensures present { IfOk result (λ columns. AreByField (IsPresence columns.documents) columns.present) }
-    ensures scopes { IfOk result (λ columns. length columns.scopes < 2 ^ 32) }
+/// The bytes of the segment of blocks, written part by part. What goes into a part is taken from the blocks when it is
+/// written; the terms alone are sorted before there are bytes, since nothing else takes as much room.
+fn bytes_of(alloc: Global, blocks: &[Block]) -> Result<Vec<u8>, NoMemory>
+    requires { (m : Mapping) × AreGiven m (map block_seen blocks.now) }
+    ensures { IfOk result (λ bytes. (columns : Columns) × IsMade (with_blocks no_entries (map block_seen blocks.now)) columns
+        × (roots_of columns ≡ map (λ block. block.root) (map block_seen blocks.now)) × (length columns.terms < 2 ^ 64) × (bytes.items ≡ segment_text columns)) }
 {
     keys_are_ordered();
-    let Entries {
-        scopes,
-        numbers,
-        keywords,
-        words,
-        texts,
-    } = entries;
-    let documents = scopes.len() as u32;
-    let scopes = scope_sets(alloc, scopes.as_slice())?;
-    let keys = number_keys(alloc, numbers.as_slice())?;
-    let terms = terms_of(
-        alloc,
-        words.as_slice(),
-        keywords.as_slice(),
-        keys.as_slice(),
-    )?;
-    let ordinals = ordinal_columns(alloc, terms.as_slice(), keywords)?;
-    let numbers = number_columns(alloc, numbers)?;
-    let present = present_of(alloc, documents, texts)?;
-    Ok(Columns {
-        documents,
-        scopes,
-        roots,
-        terms,
-        ordinals,
-        numbers,
-        present,
-    })
+    let list = documents_of(alloc, blocks)?;
+    let documents = list.as_slice();
+    let keys = keys_of(alloc, documents)?;
+    let entries = sorted_terms(alloc, documents, keys.as_slice())?;
+    let mut bytes = Vec::new(alloc);
+    put_head(alloc, documents, &mut bytes)?;
+    put_roots(blocks, &mut bytes)?;
+    let terms = put_terms(alloc, entries, &mut bytes)?;
+    let keywords = keywords_of(alloc, documents)?;
+    put_ordinals(alloc, terms.as_slice(), keywords, &mut bytes)?;
+    let numbers = numbers_of(alloc, documents)?;
+    put_numbers(alloc, numbers, &mut bytes)?;
+    let texts = texts_of(alloc, documents)?;
+    put_texts(alloc, documents.len() as u32, texts, &mut bytes)?;
+    // a segment lives long: it keeps no room that it grew by
+    bytes.shrink_to_fit();
+    Ok(bytes)
 }
 
-/// The terms of all documents with their postings; numbers stand there by their keys.
-fn terms_of<'a>(
+/// The terms of documents in order; those of one term keep the order of the documents.
+fn sorted_terms<'a>(
     alloc: Global,
-    words: &'a [((u32, &'a [u8]), (u32, &'a [u32]))],
-    keywords: &'a [(u32, (u32, &'a [Vec<u8>]))],
+    documents: &[&'a Document],
     keys: &'a [(u32, (u32, [u8; 8]))],
-) -> Result<RowList, NoMemory>
-    requires { (documents : ℕ) × AreTermEntries documents ((words_lent words.now ++ keyword_terms (keywords_lent keywords.now)) ++ keys_kept keys.now) }
-    ensures groups { IfOk result (λ rows. AreGroups term_cmp ((words_lent words.now ++ keyword_terms (keywords_lent keywords.now)) ++ keys_kept keys.now) (map row_group rows)) }
-    ensures are { IfOk result (λ rows. AreRows rows) }
+) -> Result<Vec<((u32, &'a [u8]), (u32, &'a [u32]))>, NoMemory>
+    requires few { length documents.now < 2 ^ 32 }
+    requires keys { keys_kept keys.now ≡ number_terms (entries_in (flats_lent documents.now)).numbers }
+    ensures { IfOk result (λ entries. AreGroups term_cmp (all_terms (entries_in (flats_lent documents.now))) (map row_group (rows_in entries.items))) }
 {
-    let count = words
-        .len()
-        .saturating_add(keywords.len())
-        .saturating_add(keys.len());
-    let mut terms = Vec::with_capacity(alloc, count)?;
-    add_word_terms(words, &mut terms)?;
-    add_keyword_terms(keywords, &mut terms)?;
-    add_number_terms(keys, &mut terms)?;
-    Ok(rows_of(alloc, terms)?)
+    let mut entries = terms_of(alloc, documents, keys)?;
+    sort_terms(&mut entries)?;
+    Ok(entries)
+}
+
+/// Appends the number of documents, and the documents of each scope.
+fn put_head(alloc: Global, documents: &[&Document], into: &mut Vec<u8>) -> Result<(), NoMemory>
+    requires below { All (λ scope. scope + 1 < 2 ^ 32) (entries_in (flats_lent documents.now)).scopes }
+    requires few { length documents.now < 2 ^ 32 }
+    ensures { OnOk result ((sets : List (List Bool)) × AreSetsOf (entries_in (flats_lent documents.now)).scopes sets
+        × (into.new.items ≡ into.old.items ++ head_text (length documents.now) sets)) }
+{
+    let scopes = scopes_of(alloc, documents)?;
+    let sets = scope_sets(alloc, scopes.as_slice())?;
+    put_head_of(documents.len() as u32, sets.as_slice(), into)?;
+    Ok(())
 }

@@ -1,68 +1,113 @@
-//! The documents of blocks, taken apart.
+//! What the documents of blocks carry, each thing with the number of its document and by its key, lent from the blocks.
 
-ghost use Rattle.std.specs.Prelude.{◌≡◌, ◌≤◌, ◌+◌, ◌++◌, length, map, IfOk, OnOk};
-ghost use Rattle.segment_builder.specs.Entries.{entries_lent, flats_in, keywords_lent, no_entries, numbers_lent, with_blocks, with_document, with_documents, words_lent};
-ghost use Rattle.segment_builder.specs.Parts.{tagged, fields_with};
-ghost use Rattle.flattener.specs.Fits.{most_live};
+ghost use Rattle.std.specs.Prelude.{◌≡◌, ◌<◌, ◌^◌, ◌++◌, length, map, IfOk, OnOk};
+ghost use Rattle.segment_builder.specs.Entries.{entries_in, flats_in, flats_lent, keywords_lent, numbers_lent, words_lent};
+ghost use Rattle.segment_builder.specs.Parts.{fields_with, tagged};
 ghost use Rattle.flattener.specs.Seen.{block_seen, document_seen, keyword_seen, number_seen, word_seen};
 
 use crate::NoMemory;
 use flattener::{Block, Document, KeywordField, NumberField, Word};
 use std::alloc::Global;
 
-/// What the documents of blocks carry, each thing with the number of its document and by its key, lent from the blocks.
-#[derive(Drop)]
-pub(crate) struct Entries<'a> {
-    pub scopes: Vec<u32>,
-    pub numbers: Vec<(u32, (u32, &'a [i64]))>,
-    pub keywords: Vec<(u32, (u32, &'a [Vec<u8>]))>,
-    pub words: Vec<((u32, &'a [u8]), (u32, &'a [u32]))>,
-    pub texts: Vec<(u32, u32)>,
-}
-
-/// The entries of the documents of blocks.
-pub(crate) fn entries_of<'a>(alloc: Global, blocks: &'a [Block]) -> Result<Entries<'a>, NoMemory>
-    requires { length (flats_in (map block_seen blocks.now)) ≤ most_live }
-    ensures { IfOk result (λ entries. entries_lent entries ≡ with_blocks no_entries (map block_seen blocks.now)) }
+/// The documents of blocks, one block behind the other.
+pub(crate) fn documents_of<'a>(
+    alloc: Global,
+    blocks: &'a [Block],
+) -> Result<Vec<&'a Document>, NoMemory>
+    ensures { IfOk result (λ documents. flats_lent documents.items ≡ flats_in (map block_seen blocks.now)) }
 {
-    let mut entries = Entries {
-        scopes: Vec::new(alloc),
-        numbers: Vec::new(alloc),
-        keywords: Vec::new(alloc),
-        words: Vec::new(alloc),
-        texts: Vec::new(alloc),
-    };
+    let mut documents = Vec::new(alloc);
     'each: for block in blocks {
-        add_documents(block.documents.as_slice(), &mut entries)?;
+        add_documents(block.documents.as_slice(), &mut documents)?;
     }
-    Ok(entries)
+    documents.shrink_to_fit();
+    Ok(documents)
 }
 
 /// Adds documents.
-fn add_documents<'a>(documents: &'a [Document], into: &mut Entries<'a>) -> Result<(), NoMemory>
-    requires { length into.old.scopes.items + length documents.now ≤ most_live }
-    ensures entries { OnOk result (entries_lent into.new ≡ with_documents (entries_lent into.old) (map document_seen documents.now)) }
-    ensures count { OnOk result (length into.new.scopes.items ≡ length into.old.scopes.items + length documents.now) }
+fn add_documents<'a>(
+    documents: &'a [Document],
+    into: &mut Vec<&'a Document>,
+) -> Result<(), NoMemory>
+    ensures { OnOk result (flats_lent into.new.items ≡ flats_lent into.old.items ++ map document_seen documents.now) }
 {
     'documents: for document in documents {
-        add_document(document, into)?;
+        into.push(document)?;
     }
     Ok(())
 }
 
-/// Adds a document, which gets the next number.
-fn add_document<'a>(document: &'a Document, into: &mut Entries<'a>) -> Result<(), NoMemory>
-    requires { length into.old.scopes.items ≤ most_live }
-    ensures entries { OnOk result (entries_lent into.new ≡ with_document (entries_lent into.old) (document_seen document.now)) }
-    ensures count { OnOk result (length into.new.scopes.items ≡ length into.old.scopes.items + 1) }
+/// The scopes of documents.
+pub(crate) fn scopes_of(alloc: Global, documents: &[&Document]) -> Result<Vec<u32>, NoMemory>
+    ensures { IfOk result (λ scopes. scopes.items ≡ (entries_in (flats_lent documents.now)).scopes) }
 {
-    let doc = into.scopes.len() as u32;
-    into.scopes.push(document.scope)?;
-    add_numbers(doc, document.numbers.as_slice(), &mut into.numbers)?;
-    add_keywords(doc, document.keywords.as_slice(), &mut into.keywords)?;
-    add_words(doc, document.words.as_slice(), &mut into.words)?;
-    add_texts(doc, document.texts.as_slice(), &mut into.texts)?;
-    Ok(())
+    let mut scopes = Vec::with_capacity(alloc, documents.len())?;
+    'documents: for document in documents {
+        scopes.push(document.scope)?;
+    }
+    Ok(scopes)
+}
+
+/// The numbers of documents by field.
+pub(crate) fn numbers_of<'a>(
+    alloc: Global,
+    documents: &[&'a Document],
+) -> Result<Vec<(u32, (u32, &'a [i64]))>, NoMemory>
+    requires { length documents.now < 2 ^ 32 }
+    ensures { IfOk result (λ numbers. numbers_lent numbers.items ≡ (entries_in (flats_lent documents.now)).numbers) }
+{
+    let mut numbers = Vec::new(alloc);
+    'documents: for doc in 0..documents.len() {
+        add_numbers(doc as u32, documents[doc].numbers.as_slice(), &mut numbers)?;
+    }
+    numbers.shrink_to_fit();
+    Ok(numbers)
+}
+
+/// The keywords of documents by field.
+pub(crate) fn keywords_of<'a>(
+    alloc: Global,
+    documents: &[&'a Document],
+) -> Result<Vec<(u32, (u32, &'a [Vec<u8>]))>, NoMemory>
+    requires { length documents.now < 2 ^ 32 }
+    ensures { IfOk result (λ keywords. keywords_lent keywords.items ≡ (entries_in (flats_lent documents.now)).keywords) }
+{
+    let mut keywords = Vec::new(alloc);
+    'documents: for doc in 0..documents.len() {
+        add_keywords(
+            doc as u32,
+            documents[doc].keywords.as_slice(),
+            &mut keywords,
+        )?;
+    }
+    Ok(keywords)
+}
+
+/// The words of documents by field and bytes.
+pub(crate) fn words_of<'a>(
+    alloc: Global,
+    documents: &[&'a Document],
+) -> Result<Vec<((u32, &'a [u8]), (u32, &'a [u32]))>, NoMemory>
+    requires { length documents.now < 2 ^ 32 }
+    ensures { IfOk result (λ words. words_lent words.items ≡ (entries_in (flats_lent documents.now)).words) }
+{
+    let mut words = Vec::new(alloc);
+    'documents: for doc in 0..documents.len() {
+        add_words(doc as u32, documents[doc].words.as_slice(), &mut words)?;
+    }
+    Ok(words)
+}
+
+/// The text fields of documents that have a value.
+pub(crate) fn texts_of(alloc: Global, documents: &[&Document]) -> Result<Vec<(u32, u32)>, NoMemory>
+    requires { length documents.now < 2 ^ 32 }
+    ensures { IfOk result (λ texts. texts.items ≡ (entries_in (flats_lent documents.now)).texts) }
+{
+    let mut texts = Vec::new(alloc);
+    'documents: for doc in 0..documents.len() {
+        add_texts(doc as u32, documents[doc].texts.as_slice(), &mut texts)?;
+    }
+    Ok(texts)
 }
 
 /// Adds the numbers of a document by field.

@@ -1,10 +1,10 @@
 //! Entries put together by key.
 
-ghost use Rattle.std.specs.Prelude.{◌≡◌, ◌++◌, ◌∷◌, [], false, IfOk, OnOk};
+ghost use Rattle.std.specs.Prelude.{◌≡◌, ◌≤◌, ◌++◌, ◌∷◌, [], false, length, IfOk, OnOk};
 ghost use Rattle.std.specs.List.{AllByRecursion};
 ghost use Rattle.std.specs.Ordering.{is_gt};
 ghost use Rattle.std.specs.declared.cmp.Ordering.TheVariants.{Less};
-ghost use Rattle.segment_builder.specs.Groups.{of_key, in_groups, groups_seen, AreGroups, AreOrdered, AreRising, AreUpTo};
+ghost use Rattle.segment_builder.specs.Groups.{of_key, in_groups, run_length, groups_seen, AreGroups, AreOrdered, AreRising, AreUpTo};
 
 use crate::NoMemory;
 use std::alloc::Global;
@@ -21,12 +21,25 @@ pub fn grouped<K: Ord + Drop, P: Drop>(
 }
 
 /// Sorts entries by key; those of one key keep their order.
-fn sort<K: Ord, P>(entries: &mut Vec<(K, P)>) -> Result<(), NoMemory>
+pub(crate) fn sort<K: Ord, P>(entries: &mut Vec<(K, P)>) -> Result<(), NoMemory>
     ensures same { OnOk result ((key : K) → of_key K.cmp key entries.new.items ≡ of_key K.cmp key entries.old.items) }
     ensures rising { OnOk result (AreRising K.cmp entries.new.items) }
 {
     entries.sort_by(|one, other| one.0.cmp(&other.0))?;
     Ok(())
+}
+
+/// How many entries in front have a key.
+pub(crate) fn run_len<K: Ord, P>(key: &K, entries: &[(K, P)]) -> usize
+    ensures run { result ≡ run_length K.cmp key.now entries.now }
+    ensures within { result ≤ length entries.now }
+{
+    'entries: for at in 0..entries.len() {
+        if !key.cmp(&entries[at].0).is_eq() {
+            return at;
+        }
+    }
+    entries.len()
 }
 
 /// The groups of entries that stand by ascending key.

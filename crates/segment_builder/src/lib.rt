@@ -1,8 +1,8 @@
 //! Blocks as a segment: the documents of trees, put together by field and by term.
 //!
 //! It stands on `flattener` for blocks and on `segment` for columns (Lucene's `IndexingChain`, package `org.apache.lucene.index`).
-//! Blocks are taken apart in one pass, what they carry is put together by key with one stable sort, and each column is
-//! written once. What others use is that `built` gives a segment whose documents and roots are those of its blocks, and that
+//! What documents carry is put together by key with a stable sort, part by part, and each part is written straight from what
+//! the blocks lend. What others use is that `built` gives a segment whose documents and roots are those of its blocks, and that
 //! a segment stands for the trees of its blocks. Begin reading with `specs/Blocks.antt` and `assemble`, then `grouping`.
 #![tactic(auto)]
 

@@ -1,12 +1,13 @@
-//! Columns of numbers, one a field.
+//! Columns of numbers, one a field, written.
 
-ghost use Rattle.std.specs.Prelude.{◌≡◌, ℕ, ℤ, map, FitsSigned, IfOk};
+ghost use Rattle.std.specs.Prelude.{◌≡◌, ◌<◌, ◌^◌, ◌++◌, ℕ, ℤ, List, length, FitsSigned, OnOk};
 ghost use Rattle.std.specs.Int.{w64};
-ghost use Rattle.std.specs.List.{All};
+ghost use Rattle.std.specs.List.{All, flat_map};
 ghost use Rattle.std.specs.Ordering.{int_cmp, nat_cmp};
 ghost use Rattle.doc_values.specs.Stands.{IsColumn};
-ghost use Rattle.doc_values.specs.Values.{AreValues};
-ghost use Rattle.segment.specs.Fields.{AreByField};
+ghost use Rattle.doc_values.specs.Text.{column_text, entry_text};
+ghost use Rattle.part_text.specs.Text.{i64_text};
+ghost use Rattle.segment_parts.specs.Text.{numbers_text};
 ghost use Rattle.segment_builder.specs.Columns.{number_groups, number_rows};
 ghost use Rattle.segment_builder.specs.Entries.{numbers_lent};
 ghost use Rattle.segment_builder.specs.Groups.{AreGroups};
@@ -14,56 +15,58 @@ ghost use Rattle.segment_builder.specs.Taken.{AreValueEntries};
 
 use crate::NoMemory;
 use crate::grouping::grouped;
-use doc_values::{RowList, ValueList};
-use segment::ColumnList;
+use part_text::{put_i64, put_u32};
 use std::alloc::Global;
 
-/// The columns of numbers, by ascending field.
-pub(crate) fn number_columns(
+/// Appends the columns of numbers, by ascending field, behind their number.
+pub(crate) fn put_numbers(
     alloc: Global,
     numbers: Vec<(u32, (u32, &[i64]))>,
-) -> Result<ColumnList<i64>, NoMemory>
+    into: &mut Vec<u8>,
+) -> Result<(), NoMemory>
     requires { (documents : ℕ) × AreValueEntries int_cmp (λ field number. FitsSigned w64 number) documents (numbers_lent numbers.items) }
-    ensures groups { IfOk result (λ columns. AreGroups nat_cmp (numbers_lent numbers.entry.items) columns) }
-    ensures are { IfOk result (λ columns. AreByField (IsColumn int_cmp (FitsSigned w64)) columns) }
+    ensures { OnOk result ((columns : List (ℕ × List (ℕ × List ℤ))) × AreGroups nat_cmp (numbers_lent numbers.entry.items) columns
+        × (into.new.items ≡ into.old.items ++ numbers_text columns)) }
 {
     let groups = grouped(alloc, numbers)?;
-    let columns = columns_from(alloc, groups.as_slice())?;
-    Ok(ColumnList::of(columns))
+    put_u32(into, groups.len() as u32)?;
+    put_columns(groups.as_slice(), into)?;
+    Ok(())
 }
 
-/// The columns of groups of numbers.
-fn columns_from(
-    alloc: Global,
-    groups: &[(u32, Vec<(u32, &[i64])>)],
-) -> Result<Vec<RowList<i64>>, NoMemory>
+/// Appends the columns of groups of numbers.
+fn put_columns(groups: &[(u32, Vec<(u32, &[i64])>)], into: &mut Vec<u8>) -> Result<(), NoMemory>
     requires { All (IsColumn int_cmp (FitsSigned w64)) (number_groups groups.now) }
-    ensures { IfOk result (λ columns. columns.items ≡ number_groups groups.now) }
+    ensures { OnOk result (into.new.items ≡ into.old.items ++ flat_map (column_text i64_text) (number_groups groups.now)) }
 {
-    let mut columns = Vec::new(alloc);
     'groups: for (field, members) in groups {
-        columns.push(column_of(alloc, *field, members.as_slice())?)?;
+        put_column(*field, members.as_slice(), into)?;
     }
-    Ok(columns)
+    Ok(())
 }
 
-/// The column of a field's numbers.
-fn column_of(alloc: Global, field: u32, members: &[(u32, &[i64])]) -> Result<RowList<i64>, NoMemory>
+/// Appends the column of a field's numbers.
+fn put_column(field: u32, members: &[(u32, &[i64])], into: &mut Vec<u8>) -> Result<(), NoMemory>
     requires { IsColumn int_cmp (FitsSigned w64) (field, number_rows members.now) }
-    ensures { IfOk result (λ column. column ≡ (field, number_rows members.now)) }
+    ensures { OnOk result (into.new.items ≡ into.old.items ++ column_text i64_text (field, number_rows members.now)) }
 {
-    let mut rows = Vec::with_capacity(alloc, members.len())?;
+    put_u32(into, field)?;
+    put_u32(into, members.len() as u32)?;
     'members: for (doc, values) in members {
-        rows.push((*doc, numbers_of(alloc, *values)?))?;
+        put_entry(*doc, *values, into)?;
     }
-    Ok(RowList::of(field, rows))
+    Ok(())
 }
 
-/// The numbers of one document.
-fn numbers_of(alloc: Global, values: &[i64]) -> Result<ValueList<i64>, NoMemory>
-    requires are { AreValues int_cmp values.now }
-    requires fit { All (FitsSigned w64) values.now }
-    ensures { IfOk result (λ numbers. numbers ≡ values.now) }
+/// Appends a document and its numbers.
+fn put_entry(doc: u32, values: &[i64], into: &mut Vec<u8>) -> Result<(), NoMemory>
+    requires { length values.now < 2 ^ 32 }
+    ensures { OnOk result (into.new.items ≡ into.old.items ++ entry_text i64_text (doc, values.now)) }
 {
-    Ok(ValueList::of(values.to_vec(alloc)?))
+    put_u32(into, doc)?;
+    put_u32(into, values.len() as u32)?;
+    'values: for value in values {
+        put_i64(into, *value)?;
+    }
+    Ok(())
 }

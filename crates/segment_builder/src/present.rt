@@ -1,10 +1,10 @@
-//! The documents with a value of a text field.
+//! The documents with a value of a text field, written.
 
-ghost use Rattle.std.specs.Prelude.{◌≡◌, ◌<◌, ℕ, List, Bool, map, IfOk};
-ghost use Rattle.std.specs.List.{All};
+ghost use Rattle.std.specs.Prelude.{◌≡◌, ◌<◌, ◌++◌, ℕ, List, IfOk, OnOk};
+ghost use Rattle.std.specs.List.{All, flat_map};
 ghost use Rattle.std.specs.Ordering.{nat_cmp};
-ghost use Rattle.segment.specs.Fields.{AreByField};
-ghost use Rattle.segment.specs.Parts.{IsPresence};
+ghost use Rattle.part_text.specs.Text.{u32_text};
+ghost use Rattle.segment_parts.specs.Text.{marked_places, presence_text, present_text};
 ghost use Rattle.segment_builder.specs.Columns.{marks_of};
 ghost use Rattle.segment_builder.specs.Groups.{AreGroups, groups_seen};
 ghost use Rattle.segment_builder.specs.Made.{marked_groups};
@@ -13,38 +13,41 @@ ghost use Rattle.segment_builder.specs.Taken.{AreTextEntries};
 use crate::NoMemory;
 use crate::grouping::grouped;
 use block_bits::BitSet;
-use segment::ByField;
+use part_text::put_u32;
 use std::alloc::Global;
 
-/// The documents with a value of each text field, by ascending field.
-pub(crate) fn present_of(
+/// Appends the text fields, ascending, each with the documents that have a value, behind their number.
+pub(crate) fn put_texts(
     alloc: Global,
     documents: u32,
     texts: Vec<(u32, u32)>,
-) -> Result<ByField<BitSet>, NoMemory>
+    into: &mut Vec<u8>,
+) -> Result<(), NoMemory>
     requires { AreTextEntries documents texts.items }
-    ensures groups { IfOk result (λ list. (groups : List (ℕ × List ℕ)) × AreGroups nat_cmp texts.items groups × (list ≡ marked_groups documents groups)) }
-    ensures are { IfOk result (λ list. AreByField (IsPresence documents) list) }
+    ensures { OnOk result ((groups : List (ℕ × List ℕ)) × AreGroups nat_cmp texts.items groups
+        × (into.new.items ≡ into.old.items ++ present_text (marked_groups documents groups))) }
 {
     let groups = grouped(alloc, texts)?;
-    let sets = sets_of(alloc, documents, groups.as_slice())?;
-    Ok(ByField::of(sets))
+    put_u32(into, groups.len() as u32)?;
+    put_fields(alloc, documents, groups.as_slice(), into)?;
+    Ok(())
 }
 
-/// The sets of groups of documents.
-fn sets_of(
+/// Appends text fields with their documents.
+fn put_fields(
     alloc: Global,
     documents: u32,
     groups: &[(u32, Vec<u32>)],
-) -> Result<Vec<(u32, BitSet)>, NoMemory>
+    into: &mut Vec<u8>,
+) -> Result<(), NoMemory>
     requires { All (λ group. All (λ doc. doc < documents) group.1) (groups_seen groups.now) }
-    ensures { IfOk result (λ sets. sets.items ≡ marked_groups documents (groups_seen groups.now)) }
+    ensures { OnOk result (into.new.items ≡ into.old.items ++ flat_map presence_text (marked_groups documents (groups_seen groups.now))) }
 {
-    let mut sets = Vec::new(alloc);
     'groups: for (field, docs) in groups {
-        sets.push((*field, set_of(alloc, documents, docs.as_slice())?))?;
+        let set = set_of(alloc, documents, docs.as_slice())?;
+        put_field(*field, &set, into)?;
     }
-    Ok(sets)
+    Ok(())
 }
 
 /// The set of these documents.
@@ -57,4 +60,26 @@ fn set_of(alloc: Global, documents: u32, docs: &[u32]) -> Result<BitSet, NoMemor
         set.set(*doc);
     }
     Ok(set)
+}
+
+/// Appends a text field, and the documents of a set behind their number.
+fn put_field(field: u32, set: &BitSet, into: &mut Vec<u8>) -> Result<(), NoMemory>
+    ensures { OnOk result (into.new.items ≡ into.old.items ++ presence_text (field, set.now)) }
+{
+    put_u32(into, field)?;
+    put_u32(into, set.count())?;
+    put_documents(set, into)?;
+    Ok(())
+}
+
+/// Appends the documents of a set.
+fn put_documents(set: &BitSet, into: &mut Vec<u8>) -> Result<(), NoMemory>
+    ensures { OnOk result (into.new.items ≡ into.old.items ++ flat_map u32_text (marked_places 0 set.now)) }
+{
+    let mut from = 0;
+    'documents: while let Some(document) = set.next_set(from) {
+        put_u32(into, document)?;
+        from = document + 1;
+    }
+    Ok(())
 }

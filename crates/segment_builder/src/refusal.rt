@@ -24,6 +24,12 @@ impl From<block_bits::NoMemory> for NoMemory {
     }
 }
 
+impl From<part_text::NoMemory> for NoMemory {
+    fn from(_: part_text::NoMemory) -> NoMemory {
+        NoMemory
+    }
+}
+
 impl From<segment::NoMemory> for NoMemory {
     fn from(_: segment::NoMemory) -> NoMemory {
         NoMemory

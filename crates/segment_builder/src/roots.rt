@@ -1,64 +1,60 @@
-//! The roots of blocks.
+//! The roots of blocks, written.
 
-ghost use Rattle.std.specs.Prelude.{◌≡◌, map, IfOk};
-ghost use Rattle.stored_sources.specs.Stands.{AreRoots};
-ghost use Rattle.segment_builder.specs.Roots.{FitRoots};
-ghost use Rattle.flattener.specs.Seen.{block_seen, root_seen};
+ghost use Rattle.std.specs.Prelude.{◌≡◌, ◌<◌, ◌^◌, ◌++◌, length, map, OnOk};
+ghost use Rattle.std.specs.List.{All};
+ghost use Rattle.part_text.specs.Text.{string_text};
+ghost use Rattle.stored_sources.specs.Stands.{IsJoin, IsRoot};
+ghost use Rattle.stored_sources.specs.Text.{join_text, root_text, roots_text};
 
 use crate::NoMemory;
 use flattener::Block;
-use segment::{Bytes, Join, Root};
-use std::alloc::Global;
-use stored_sources::RowList;
+use part_text::{put_string, put_u32, put_u64};
+use segment::{Join, Root};
 
-/// The roots of blocks, in their order.
-pub(crate) fn roots_of(alloc: Global, blocks: &[Block]) -> Result<RowList, NoMemory>
-    requires { FitRoots (map (λ block. block.root) (map block_seen blocks.now)) }
-    ensures roots { IfOk result (λ roots. map root_seen roots ≡ map (λ block. block.root) (map block_seen blocks.now)) }
-    ensures are { IfOk result (λ roots. AreRoots roots) }
+/// Appends the roots of blocks, in their order.
+pub(crate) fn put_roots(blocks: &[Block], into: &mut Vec<u8>) -> Result<(), NoMemory>
+    requires { All IsRoot (map (λ block. block.root) blocks.now) }
+    ensures { OnOk result (into.new.items ≡ into.old.items ++ roots_text (map (λ block. block.root) blocks.now)) }
 {
-    let roots = roots_from(alloc, blocks)?;
-    Ok(RowList::of(roots))
-}
-
-/// The roots of blocks, copied.
-fn roots_from(alloc: Global, blocks: &[Block]) -> Result<Vec<Root>, NoMemory>
-    ensures { IfOk result (λ roots. map root_seen roots.items ≡ map (λ block. block.root) (map block_seen blocks.now)) }
-{
-    let mut roots = Vec::with_capacity(alloc, blocks.len())?;
     'each: for block in blocks {
-        roots.push(root_of(alloc, &block.root)?)?;
+        put_root(&block.root, into)?;
     }
-    Ok(roots)
+    Ok(())
 }
 
-/// A root, copied.
-fn root_of(alloc: Global, root: &Root) -> Result<Root, NoMemory>
-    ensures { IfOk result (λ copy. root_seen copy ≡ root_seen root.now) }
+/// Appends a root.
+fn put_root(root: &Root, into: &mut Vec<u8>) -> Result<(), NoMemory>
+    requires { IsRoot root.now }
+    ensures { OnOk result (into.new.items ≡ into.old.items ++ root_text root.now) }
 {
-    Ok(Root {
-        id: bytes_of(alloc, &root.id)?,
-        number: root.number,
-        generation: root.generation,
-        source: bytes_of(alloc, &root.source)?,
-        join: join_of(alloc, &root.join)?,
-    })
+    put_string(into, root.id.as_slice())?;
+    put_u64(into, root.number)?;
+    put_u32(into, root.generation)?;
+    put_string(into, root.source.as_slice())?;
+    put_join(&root.join, into)?;
+    Ok(())
 }
 
-/// A join value, copied.
-fn join_of(alloc: Global, join: &Join) -> Result<Join, NoMemory>
-    ensures { IfOk result (λ copy. copy ≡ join.now) }
+/// Appends a join value.
+fn put_join(join: &Join, into: &mut Vec<u8>) -> Result<(), NoMemory>
+    requires { IsJoin join.now }
+    ensures { OnOk result (into.new.items ≡ into.old.items ++ join_text join.now) }
 {
     match join {
-        Join::Unjoined => Ok(Join::Unjoined),
-        Join::Named(relation) => Ok(Join::Named(*relation)),
-        Join::Child(relation, parent) => Ok(Join::Child(*relation, bytes_of(alloc, parent)?)),
+        Join::Unjoined => {
+            into.push(0)?;
+            Ok(())
+        }
+        Join::Named(relation) => {
+            into.push(1)?;
+            put_u32(into, *relation)?;
+            Ok(())
+        }
+        Join::Child(relation, parent) => {
+            into.push(2)?;
+            put_u32(into, *relation)?;
+            put_string(into, parent.as_slice())?;
+            Ok(())
+        }
     }
-}
-
-/// Bytes, copied.
-fn bytes_of(alloc: Global, bytes: &Bytes) -> Result<Bytes, NoMemory>
-    ensures { IfOk result (λ copy. copy ≡ bytes.now) }
-{
-    Ok(Bytes::of(bytes.as_slice().to_vec(alloc)?))
 }

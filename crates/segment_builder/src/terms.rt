@@ -1,29 +1,49 @@
-//! The terms of keyword and number fields.
+//! The terms of documents.
 
-ghost use Rattle.std.specs.Prelude.{◌≡◌, ◌++◌, ◌∷◌, [], map, IfOk, OnOk};
+ghost use Rattle.std.specs.Prelude.{◌≡◌, ◌<◌, ◌^◌, ◌++◌, ◌∷◌, [], length, map, IfOk, OnOk};
 ghost use Rattle.term_table.specs.Keys.{number_key};
-ghost use Rattle.segment_builder.specs.Entries.{bytes_lent, keywords_lent, numbers_lent, words_lent};
+ghost use Rattle.segment_builder.specs.Entries.{bytes_lent, entries_in, flats_lent, keywords_lent, numbers_lent, words_lent};
+ghost use Rattle.segment_builder.specs.Made.{all_terms};
 ghost use Rattle.segment_builder.specs.Terms.{terms_at, unless_same, once_after, once, keyword_terms, keys_kept, number_terms};
 
 use crate::NoMemory;
+use crate::entries::{keywords_of, numbers_of, words_of};
+use flattener::Document;
 use std::alloc::Global;
 use term_table::number_key;
 
-/// Adds the words of all documents to the terms.
-pub(crate) fn add_word_terms<'a>(
-    words: &[((u32, &'a [u8]), (u32, &'a [u32]))],
-    into: &mut Vec<((u32, &'a [u8]), (u32, &'a [u32]))>,
-) -> Result<(), NoMemory>
-    ensures { OnOk result (words_lent into.new.items ≡ words_lent into.old.items ++ words_lent words.now) }
+/// The terms of documents: their words, their keywords, and numbers by their keys.
+pub(crate) fn terms_of<'a>(
+    alloc: Global,
+    documents: &[&'a Document],
+    keys: &'a [(u32, (u32, [u8; 8]))],
+) -> Result<Vec<((u32, &'a [u8]), (u32, &'a [u32]))>, NoMemory>
+    requires few { length documents.now < 2 ^ 32 }
+    requires keys { keys_kept keys.now ≡ number_terms (entries_in (flats_lent documents.now)).numbers }
+    ensures { IfOk result (λ terms. words_lent terms.items ≡ all_terms (entries_in (flats_lent documents.now))) }
 {
-    'words: for word in words {
-        into.push(*word)?;
-    }
-    Ok(())
+    let mut terms = words_of(alloc, documents)?;
+    let keywords = keywords_of(alloc, documents)?;
+    terms.reserve_exact(keywords.len().saturating_add(keys.len()))?;
+    add_keyword_terms(keywords.as_slice(), &mut terms)?;
+    add_number_terms(keys, &mut terms)?;
+    Ok(terms)
 }
 
-/// Adds the keywords of all documents to the terms.
-pub(crate) fn add_keyword_terms<'a>(
+/// The keys of the numbers of documents, each once in a document.
+pub(crate) fn keys_of(
+    alloc: Global,
+    documents: &[&Document],
+) -> Result<Vec<(u32, (u32, [u8; 8]))>, NoMemory>
+    requires { length documents.now < 2 ^ 32 }
+    ensures { IfOk result (λ keys. keys_kept keys.items ≡ number_terms (entries_in (flats_lent documents.now)).numbers) }
+{
+    let numbers = numbers_of(alloc, documents)?;
+    Ok(number_keys(alloc, numbers.as_slice())?)
+}
+
+/// Adds keywords to terms, each once in a document.
+fn add_keyword_terms<'a>(
     keywords: &[(u32, (u32, &'a [Vec<u8>]))],
     into: &mut Vec<((u32, &'a [u8]), (u32, &'a [u32]))>,
 ) -> Result<(), NoMemory>
@@ -103,8 +123,8 @@ fn add_term<'a>(
     Ok(())
 }
 
-/// The keys of the numbers of all documents, each once in a document.
-pub(crate) fn number_keys(
+/// The keys of numbers, each once in a document.
+fn number_keys(
     alloc: Global,
     numbers: &[(u32, (u32, &[i64]))],
 ) -> Result<Vec<(u32, (u32, [u8; 8]))>, NoMemory>
@@ -175,7 +195,7 @@ fn add_key_unless_same(
 }
 
 /// Adds the keys of numbers to the terms.
-pub(crate) fn add_number_terms<'a>(
+fn add_number_terms<'a>(
     keys: &'a [(u32, (u32, [u8; 8]))],
     into: &mut Vec<((u32, &'a [u8]), (u32, &'a [u32]))>,
 ) -> Result<(), NoMemory>

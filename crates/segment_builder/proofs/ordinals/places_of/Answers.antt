@@ -1,9 +1,0 @@
-use Rattle.std.proofs.Common.{Contains}
-use Rattle.segment_builder.specs.Columns.{terms_in}
-use Rattle.segment_builder.proofs.Ranks.{lent_at}
-use Rattle.segment_builder.proofs.ordinals.places_of.Goals as goal
-
-pub find-requires-clause-there : goal.find-requires-clause-there
-find-requires-clause-there c =
-    rw c.as_slice.ensures.value
-    (lent_at (λ bytes. Contains (terms_in c.args.terms.now) (c.args.field, bytes)) c.args.values.now c.values.value-index c.value-item.result c.values-test.true c.value-item.is c.requires.there)

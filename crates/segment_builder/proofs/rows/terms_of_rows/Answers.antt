@@ -1,0 +1,22 @@
+use Rattle.std.proofs.Common.{◌+◌, drop, length, ap, ◌∙◌, arith, length-drop}
+use Rattle.std.proofs.lemmas.List.{map-append}
+use Rattle.segment_builder.specs.Columns.{terms_in, terms_lent}
+use Rattle.segment_builder.specs.Terms.{rows_in}
+use Rattle.segment_builder.proofs.Among.{goes_on}
+use Rattle.segment_builder.proofs.Lent.{row_at}
+use Rattle.segment_builder.proofs.rows.terms_of_rows.Goals as goal
+
+pub rows-smaller : goal.rows-smaller
+rows-smaller c =
+    let here = row_at c.args.entries.now c.split_at.result.1.now c.rows.at c.run_len-at.result _ c.rows-test.true c.split_at.ensures.back c.run_len-at.ensures.run in
+    omega (arith, here.0, c.rows-test.true)
+
+pub rows-preserved : goal.rows-preserved
+rows-preserved c =
+    let here = row_at c.args.entries.now c.split_at.result.1.now c.rows.at c.run_len-at.result _ c.rows-test.true c.split_at.ensures.back c.run_len-at.ensures.run in (
+      omega (arith, c.rows-test.true, c.run_len-at.ensures.within, ap length c.split_at.ensures.back, length-drop c.rows.at c.args.entries.now),
+      goes_on (terms_lent c.rows.terms.items) (terms_in (rows_in (drop c.rows.at c.args.entries.now))) (terms_lent c.push.new.self.items) (terms_in (rows_in (drop (c.rows.at + c.run_len-at.result) c.args.entries.now))) (terms_in (rows_in c.args.entries.now)) _
+          (ap terms_in here.1)
+          (ap terms_lent c.in_ok-push.ensures.items ∙ map-append (λ term. (term.0, term.1.now)) c.rows.terms.items _)
+          c.rows.invariant.1,
+    )
