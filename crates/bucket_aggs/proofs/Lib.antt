@@ -12,6 +12,7 @@ pub mod Ordinals
 pub mod Numbered
 pub mod Termed
 pub mod Placed
+pub mod Listed
 pub mod Viewed
 pub mod Groups
 pub mod Told

@@ -60,7 +60,7 @@ pub list_alone : (x : ℕ) (ordinals : List ℕ) → count_by (has_ordinal x) (o
 list_alone x ordinals = by_test (has_ordinal x ordinals) (λ held. rw held refl) (λ failed. rw failed refl)
 
 -- a document with one ordinal alone
-pub the_only : (ordinals : List ℕ) (ordinal : ℕ) → length ordinals ≡ 1 → slice_get ordinals 0 ≡ Some ordinal → ordinals ≡ ordinal ∷ []
-the_only [] ordinal one first = absurd (omega (arith, one))
-the_only (x ∷ []) ordinal one first = ap (λ n. n ∷ []) (same_Some x ordinal first)
-the_only (x ∷ y ∷ rest) ordinal one first = absurd (omega (arith, one))
+pub the_only : {A : Type 0} (values : List A) (value : A) → length values ≡ 1 → slice_get values 0 ≡ Some value → values ≡ value ∷ []
+the_only [] value one first = absurd (omega (arith, one))
+the_only (x ∷ []) value one first = ap (λ v. v ∷ []) (same_Some x value first)
+the_only (x ∷ y ∷ rest) value one first = absurd (omega (arith, one))

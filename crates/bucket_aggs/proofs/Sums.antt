@@ -1,17 +1,20 @@
 -- What numbers come to, one number after the other, and what the values of objects come to.
-use Rattle.std.proofs.Common.{◌≡◌, ℕ, suc, ℤ, pos, negsuc, ◌+ℤ◌, Bool, true, false, cond, List, [], ◌∷◌, ◌++◌, map, fold, sum_by, Option, Some, None, refl, sym, ap, subst, ◌∙◌, arith}
-use Rattle.std.specs.List.{flat_map}
+use Rattle.std.proofs.Common.{◌≡◌, ℕ, suc, ℤ, pos, negsuc, ◌+ℤ◌, Bool, true, false, cond, List, [], ◌∷◌, ◌++◌, map, fold, sum_by, Some, None, refl, sym, ap, subst, ◌∙◌, arith, append_assoc}
+use Rattle.std.specs.Prelude.{◌-◌, ◌^◌, ◌≤◌, ◌<ℤ◌, ◌≤ℤ◌, FitsSigned}
+use Rattle.std.specs.Int.{w64}
+use Rattle.std.specs.List.{AllByRecursion, flat_map}
 use Rattle.std.specs.List.Sorted.{IsPermutation}
 use Rattle.std.specs.Ordering.{int_cmp, is_lt}
 use Rattle.std.specs.declared.cmp.Ordering.{Ordering}
 use Rattle.std.specs.declared.cmp.Ordering.TheVariants.{Less, Equal, Greater}
 use Rattle.std.proofs.lemmas.Bool.{false≢true}
-use Rattle.std.proofs.lemmas.Cmp.{int_cmp_total, tied_itself}
+use Rattle.std.specs.Ordering.{MatchOrdering}
+use Rattle.std.proofs.lemmas.Cmp.{int_cmp_total, int_ranked, tied_itself}
 use Rattle.std.proofs.lemmas.Int.{ints}
 use Rattle.std.proofs.lemmas.List.{map-append}
 use Rattle.std.proofs.lemmas.List.Elements.{Contains-append_left, Contains-push}
 use Rattle.std.proofs.lemmas.List.Sorted.{IsPermutation-append, IsPermutation-refl, sum_by-IsPermutation}
-use Rattle.std.proofs.lemmas.List.Sums.{fold_push, sum_by-cons}
+use Rattle.std.proofs.lemmas.List.Sums.{sum_by-cons}
 use Rattle.doc_values.specs.Values.{values_of}
 use Rattle.flattener.specs.Flat.{flat_of}
 use Rattle.mapping.specs.Mapping.{Mapping, kind_at}
@@ -23,8 +26,9 @@ use Rattle.tree_objects.specs.Values.{values}
 use Rattle.tree_objects.specs.declared.field_value.FieldValue.{FieldValue}
 use Rattle.tree_objects.specs.declared.field_value.FieldValue.TheVariants.{Number, Written}
 use Rattle.view_objects.specs.Values.{values_shown}
-use Rattle.bucket_aggs.specs.Sums.{IsFirst, IsSummary, above, below, first_of, numbers_in, sum_of}
-use Rattle.bucket_aggs.specs.declared.metrics.Summary.{Summary}
+use Rattle.bucket_aggs.specs.Sums.{HasRoom, IsAdded, IsFirst, IsSummary, above, below, first_from, first_of, no_numbers, numbers_in, sum_of}
+use Rattle.bucket_aggs.specs.declared.metrics.Running.{Running}
+use Rattle.bucket_aggs.proofs.Documents.{nothing_behind}
 use Rattle.bucket_aggs.proofs.Lists.{Each, by_test, each_as}
 
 -- ---- the first of numbers
@@ -34,12 +38,24 @@ module _ (before : ℤ → ℤ → Bool) (goes_on : (x z a : ℤ) → before x z
   each_more P [] z h p = (p, tt)
   each_more P (x ∷ zs) z h p = (h.0, each_more P zs z h.1 p)
 
-  pub first_more : (zs : List ℤ) (first : Option ℤ) (z : ℤ) → IsFirst before zs first → IsFirst before (zs ++ z ∷ []) (Some (first_of before first z))
-  first_more zs None z is = subst (λ (l : List ℤ). IsFirst before (l ++ z ∷ []) (Some z)) (sym is) (Contains-push [] z, (itself z, tt))
-  first_more zs (Some a) z is =
+  pub first_more : (zs : List ℤ) (first z : ℤ) → IsFirst before zs (Some first) → IsFirst before (zs ++ z ∷ []) (Some (first_of before first z))
+  first_more zs a z is =
       by_test (before z a)
       (λ held. rw held (Contains-push zs z, each_more (λ (x : ℤ). before x z ≡ false) zs z (each_as (λ (x : ℤ). before x a ≡ false) (λ (x : ℤ). before x z ≡ false) (λ x h. by_test (before x z) (λ yes. absurd (false≢true (sym h ∙ goes_on x z a yes held))) (λ no. no)) zs is.1) (itself z)))
       (λ failed. rw failed (Contains-append_left zs (z ∷ []) a is.0, each_more (λ (x : ℤ). before x a ≡ false) zs z is.1 failed))
+
+  -- more numbers behind some
+  first_on : (done : List ℤ) (first : ℤ) (zs : List ℤ) → IsFirst before done (Some first) → IsFirst before (done ++ zs) (Some (first_from before first zs))
+  first_on done first [] is = subst (λ (l : List ℤ). IsFirst before l (Some first)) (nothing_behind done) is
+  first_on done first (z ∷ zs) is =
+      subst (λ (l : List ℤ). IsFirst before l (Some (first_from before first (z ∷ zs)))) (append_assoc done (z ∷ []) zs)
+      (first_on (done ++ z ∷ []) (first_of before first z) zs (first_more done first z is))
+
+  -- a start that comes before none: then the first is one of the numbers
+  pub first_all : (start z : ℤ) (zs : List ℤ) → first_of before start z ≡ z → IsFirst before (z ∷ zs) (Some (first_from before start (z ∷ zs)))
+  first_all start z zs is =
+      subst (λ (first : ℤ). IsFirst before (z ∷ zs) (Some (first_from before first zs))) (sym is)
+      (first_on (z ∷ []) z zs (Contains-push [] z, (itself z, tt)))
 
 lt_is : (r : Ordering) → is_lt r ≡ true → r ≡ Less
 lt_is Less h = refl
@@ -52,27 +68,84 @@ below_on x z a h g = ap is_lt (int_cmp_total.trans x z a (lt_is (int_cmp x z) h)
 not_below : (a : ℤ) → below a a ≡ false
 not_below a = ap is_lt (tied_itself int_cmp_total a)
 
-pub summary_none : (s : Summary) → s ≡ record { total = pos 0; least = None; greatest = None } → IsSummary [] s
-summary_none s is = subst (IsSummary []) (sym is) (record { total = refl; least = refl; greatest = refl })
+-- ---- numbers while they are added
 
-pub summary_more : (zs : List ℤ) (old new : Summary) (z : ℤ) → IsSummary zs old → new ≡ record { total = old.total +ℤ z; least = Some (first_of below old.least z); greatest = Some (first_of above old.greatest z) } → IsSummary (zs ++ z ∷ []) new
-summary_more zs old new z was is =
-    subst (IsSummary (zs ++ z ∷ [])) (sym is)
-    (record {
-      total = ap (λ (t : ℤ). t +ℤ z) was.total ∙ sym (fold_push (λ (s x : ℤ). s +ℤ x) (pos 0) zs z);
-      least = first_more below below_on not_below zs old.least z was.least;
-      greatest = first_more above (λ x z a h g. below_on a z x g h) not_below zs old.greatest z was.greatest;
-    })
+fold_on : {A B : Type 0} (f : A → B → A) (a : A) (xs ys : List B) → fold f a (xs ++ ys) ≡ fold f (fold f a xs) ys
+fold_on f a [] ys = refl
+fold_on f a (x ∷ xs) ys = fold_on f (f a x) xs ys
 
-pub summary_next : (zs : List ℤ) (old : Summary) (z : ℤ) (total least greatest : ℤ) → IsSummary zs old → total ≡ old.total +ℤ z → least ≡ first_of below old.least z → greatest ≡ first_of above old.greatest z
-    → IsSummary (zs ++ z ∷ []) (record { total = total; least = Some least; greatest = Some greatest })
-summary_next zs old z total least greatest was sum low high =
-    let new : Summary = record { total = total; least = Some least; greatest = Some greatest } in
-    let is : new ≡ record { total = old.total +ℤ z; least = Some (first_of below old.least z); greatest = Some (first_of above old.greatest z) } =
-    ap (λ (t : ℤ). record { total = t; least = Some least; greatest = Some greatest }) sum
-    ∙ ap (λ (l : ℤ). record { total = old.total +ℤ z; least = Some l; greatest = Some greatest }) low
-    ∙ ap (λ (h : ℤ). record { total = old.total +ℤ z; least = Some (first_of below old.least z); greatest = Some h }) high in
-    summary_more zs old new z was is
+sum_from : (a : ℤ) (zs : List ℤ) → fold (λ sum z. sum +ℤ z) a zs ≡ a +ℤ sum_of zs
+sum_from a [] = omega (arith, ints)
+sum_from a (z ∷ zs) = omega (arith, ints, sum_from (a +ℤ z) zs, sum_from (pos 0 +ℤ z) zs)
+
+each_on : (P : ℤ → Type 0) (zs ys : List ℤ) → Each P zs → Each P ys → Each P (zs ++ ys)
+each_on P [] ys h g = g
+each_on P (z ∷ zs) ys h g = (h.0, each_on P zs ys h.1 g)
+
+pub added_none : (start : Running) → IsAdded start [] start
+added_none start = record { total = omega (arith, ints); least = refl; greatest = refl; fit = tt }
+
+pub added_more : (start old new : Running) (zs others : List ℤ) → IsAdded start zs old → AllByRecursion (FitsSigned w64) others → new.total ≡ old.total +ℤ sum_of others → new.least ≡ first_from below old.least others → new.greatest ≡ first_from above old.greatest others
+    → IsAdded start (zs ++ others) new
+added_more start old new zs others was fit total least greatest = record {
+  total = omega (arith, ints, total, was.total, ap (λ (z : ℤ). z) (fold_on (λ (s x : ℤ). s +ℤ x) (pos 0) zs others), sum_from (sum_of zs) others);
+  least = least ∙ ap (λ (first : ℤ). first_from below first others) was.least ∙ sym (fold_on (first_of below) start.least zs others);
+  greatest = greatest ∙ ap (λ (first : ℤ). first_from above first others) was.greatest ∙ sym (fold_on (first_of above) start.greatest zs others);
+  fit = each_on (FitsSigned w64) zs others was.fit fit;
+}
+
+pub room_less : (few many : ℕ) (total : ℤ) → few ≤ many → HasRoom many total → HasRoom few total
+room_less few many total less room = record { over = omega (arith, ints, less, room.over); under = omega (arith, ints, less, room.under) }
+
+-- ---- what they come to
+
+under_of : (a b : ℤ) → below a b ≡ true → a <ℤ b
+under_of a b h = by (int_cmp a b) (int_ranked a b (int_cmp a b) refl) h
+  where
+    by : (r : Ordering) → MatchOrdering r (a <ℤ b) (a ≡ b) (b <ℤ a) → is_lt r ≡ true → a <ℤ b
+    by Less held h = held
+    by Equal held h = absurd (false≢true h)
+    by Greater held h = absurd (false≢true h)
+
+over_of : (a b : ℤ) → below a b ≡ false → b ≤ℤ a
+over_of a b h = by (int_cmp a b) (int_ranked a b (int_cmp a b) refl) h
+  where
+    by : (r : Ordering) → MatchOrdering r (a <ℤ b) (a ≡ b) (b <ℤ a) → is_lt r ≡ false → b ≤ℤ a
+    by Less held h = absurd (false≢true (sym h))
+    by Equal held h = omega (arith, ints, held)
+    by Greater held h = omega (arith, ints, held)
+
+-- no number of 64 bits is above the greatest or below the least of them
+least_start : (z : ℤ) → FitsSigned w64 z → first_of below (pos (2 ^ 63 - 1)) z ≡ z
+least_start z fits = by_test (below z (pos (2 ^ 63 - 1))) (λ held. rw held refl) (λ failed. rw failed (omega (arith, ints, over_of z (pos (2 ^ 63 - 1)) failed, fits)))
+
+greatest_start : (z : ℤ) → FitsSigned w64 z → first_of above (negsuc (2 ^ 63 - 1)) z ≡ z
+greatest_start z fits = by_test (above z (negsuc (2 ^ 63 - 1))) (λ held. rw held refl) (λ failed. rw failed (omega (arith, ints, over_of (negsuc (2 ^ 63 - 1)) z failed, fits)))
+
+module _ (r : Running) (sum : ℤ) (is : sum ≡ r.total) where
+  all_total : (zs : List ℤ) → IsAdded no_numbers zs r → sum ≡ sum_of zs
+  all_total zs was = omega (arith, ints, is, was.total)
+
+  first_least : (z : ℤ) (zs : List ℤ) → IsAdded no_numbers (z ∷ zs) r → IsFirst below (z ∷ zs) (Some r.least)
+  first_least z zs was = subst (λ (first : ℤ). IsFirst below (z ∷ zs) (Some first)) (sym was.least) (first_all below below_on not_below (pos (2 ^ 63 - 1)) z zs (least_start z was.fit.0))
+
+  first_greatest : (z : ℤ) (zs : List ℤ) → IsAdded no_numbers (z ∷ zs) r → IsFirst above (z ∷ zs) (Some r.greatest)
+  first_greatest z zs was =
+      subst (λ (first : ℤ). IsFirst above (z ∷ zs) (Some first)) (sym was.greatest) (first_all above (λ x y a h g. below_on a y x g h) not_below (negsuc (2 ^ 63 - 1)) z zs (greatest_start z was.fit.0))
+
+  pub summary_none : (zs : List ℤ) → IsAdded no_numbers zs r → below r.greatest r.least ≡ true → IsSummary zs (record { total = sum; least = None; greatest = None })
+  summary_none [] was crossed = record { total = all_total [] was; least = refl; greatest = refl }
+  summary_none (z ∷ zs) was crossed =
+      absurd (omega (arith, ints, under_of r.greatest r.least crossed, over_of z r.least (first_least z zs was).1.0, over_of r.greatest z (first_greatest z zs was).1.0))
+
+  pub summary_some : (zs : List ℤ) (least greatest : ℤ) → least ≡ r.least → greatest ≡ r.greatest → IsAdded no_numbers zs r → below r.greatest r.least ≡ false → IsSummary zs (record { total = sum; least = Some least; greatest = Some greatest })
+  summary_some [] least greatest low high was apart =
+      absurd (false≢true (sym apart ∙ ap (λ (z : ℤ). below z r.least) was.greatest ∙ ap (λ (z : ℤ). below (negsuc (2 ^ 63 - 1)) z) was.least))
+  summary_some (z ∷ zs) least greatest low high was apart = record {
+    total = all_total (z ∷ zs) was;
+    least = subst (λ (first : ℤ). IsFirst below (z ∷ zs) (Some first)) (sym low) (first_least z zs was);
+    greatest = subst (λ (first : ℤ). IsFirst above (z ∷ zs) (Some first)) (sym high) (first_greatest z zs was);
+  }
 
 -- ---- sums have no order
 

@@ -42,7 +42,7 @@ TermList = List (ℕ × List ℕ)
 abbrev pub IsOf : TermList → ℕ → ℕ → Type 0
 IsOf terms f ordinal = IsSomeAnd (slice_get terms ordinal) (λ (term : ℕ × List ℕ). term.0 ≡ f)
 
-column_has : {X : Type 0} (P : ℕ × X → Type 0) (f : ℕ) (found : X) (columns : List (ℕ × X)) → Each P columns → column_of f columns ≡ Some found → P (f, found)
+pub column_has : {X : Type 0} (P : ℕ × X → Type 0) (f : ℕ) (found : X) (columns : List (ℕ × X)) → Each P columns → column_of f columns ≡ Some found → P (f, found)
 column_has P f found [] all is = absurd (let no : ⊥ = cc in no)
 column_has {X} P f found (column ∷ columns) all is =
     by_test (column.0 == f)
@@ -59,7 +59,7 @@ within_list terms f ordinal is = by (slice_get terms ordinal) refl is
     by None own has = absurd has
     by (Some term) own has = slice_get_within terms ordinal term own
 
-values_have : (Q : ℕ → ℕ → Type 0) (doc : ℕ) (rows : List (ℕ × List ℕ)) → Each (λ (row : ℕ × List ℕ). Each (Q row.0) row.1) rows → Each (Q doc) (values_of doc rows)
+pub values_have : (Q : ℕ → ℕ → Type 0) (doc : ℕ) (rows : List (ℕ × List ℕ)) → Each (λ (row : ℕ × List ℕ). Each (Q row.0) row.1) rows → Each (Q doc) (values_of doc rows)
 values_have Q doc [] all = tt
 values_have Q doc (row ∷ rows) all =
     by_test (row.0 == doc)
@@ -111,7 +111,7 @@ module _ (terms : TermList) (f first n : ℕ) (up : AreAscending terms) (range :
           let here : get_or terms ordinal (0, []) ≡ term = get_or_from_slice_get terms ordinal term (0, []) own in
           own ∙ ap (λ (n : ℕ). Some (n, term.1)) has ∙ ap (λ (t : ℕ × List ℕ). Some (f, t.1)) (sym here)
 
-  of_range : (k : ℕ) → k < n → IsOf terms f (first + k)
+  pub of_range : (k : ℕ) → k < n → IsOf terms f (first + k)
   of_range k low =
       let inside : first + k < length terms = omega (arith, low, within) in
       let is : slice_get terms (first + k) ≡ Some (get_or terms (first + k) (0, [])) = slice_get-get_or terms (first + k) (0, []) inside in

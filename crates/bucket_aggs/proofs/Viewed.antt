@@ -11,8 +11,8 @@ use Rattle.segment_parts.specs.Text.{marked_places}
 use Rattle.segment_parts.specs.declared.columns.Columns.{Columns}
 use Rattle.tree_objects.specs.declared.field_value.FieldValue.{FieldValue}
 use Rattle.bucket_aggs.specs.Counts.{AreCounts, AreKeys, KeysAscend, Weighed, flats_in, flats_of_view, shows, weight}
-use Rattle.bucket_aggs.specs.Sums.{IsSummary, numbers_in}
-use Rattle.bucket_aggs.specs.declared.metrics.Summary.{Summary}
+use Rattle.bucket_aggs.specs.Sums.{IsAdded, no_numbers, numbers_in}
+use Rattle.bucket_aggs.specs.declared.metrics.Running.{Running}
 use Rattle.bucket_aggs.specs.declared.rows.CountRow.{CountRow}
 use Rattle.bucket_aggs.proofs.Rowed.{one_if}
 
@@ -102,16 +102,16 @@ counting_end kind f at view scores rows made past was ascend same keys = record 
 
 -- ---- numbers, one after the other
 
-pub record Summing (f at : ℕ) (view : View) (scores : List Scores) (s : Summary) : Type 0 where
+pub record Summing (f at : ℕ) (view : View) (scores : List Scores) (s : Running) : Type 0 where
   pub done : List ℤ
-  pub sums : IsSummary done s
+  pub sums : IsAdded no_numbers done s
   pub rest : done ++ flat_map (numbers_in f) (flats_from at view scores) ≡ flat_map (numbers_in f) (flats_of_view view scores)
 
-pub summing_start : (f : ℕ) (view : View) (scores : List Scores) (s : Summary) → IsSummary [] s → Summing f 0 view scores s
+pub summing_start : (f : ℕ) (view : View) (scores : List Scores) (s : Running) → IsAdded no_numbers [] s → Summing f 0 view scores s
 summing_start f view scores s is = record { done = []; sums = is; rest = refl }
 
-pub summing_step : (f at : ℕ) (view : View) (scores : List Scores) (own : List FlatDocument) (old new : Summary) → flats_from at view scores ≡ own ++ flats_from (at + 1) view scores → Summing f at view scores old
-    → ((zs : List ℤ) → IsSummary zs old → IsSummary (zs ++ flat_map (numbers_in f) own) new) → Summing f (at + 1) view scores new
+pub summing_step : (f at : ℕ) (view : View) (scores : List Scores) (own : List FlatDocument) (old new : Running) → flats_from at view scores ≡ own ++ flats_from (at + 1) view scores → Summing f at view scores old
+    → ((zs : List ℤ) → IsAdded no_numbers zs old → IsAdded no_numbers (zs ++ flat_map (numbers_in f) own) new) → Summing f (at + 1) view scores new
 summing_step f at view scores own old new step was more = record {
   done = was.done ++ flat_map (numbers_in f) own;
   sums = more was.done was.sums;
@@ -121,9 +121,9 @@ summing_step f at view scores own old new step was more = record {
       ∙ was.rest;
 }
 
-pub summing_end : (f at : ℕ) (view : View) (scores : List Scores) (s : Summary) → length view ≤ at → Summing f at view scores s → IsSummary (flat_map (numbers_in f) (flats_of_view view scores)) s
+pub summing_end : (f at : ℕ) (view : View) (scores : List Scores) (s : Running) → length view ≤ at → Summing f at view scores s → IsAdded no_numbers (flat_map (numbers_in f) (flats_of_view view scores)) s
 summing_end f at view scores s past was =
-    subst (λ (zs : List ℤ). IsSummary zs s) (nothing_behind was.done ∙ ap (λ (l : List FlatDocument). was.done ++ flat_map (numbers_in f) l) (sym (flats_end at view scores past)) ∙ was.rest) was.sums
+    subst (λ (zs : List ℤ). IsAdded no_numbers zs s) (nothing_behind was.done ∙ ap (λ (l : List FlatDocument). was.done ++ flat_map (numbers_in f) l) (sym (flats_end at view scores past)) ∙ was.rest) was.sums
   where
     nothing_behind : (zs : List ℤ) → zs ≡ zs ++ []
     nothing_behind [] = refl

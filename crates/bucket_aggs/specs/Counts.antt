@@ -61,6 +61,10 @@ pub record Counted (first : ℕ) (lists : List (List ℕ)) (old new : List ℕ) 
   pub long : length new ≡ length old
   pub each : (k : ℕ) → k < length old → get_or new k 0 ≡ get_or old k 0 + count_by (has_ordinal (first + k)) lists
 
+-- whether a posting is of a document of a set
+abbrev pub is_posted : List Bool → ℕ × List ℕ → Bool
+is_posted flags posting = get_or flags posting.0 false
+
 -- ---- counts by value
 
 abbrev pub is_number : FieldValue → ℤ → Bool

@@ -1,5 +1,6 @@
 -- What numbers come to: their sum, the least and the greatest.
-use Rattle.std.specs.Prelude.{◌≡◌, ℕ, ℤ, pos, ◌+ℤ◌, Bool, false, if◌then◌else◌, List, [], length, fold, Option, Some, None}
+use Rattle.std.specs.Prelude.{◌≡◌, ℕ, ◌-◌, ◌*◌, ◌^◌, ℤ, pos, negsuc, ◌+ℤ◌, ◌<ℤ◌, ◌≤ℤ◌, FitsSigned, Bool, false, if◌then◌else◌, List, [], length, fold, Option, Some, None}
+use Rattle.std.specs.Int.{w64}
 use Rattle.std.specs.List.{AllByRecursion, Contains, flat_map}
 use Rattle.std.specs.Ordering.{int_cmp, is_lt}
 use Rattle.doc_values.specs.Values.{values_of}
@@ -8,6 +9,7 @@ use Rattle.segment.specs.Flat.{FlatDocument}
 use Rattle.segment.specs.Live.{EntryState}
 use Rattle.view_objects.specs.Values.{values_shown}
 use Rattle.bucket_aggs.specs.declared.metrics.FieldSummary.{FieldSummary}
+use Rattle.bucket_aggs.specs.declared.metrics.Running.{Running}
 use Rattle.bucket_aggs.specs.declared.metrics.Summary.{Summary}
 use Rattle.bucket_aggs.specs.Counts.{flats_of_view}
 
@@ -25,15 +27,33 @@ abbrev pub IsFirst : (ℤ → ℤ → Bool) → List ℤ → Option ℤ → Type
 IsFirst before zs None = zs ≡ []
 IsFirst before zs (Some z) = Contains zs z × AllByRecursion (λ (x : ℤ). before x z ≡ false) zs
 
--- the first so far, with a number more
-abbrev pub first_of : (ℤ → ℤ → Bool) → Option ℤ → ℤ → ℤ
-first_of before None z = z
-first_of before (Some first) z = if before z first then z else first
+-- the first so far, with a number more, and with some
+abbrev pub first_of : (ℤ → ℤ → Bool) → ℤ → ℤ → ℤ
+first_of before first z = if before z first then z else first
+
+abbrev pub first_from : (ℤ → ℤ → Bool) → ℤ → List ℤ → ℤ
+first_from before first zs = fold (first_of before) first zs
 
 pub record IsSummary (zs : List ℤ) (s : Summary) : Type 0 where
   pub total : s.total ≡ sum_of zs
   pub least : IsFirst below zs s.least
   pub greatest : IsFirst above zs s.greatest
+
+-- before the first number: each is at or below the least and at or above the greatest
+abbrev pub no_numbers : Running
+no_numbers = record { total = pos 0; least = pos (2 ^ 63 - 1); greatest = negsuc (2 ^ 63 - 1) }
+
+-- numbers of 64 bits that were added behind a start
+pub record IsAdded (start : Running) (zs : List ℤ) (now : Running) : Type 0 where
+  pub total : now.total ≡ start.total +ℤ sum_of zs
+  pub least : now.least ≡ first_from below start.least zs
+  pub greatest : now.greatest ≡ first_from above start.greatest zs
+  pub fit : AllByRecursion (FitsSigned w64) zs
+
+-- so many numbers of 64 bits may be added to a sum of 128
+pub record HasRoom (count : ℕ) (total : ℤ) : Type 0 where
+  pub over : (pos (count * 2 ^ 63) +ℤ total) <ℤ pos (2 ^ 127)
+  pub under : pos (count * 2 ^ 63) ≤ℤ (pos (2 ^ 127) +ℤ total)
 
 -- the numbers of a document in the column of a field
 abbrev pub numbers_in : ℕ → FlatDocument → List ℤ

@@ -12,6 +12,7 @@ mod found;
 mod metrics;
 mod no_memory;
 mod objects;
+mod posted;
 mod rows;
 mod terms;
 

@@ -1,6 +1,6 @@
 //! What the values of a field come to over all objects.
 
-ghost use Rattle.std.specs.Prelude.{◌≡◌, ◌<◌, ◌++◌, ℤ, List, [], ◌∷◌, false, if◌then◌else◌, map, length, slice_get, slice_index, slice_index_or, sum_by, IfOk, OnOk, Some, None};
+ghost use Rattle.std.specs.Prelude.{◌≡◌, ◌<◌, ◌+◌, ◌^◌, ◌++◌, ℕ, ℤ, pos, List, [], ◌∷◌, false, if◌then◌else◌, map, length, slice_get, slice_index, slice_index_or, sum_by, IfOk, OnOk, Some, None};
 ghost use Rattle.std.specs.List.{flat_map};
 ghost use Rattle.std.specs.Int.{saturate_signed, w64};
 ghost use Rattle.doc_values.specs.Values.{documents, values_of};
@@ -8,7 +8,8 @@ ghost use Rattle.query_eval.specs.Found.{AreLong};
 ghost use Rattle.segment.specs.Flat.{flat_of};
 ghost use Rattle.segment_parts.specs.Text.{marked_places};
 ghost use Rattle.bucket_aggs.specs.Counts.{flats_of_view};
-ghost use Rattle.bucket_aggs.specs.Sums.{IsKept, IsSummary, above, below, first_of, numbers_in, values_in};
+ghost use Rattle.bucket_aggs.specs.Sums.{HasRoom, IsAdded, IsKept, IsSummary, above, below, first_of, no_numbers, numbers_in, values_in};
+ghost use Rattle.bucket_aggs.specs.declared.metrics.Running.{Running};
 
 use crate::NoMemory;
 use crate::columns::{has_most, is_in, is_text};
@@ -28,35 +29,6 @@ pub(crate) struct Summary {
 }
 
 impl Summary {
-    /// Of no numbers.
-    pub(crate) fn none() -> Summary
-        ensures { IsSummary [] result }
-    {
-        Summary {
-            total: 0,
-            least: None,
-            greatest: None,
-        }
-    }
-
-    /// With one number more. `NoMemory` where their sum has no 128 bits.
-    ///
-    /// Inlined, as `add_values` is, so that the sums of a loop stay in registers.
-    #[inline(always)]
-    fn add(&mut self, number: i64) -> Result<(), NoMemory>
-        ensures { (zs : List ℤ) → IsSummary zs self.old → OnOk result (IsSummary (zs ++ number ∷ []) self.new) }
-    {
-        let Some(total) = self.total.checked_add(i128::from(number)) else {
-            return Err(NoMemory);
-        };
-        *self = Summary {
-            total,
-            least: Some(lesser(self.least, number)),
-            greatest: Some(greater(self.greatest, number)),
-        };
-        Ok(())
-    }
-
     /// The sum, clamped to 64 bits.
     pub(crate) fn sum(&self) -> i64
         ensures { result ≡ saturate_signed w64 self.now.total }
@@ -65,24 +37,107 @@ impl Summary {
     }
 }
 
-/// The least so far, with a number more.
-fn lesser(least: Option<i64>, number: i64) -> i64
-    ensures { result ≡ first_of below least number }
-{
-    match least {
-        Some(least) => if number < least { number } else { least },
-        None => number,
+/// Numbers while they are added: their sum, the least and the greatest. Of no numbers the least is above the greatest.
+#[derive(Clone, Copy)]
+pub(crate) struct Running {
+    total: i128,
+    least: i64,
+    greatest: i64,
+}
+
+impl Running {
+    /// No numbers.
+    fn none() -> Running
+        ensures { result ≡ no_numbers }
+    {
+        Running {
+            total: 0,
+            least: i64::MAX,
+            greatest: i64::MIN,
+        }
+    }
+
+    /// The same but for the sum, which begins anew.
+    fn anew(&self) -> Running
+        ensures { result ≡ record { total = pos 0; least = self.now.least; greatest = self.now.greatest } }
+    {
+        Running {
+            total: 0,
+            least: self.least,
+            greatest: self.greatest,
+        }
+    }
+
+    /// With one number more.
+    ///
+    /// Inlined, as `add_values` is, so that the numbers of a loop stay in registers.
+    #[inline(always)]
+    fn add(&mut self, number: i64)
+        requires { HasRoom 1 self.old.total }
+        ensures added { (start : Running) (zs : List ℤ) → IsAdded start zs self.old → IsAdded start (zs ++ number ∷ []) self.new }
+        ensures total { (count : ℕ) → HasRoom (count + 1) self.old.total → HasRoom count self.new.total }
+    {
+        *self = Running {
+            total: self.total + i128::from(number),
+            least: lesser(self.least, number),
+            greatest: greater(self.greatest, number),
+        };
+    }
+
+    /// With those that were added anew. `NoMemory` where the sum has no 128 bits.
+    fn join(&mut self, own: Running) -> Result<(), NoMemory>
+        ensures { (zs others : List ℤ) → IsAdded no_numbers zs self.old → IsAdded (record { total = pos 0; least = self.old.least; greatest = self.old.greatest }) others own
+            → OnOk result (IsAdded no_numbers (zs ++ others) self.new) }
+    {
+        let Some(total) = self.total.checked_add(own.total) else {
+            return Err(NoMemory);
+        };
+        *self = Running {
+            total,
+            least: own.least,
+            greatest: own.greatest,
+        };
+        Ok(())
+    }
+
+    /// What they come to.
+    fn summary(&self) -> Summary
+        ensures { (zs : List ℤ) → IsAdded no_numbers zs self.now → IsSummary zs result }
+    {
+        if is_below(self.greatest, self.least) {
+            return Summary {
+                total: self.total,
+                least: None,
+                greatest: None,
+            };
+        }
+        Summary {
+            total: self.total,
+            least: Some(self.least),
+            greatest: Some(self.greatest),
+        }
     }
 }
 
+/// Whether a number is less than another.
+fn is_below(number: i64, other: i64) -> bool
+    ensures { result ≡ below number other }
+{
+    number < other
+}
+
+/// The least so far, with a number more.
+fn lesser(least: i64, number: i64) -> i64
+    ensures { result ≡ first_of below least number }
+{
+    if number < least { number } else { least }
+}
+
 /// The greatest so far, with a number more.
-fn greater(greatest: Option<i64>, number: i64) -> i64
+fn greater(greatest: i64, number: i64) -> i64
     ensures { result ≡ first_of above greatest number }
 {
-    match greatest {
-        Some(greatest) => if greatest < number { number } else { greatest },
-        None => number,
-    }
+    if greatest < number { number } else { greatest }
 }
 
 /// What the numbers of a field come to.
@@ -120,11 +175,11 @@ fn sum_all(entries: &[Entry], field: u32, objects: &Matches) -> Result<Summary, 
     ensures { IfOk result (IsSummary (flat_map (numbers_in field) (flats_of_view entries.now objects.now))) }
 {
     let objects = objects.as_slice();
-    let mut sums = Summary::none();
+    let mut sums = Running::none();
     'entries: for at in 0..entries.len() {
         add_numbers(entries[at].segment(), field, objects[at].set(), &mut sums)?;
     }
-    Ok(sums)
+    Ok(sums.summary())
 }
 
 /// Adds the numbers of the documents of a set.
@@ -132,68 +187,90 @@ fn add_numbers(
     segment: &Segment,
     field: u32,
     set: &BitSet,
-    sums: &mut Summary,
+    sums: &mut Running,
 ) -> Result<(), NoMemory>
-    ensures { (zs : List ℤ) → IsSummary zs sums.old → OnOk result (IsSummary (zs ++ flat_map (numbers_in field) (map (flat_of segment.now) (marked_places 0 set.now))) sums.new) }
+    ensures { (zs : List ℤ) → IsAdded no_numbers zs sums.old → OnOk result (IsAdded no_numbers (zs ++ flat_map (numbers_in field) (map (flat_of segment.now) (marked_places 0 set.now))) sums.new) }
 {
     values_are_of_documents(segment);
     let Some(column) = segment.numbers(field) else {
         return Ok(());
     };
-    add_documents(set, &column, sums)?;
+    let own = added(set, &column, sums.anew());
+    sums.join(own)?;
     Ok(())
 }
 
-/// Adds the numbers that the documents of a set have in a column.
+/// With the numbers that the documents of a set have in a column; no sum has begun.
 ///
 /// Where the set has most documents of the column its rows are walked over, else each document's row is looked for near the one before.
-fn add_documents(set: &BitSet, column: &NumberColumn, sums: &mut Summary) -> Result<(), NoMemory>
-    ensures { (zs : List ℤ) → IsSummary zs sums.old → OnOk result (IsSummary (zs ++ flat_map (λ doc. values_of doc column.now) (marked_places 0 set.now)) sums.new) }
+fn added(set: &BitSet, column: &NumberColumn, start: Running) -> Running
+    requires { start.total ≡ pos 0 }
+    ensures { IsAdded start (flat_map (λ doc. values_of doc column.now) (marked_places 0 set.now)) result }
 {
     if has_most(set, column) {
-        add_rows(set, column, sums)
+        with_rows(set, column, start)
     } else {
-        add_each(set, column, sums)
+        with_documents(set, column, start)
     }
 }
 
 /// The same, row by row.
-fn add_rows(set: &BitSet, column: &NumberColumn, sums: &mut Summary) -> Result<(), NoMemory>
-    ensures { (zs : List ℤ) → IsSummary zs sums.old → OnOk result (IsSummary (zs ++ flat_map (λ doc. values_of doc column.now) (marked_places 0 set.now)) sums.new) }
+fn with_rows(set: &BitSet, column: &NumberColumn, start: Running) -> Running
+    requires { start.total ≡ pos 0 }
+    ensures { IsAdded start (flat_map (λ doc. values_of doc column.now) (marked_places 0 set.now)) result }
 {
-    let mut own = *sums;
+    let mut sums = start;
     'rows: for row in 0..column.rows() {
         if is_in(set, column.doc(row)) {
-            add_values(column.row_values(row), &mut own)?;
+            add_values(column.row_values(row), &mut sums);
         }
     }
-    *sums = own;
-    Ok(())
+    sums
 }
 
 /// The same, document by document.
-fn add_each(set: &BitSet, column: &NumberColumn, sums: &mut Summary) -> Result<(), NoMemory>
-    ensures { (zs : List ℤ) → IsSummary zs sums.old → OnOk result (IsSummary (zs ++ flat_map (λ doc. values_of doc column.now) (marked_places 0 set.now)) sums.new) }
+fn with_documents(set: &BitSet, column: &NumberColumn, start: Running) -> Running
+    requires { start.total ≡ pos 0 }
+    ensures { IsAdded start (flat_map (λ doc. values_of doc column.now) (marked_places 0 set.now)) result }
 {
+    let _len = set.len();
+    let mut sums = start;
     let mut walk = set.walk();
     let mut near = 0;
     'documents: while let Some(doc) = walk.next() {
         let values = column.values_near(doc, &mut near);
-        add_values(values, sums)?;
+        add_values(values, &mut sums);
     }
-    Ok(())
+    sums
 }
 
-/// Adds the numbers of a document.
+/// Adds the numbers of a document, fewer than 2^32.
+///
+/// Most documents have one value alone: it is looked at by itself.
 #[inline(always)]
-fn add_values(values: Values<i64>, sums: &mut Summary) -> Result<(), NoMemory>
-    ensures { (zs : List ℤ) → IsSummary zs sums.old → OnOk result (IsSummary (zs ++ values.entry) sums.new) }
+fn add_values(values: Values<i64>, sums: &mut Running)
+    requires { HasRoom (2 ^ 32) sums.old.total }
+    ensures added { (start : Running) (zs : List ℤ) → IsAdded start zs sums.old → IsAdded start (zs ++ values.entry) sums.new }
+    ensures room { (count : ℕ) → HasRoom (count + 2 ^ 32) sums.old.total → HasRoom count sums.new.total }
 {
+    if values.len() == 1 {
+        sums.add(values.value(0));
+        return;
+    }
+    add_each(values, sums);
+}
+
+/// The same, value by value.
+fn add_each(values: Values<i64>, sums: &mut Running)
+    requires { HasRoom (2 ^ 32) sums.old.total }
+    ensures added { (start : Running) (zs : List ℤ) → IsAdded start zs sums.old → IsAdded start (zs ++ values.entry) sums.new }
+    ensures room { (count : ℕ) → HasRoom (count + 2 ^ 32) sums.old.total → HasRoom count sums.new.total }
+{
+    let _few = values.len();
     let mut values = values;
     'values: while let Some(number) = values.next() {
-        sums.add(number)?;
+        sums.add(number);
     }
-    Ok(())
 }
 
 /// How many values of a field of this kind all objects show, repeats included.

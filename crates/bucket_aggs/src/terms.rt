@@ -1,21 +1,27 @@
 //! The values of a field over all entries of a view, each with the number of objects that show it.
 
-ghost use Rattle.std.specs.Prelude.{◌≡◌, ◌<◌, ◌≤◌, ◌+◌, true, false, count_by, length, map, replicate, IfOk, OnOk};
+ghost use Rattle.std.specs.Prelude.{◌≡◌, ◌<◌, ◌≤◌, ◌+◌, ◌-◌, true, false, count_by, length, map, replicate, IfOk, OnOk, Some};
 ghost use Rattle.std.specs.List.{AllByRecursion};
+ghost use Rattle.doc_values.specs.Values.{values_of};
 ghost use Rattle.mapping_body.specs.declared.kind.Kind.{Kind as Kinds};
 ghost use Rattle.query_ast.specs.Uses.{is_written};
 ghost use Rattle.query_eval.specs.Found.{AreLong};
 ghost use Rattle.segment.specs.Flat.{flat_of};
+ghost use Rattle.segment_parts.specs.Fields.{column_of};
+ghost use Rattle.segment_parts.specs.Lists.{terms_of};
 ghost use Rattle.segment_parts.specs.Text.{marked_places};
+ghost use Rattle.term_table.specs.Ranges.{IsRange, is_of_field};
 ghost use Rattle.tree_objects.specs.declared.field_value.FieldValue.{FieldValue as Value};
-ghost use Rattle.bucket_aggs.specs.Counts.{AreCounts, AreKeys, Weighed, count_if, counts_of, flats_of_view, is_number, is_term, term_key, weight};
+ghost use Rattle.bucket_aggs.specs.Counts.{AreCounts, AreKeys, Counted, Weighed, count_if, counts_of, flats_of_view, is_number, is_term, term_key, weight};
 
 use crate::NoMemory;
-use crate::columns::{count_ordinals, is_text};
+use crate::columns::{count_ordinals, has_most, is_text};
 use crate::distinct::distinct_values;
+use crate::posted::posting_counts;
 use crate::rows::{CountRow, add, merged};
 use block_bits::BitSet;
 use block_join::Matches;
+use doc_values::OrdinalColumn;
 use mapping::Kind;
 use segment::{Segment, values_are_of_documents};
 use segment_view::Entry;
@@ -102,10 +108,41 @@ fn add_texts(
         put_ordinals(alloc, &terms, sorted, rows)?;
         return Ok(());
     }
-    let mut counts = no_counts(alloc, (end - first) as usize)?;
-    count_ordinals(set, &column, first, &mut counts)?;
+    let counts = term_counts(alloc, segment, field, set, &column, first, end)?;
     put_terms(alloc, &terms, first, counts.as_slice(), rows)?;
     Ok(())
+}
+
+/// How many documents of a set there have to be for each term of a field where the terms are counted by their postings.
+const DOCUMENTS_EACH: u64 = 8;
+
+/// The counts of the terms of a field in the documents of a set, by ordinal from the field's first up to its end.
+///
+/// Postings take less room than the rows of a column: they are walked over where the set has most documents of the column, and
+/// the terms are few.
+fn term_counts(
+    alloc: Global,
+    segment: &Segment,
+    field: u32,
+    set: &BitSet,
+    column: &OrdinalColumn,
+    first: u64,
+    end: u64,
+) -> Result<Vec<u64>, NoMemory>
+    requires column { column_of field segment.now.ordinals ≡ Some column.now }
+    requires ordered { first ≤ end }
+    requires within { end ≤ length (terms_of segment.now) }
+    requires range { IsRange (is_of_field field) (terms_of segment.now) first end }
+    ensures { IfOk result (λ counts. Counted first (map (λ doc. values_of doc column.now) (marked_places 0 set.now)) (replicate (end - first) 0) counts.items) }
+{
+    if has_most(set, column) && end - first < u64::from(set.count()) / DOCUMENTS_EACH {
+        let _agree = segment.docs();
+        let _ascending = segment.terms().count();
+        return Ok(posting_counts(alloc, set, &segment.postings(), first, end)?);
+    }
+    let mut counts = no_counts(alloc, (end - first) as usize)?;
+    count_ordinals(set, column, first, &mut counts)?;
+    Ok(counts)
 }
 
 /// Adds one to the count of the term of each of these ordinals.

@@ -1,37 +1,30 @@
-use Rattle.std.proofs.Common.{◌≡◌, ◌++◌, ℕ, ℤ, Bool, List, Some, None, sym, ap, subst, ◌∙◌, append_assoc}
-use Rattle.std.specs.List.{flat_map}
-use Rattle.block_bits.specs.Flags.{is_marked}
-use Rattle.block_bits.specs.Places.{next_place}
-use Rattle.block_bits.specs.Walks.{Walking}
-use Rattle.doc_values.specs.Values.{values_of}
-use Rattle.bucket_aggs.specs.Sums.{IsSummary}
-use Rattle.bucket_aggs.proofs.Documents.{gathered_end, gathered_on, left_of}
+use Rattle.std.proofs.Common.{◌≡◌, ◌+◌, ◌++◌, ◌∷◌, [], ℤ, List, length, sym, ap, subst, ◌∙◌, append_assoc, arith, rules, w64}
+use Rattle.std.proofs.lemmas.Int.{to_z-of_z}
+use mir.Val.{SFits, of_z, to_z}
+use Rattle.bucket_aggs.specs.Sums.{IsAdded}
+use Rattle.bucket_aggs.proofs.Sums.{room_less}
 use Rattle.bucket_aggs.proofs.metrics.add_each.Goals as goal
 
-pub documents-preserved : goal.documents-preserved
-documents-preserved c =
-    let flags : List Bool = c.args.set.now in
-    let from : ℕ = c.documents.walk.from in
-    let doc : ℕ = c.in-Some.doc in
-    let of : ℕ → List ℤ = λ d. values_of d c.args.column.now in
-    let total : List ℤ = flat_map of (left_of flags 0) in
-    let next : Some doc ≡ next_place is_marked from flags = sym c.in-Some.is ∙ c.next.ensures.value ∙ ap (next_place is_marked from) c.documents.invariant.0 in (
-      ap (λ (w : Walking). w.documents) c.in-Some.ensures.found ∙ c.documents.invariant.0,
-      λ zs is.
-          let was = c.documents.invariant.1 zs is in
-          let new : List ℤ = was.0 ++ c.values_near-values.result in (
-            new,
-            subst (λ (l : List ℤ). IsSummary l c.add_values.new.sums) (append_assoc zs was.0 c.values_near-values.result) (c.in_ok-add_values.ensures (zs ++ was.0) was.1),
-            ap (λ (w : Walking). new ++ flat_map of (left_of flags w.from)) c.in-Some.ensures.found
-                ∙ gathered_on of flags from doc was.0 new total next was.2 (ap (λ (l : List ℤ). was.0 ++ l) c.values_near-values.ensures.values),
-          ),
-    )
+pub add-requires : goal.add-requires
+add-requires c =
+    room_less 1 (0 + length c.values.values) c.values.sums.total (omega (arith, ap (λ (l : List ℤ). length l) c.in-Some.ensures.some))
+    (c.values.invariant.1 0 (room_less (0 + 4294967296) 4294967296 c.args.sums.now.total (omega arith) c.requires))
 
-pub returns : goal.returns
-returns c = λ zs is.
-    let flags : List Bool = c.args.set.now in
-    let from : ℕ = c.documents.walk.from in
-    let of : ℕ → List ℤ = λ d. values_of d c.args.column.now in
-    let was = c.documents.invariant.1 zs is in
-    let ended : None ≡ next_place is_marked from flags = sym c.in_default.is ∙ c.next.ensures.value ∙ ap (next_place is_marked from) c.documents.invariant.0 in
-    subst (λ (l : List ℤ). IsSummary (zs ++ l) c.documents.sums) (gathered_end of flags from was.0 (flat_map of (left_of flags 0)) ended was.2) was.1
+pub values-preserved : goal.values-preserved
+values-preserved c = (
+  λ start zs is.
+      let was = c.values.invariant.0 start zs is in
+      let z : ℤ = c.in-Some.number in
+      let fits : SFits w64 z = search rules in
+      let own : to_z w64 (of_z w64 z) ≡ z = to_z-of_z w64 z fits in
+      let added : IsAdded start ((zs ++ was.0) ++ z ∷ []) c.add.new.self =
+      subst (λ (n : ℤ). IsAdded start ((zs ++ was.0) ++ n ∷ []) c.add.new.self) own (c.add.ensures.added start (zs ++ was.0) was.1) in (
+        was.0 ++ z ∷ [],
+        subst (λ (l : List ℤ). IsAdded start l c.add.new.self) (append_assoc zs was.0 (z ∷ [])) added,
+        append_assoc was.0 (z ∷ []) c.next.new.self ∙ ap (λ (l : List ℤ). was.0 ++ l) (sym c.in-Some.ensures.some) ∙ was.2,
+      ),
+  λ count room.
+      c.add.ensures.total (count + length c.next.new.self)
+      (room_less ((count + length c.next.new.self) + 1) (count + length c.values.values) c.values.sums.total (omega (arith, ap (λ (l : List ℤ). length l) c.in-Some.ensures.some))
+      (c.values.invariant.1 count room)),
+)

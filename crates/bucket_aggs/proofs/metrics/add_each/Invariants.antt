@@ -1,15 +1,13 @@
-use Rattle.std.proofs.Common.{◌≡◌, ◌++◌, ◌-◌, ℤ, List, length}
-use Rattle.std.specs.List.{flat_map}
-use Rattle.doc_values.specs.Values.{values_of}
-use Rattle.bucket_aggs.specs.Sums.{IsSummary}
-use Rattle.bucket_aggs.proofs.Documents.{left_of}
+use Rattle.std.proofs.Common.{◌≡◌, ◌+◌, ◌^◌, ◌++◌, ℕ, ℤ, List, length}
+use Rattle.bucket_aggs.specs.Sums.{HasRoom, IsAdded}
+use Rattle.bucket_aggs.specs.declared.metrics.Running.{Running}
 use Rattle.bucket_aggs.proofs.metrics.add_each.Given as goal
 
-abbrev pub invariant-documents : goal.invariant-documents
-invariant-documents l =
-    (l.walk.documents ≡ l.set)
-    × ((zs : List ℤ) → IsSummary zs l.fn.sums
-    → (done : List ℤ) × IsSummary (zs ++ done) l.sums × (done ++ flat_map (λ doc. values_of doc l.column) (left_of l.set l.walk.from) ≡ flat_map (λ doc. values_of doc l.column) (left_of l.set 0)))
+-- of the numbers so far, of which the values are left
+abbrev pub invariant-values : goal.invariant-values
+invariant-values l =
+    ((start : Running) (zs : List ℤ) → IsAdded start zs l.fn.sums → (done : List ℤ) × IsAdded start (zs ++ done) l.sums × (done ++ l.values ≡ l.fn.values))
+    × ((count : ℕ) → HasRoom (count + 2 ^ 32) l.fn.sums.total → HasRoom (count + length l.values) l.sums.total)
 
-abbrev pub decreases-documents : goal.decreases-documents
-decreases-documents l = length l.set - l.walk.from
+abbrev pub decreases-values : goal.decreases-values
+decreases-values l = length l.values

@@ -1,4 +1,4 @@
-use Rattle.std.proofs.Common.{◌≡◌, ◌<◌, count_by, ℕ, List, None, Some, ap, sym, subst, length, ◌∙◌, arith}
+use Rattle.std.proofs.Common.{◌≡◌, ◌<◌, ◌-◌, replicate, refl, count_by, ℕ, List, None, Some, ap, sym, subst, length, ◌∙◌, arith}
 use Rattle.std.specs.List.Sorted.{IsPermutation}
 use Rattle.segment_parts.specs.Fields.{column_of}
 use Rattle.segment_parts.specs.Text.{marked_places}
@@ -23,7 +23,7 @@ returns-clause-counts c =
             arith,
             c.in_ok-put_terms.ensures.counts v,
             texts_counted c.args.segment.now c.args.field c.in-Some.column docs c.docs-documents.ensures.agree some c.terms-terms.result c.terms-terms.ensures c.count-ascending.ensures.ascending c.field_range-first.result.0 c.field_range-first.result.1 c.field_range-first.ensures.ordered
-                c.field_range-first.ensures.within c.field_range-first.ensures.of_field c.in_ok-counts.counts.items c.count_ordinals.new.counts.items c.as_slice.result.now c.in_ok-counts.ensures c.in_ok-count_ordinals.ensures c.as_slice.ensures.value v,
+                c.field_range-first.ensures.within c.field_range-first.ensures.of_field (replicate (c.field_range-first.result.1 - c.field_range-first.result.0) 0) c.in_ok-counts.counts.items c.as_slice.result.now refl c.in_ok-counts.ensures c.as_slice.ensures.value v,
             texts_shown c.args.segment.now c.args.kind c.args.field v c.in-Some.column docs c.requires c.values_are_of_documents.ensures.keywords some,
           );
     }
