@@ -18,6 +18,7 @@ use crate::asked::Asked;
 use crate::clauses::direction_of;
 use crate::hits::{hits_found, next_hit};
 use crate::numbers::key_in;
+use crate::row_guess::RowGuess;
 use block_join::{Matches, Scored};
 use doc_values::NumberColumn;
 use hit_order::{FirstKeys, pages_are_of_rows_within_reach};
@@ -156,9 +157,9 @@ fn add_candidates(
     let column = column_of(segment, clause);
     let end = found.len();
     let mut left = found.cursor();
-    let mut row = 0;
+    let mut guess = RowGuess::over(column.as_ref());
     'found: while let Some(hit) = next_hit(&mut left, place, end) {
-        let key = first_key(segment, column.as_ref(), hit, clause, &mut row, values)?;
+        let key = first_key(segment, column.as_ref(), hit, clause, &mut guess, values)?;
         offer(hit, key, keys, kept)?;
     }
     Ok(())
@@ -180,7 +181,7 @@ fn first_key(
     column: Option<&NumberColumn<'_>>,
     hit: Hit,
     clause: &NumberClause<'_>,
-    row: &mut u32,
+    guess: &mut RowGuess,
     values: &mut Vec<i64>,
 ) -> Result<Option<i64>, NoMemory>
     requires column { IsColumnOf segment.now clause.now (option_map (λ own. own.now) column) }
@@ -197,7 +198,7 @@ fn first_key(
             hit.place as usize,
             hit.doc,
             asked,
-            row,
+            guess,
             values,
         )?),
     }

@@ -5,8 +5,8 @@ use Rattle.nested_sort.specs.Inside.{chain_docs, marked_within}
 use Rattle.nested_sort.proofs.inside.+gather.Given as goal
 use Rattle.query_eval.specs.Folds.{scopes_in}
 
-abbrev pub decreases-gather : goal.decreases-gather
-decreases-gather g l = 3 * length l.chain.now
+abbrev pub decreases-gather_down : goal.decreases-gather_down
+decreases-gather_down g l = 3 * length l.chain.now
 
 abbrev pub decreases-gather_found : goal.decreases-gather_found
 decreases-gather_found g l = 3 * length l.rest.now + 2
