@@ -1,9 +1,9 @@
 -- A step down a chain.
-use Rattle.std.specs.Prelude.{◌≡◌, ◌<◌, ◌≤◌, ℕ, zero, suc, length, Bool, true, false, List, [], ◌∷◌, ◌++◌, map, get_or, take, drop, Option, Some, None, is_some, refl}
+use Rattle.std.specs.Prelude.{◌≡◌, ◌<◌, ◌≤◌, ◌-◌, ℕ, zero, suc, length, Bool, true, false, List, [], ◌∷◌, ◌++◌, map, get_or, take, drop, Option, Some, None, is_some, refl}
 use Rattle.std.specs.List.{flat_map}
 use Rattle.std.proofs.Common.{arith, ap, sym, ◌∙◌}
 use Rattle.std.proofs.lemmas.Bool.{false≢true}
-use Rattle.std.proofs.lemmas.List.{append-nil}
+use Rattle.std.proofs.lemmas.List.{append-nil, take_all}
 use Rattle.block_bits.specs.Blocks.{documents_of}
 use Rattle.query_ast.specs.Clause.{Clause}
 use Rattle.query_ast.specs.declared.sort.Chain.{Chain}
@@ -52,7 +52,17 @@ none_within start end flags none = none_marked start (drop start (take end flags
 pub nothing_added : {T : Type 0} (g : ℕ → List ℕ) (h : ℕ → List T) (values : List T) (docs : List ℕ) → docs ≡ [] → values ≡ values ++ flat_map h (flat_map g docs)
 nothing_added g h values docs none = sym (append-nil values) ∙ ap (λ ds. values ++ flat_map h (flat_map g ds)) (sym none)
 
--- ---- one step
+-- ---- the first step
+
+pub first_step : (at : ℕ) (scopes : List ℕ) (step : Chain) (chain : List Chain) (filters : List (List (List (Option ℕ)))) (n doc : ℕ) → 1 ≤ length chain → step ≡ get_or chain 0 step
+    → flat_map (chain_docs at scopes (take (length chain - 1) (drop 1 chain)) (filters_left step.filter filters) step.scope) (marked_within (start_before n doc scopes) doc (passing at scopes step.scope step.filter filters)) ≡ chain_docs at scopes chain filters n doc
+first_step at scopes step [] filters n doc some is = absurd (omega (arith, some))
+first_step at scopes step (first ∷ chain) filters n doc some is =
+    let rest : take (length (first ∷ chain) - 1) chain ≡ chain = take_all (length (first ∷ chain) - 1) chain (omega arith) in
+    ap (λ (c : List Chain). flat_map (chain_docs at scopes c (filters_left step.filter filters) step.scope) (marked_within (start_before n doc scopes) doc (passing at scopes step.scope step.filter filters))) rest
+    ∙ ap (λ (s : Chain). flat_map (chain_docs at scopes chain (filters_left s.filter filters) s.scope) (marked_within (start_before n doc scopes) doc (passing at scopes s.scope s.filter filters))) is
+
+-- ---- a single one
 
 only_docs : (at : ℕ) (scopes : List ℕ) (filters : List (List (List (Option ℕ)))) (n : ℕ) (docs : List ℕ) → flat_map (chain_docs at scopes [] filters n) docs ≡ docs
 only_docs at scopes filters n [] = refl

@@ -3,7 +3,7 @@ ghost use Rattle.std.specs.Prelude.{◌≡◌, ◌++◌, ◌<◌, ◌≤◌, ℕ
 ghost use Rattle.std.specs.List.{flat_map};
 ghost use Rattle.block_bits.specs.Blocks.{documents_of};
 ghost use Rattle.doc_values.specs.Values.{values_of};
-ghost use Rattle.nested_sort.specs.Inside.{AreAt, chain_docs, first_found, later_filters, marked_within, passing};
+ghost use Rattle.nested_sort.specs.Inside.{AreAt, chain_docs, filters_left, first_found, marked_within, passing};
 ghost use Rattle.query_eval.specs.Folds.{scopes_in};
 ghost use Rattle.view_objects.specs.Hits.{start_before};
 
@@ -26,7 +26,7 @@ pub(crate) fn gather<T: ColumnValue>(
     filters: &[Matches],
     scope: u32,
     doc: u32,
-    guess: &mut RowGuess,
+    guess: &mut RowGuess<'_>,
     values: &mut Vec<T>,
 ) -> Result<(), NoMemory>
     requires within { doc < segment.now.documents }
@@ -52,7 +52,7 @@ fn gather_step<T: ColumnValue>(
     filters: &[Matches],
     scope: u32,
     doc: u32,
-    guess: &mut RowGuess,
+    guess: &mut RowGuess<'_>,
     values: &mut Vec<T>,
 ) -> Result<(), NoMemory>
     requires within { doc < segment.now.documents }
@@ -105,6 +105,21 @@ fn first_set(place: usize, filters: &[Matches]) -> Option<&BitSet>
     }
 }
 
+/// The filters that are left behind a step.
+#[tactic(auto, using(crate::proofs::Ways::ways))]
+pub(crate) fn filters_left<'a>(step: &Chain, filters: &'a [Matches]) -> &'a [Matches]
+    ensures left { result.now ≡ filters_left step.now.filter filters.now }
+    ensures found { (place count : ℕ) → AreAt place count filters.now → AreAt place count result.now }
+{
+    if step.filter.is_none() {
+        return filters;
+    }
+    match filters {
+        [] => filters,
+        [_, later @ ..] => later,
+    }
+}
+
 /// The same down any chain.
 #[cycle(gather)]
 #[tactic(auto, using(crate::proofs::Ways::ways))]
@@ -116,7 +131,7 @@ fn gather_down<T: ColumnValue>(
     filters: &[Matches],
     scope: u32,
     doc: u32,
-    guess: &mut RowGuess,
+    guess: &mut RowGuess<'_>,
     values: &mut Vec<T>,
 ) -> Result<(), NoMemory>
     requires within { doc < segment.now.documents }
@@ -125,82 +140,22 @@ fn gather_down<T: ColumnValue>(
 {
     match chain {
         [] => Ok(add(guess.values(column, doc), values)?),
-        [step, rest @ ..] => {
-            let start = start_of(segment, scope, doc);
-            if step.filter.is_some() {
-                Ok(gather_found(
-                    column, segment, place, rest, filters, step.scope, start, doc, guess, values,
-                )?)
-            } else {
-                Ok(gather_all(
-                    column, segment, place, rest, filters, step.scope, start, doc, guess, values,
-                )?)
-            }
-        }
-    }
-}
-
-/// Those from the documents that the first filter finds in a range.
-#[cycle(gather)]
-#[tactic(auto, using(crate::proofs::Ways::ways))]
-fn gather_found<T: ColumnValue>(
-    column: &Column<'_, T>,
-    segment: &Segment,
-    place: usize,
-    rest: &[Chain],
-    filters: &[Matches],
-    scope: u32,
-    start: u32,
-    end: u32,
-    guess: &mut RowGuess,
-    values: &mut Vec<T>,
-) -> Result<(), NoMemory>
-    requires within { end < segment.now.documents }
-    requires found { AreAt place segment.now.documents filters.now }
-    ensures { OnOk result (values.new.items ≡ values.old.items ++ flat_map (λ inside. values_of inside column.now) (flat_map (chain_docs place (scopes_in segment.now) rest.now (later_filters filters.now) scope) (marked_within start end (map is_some (first_found place filters.now))))) }
-{
-    match filters {
-        [] => Ok(()),
-        [first, later @ ..] => Ok(gather_in(
-            column,
-            segment,
-            place,
-            rest,
-            later,
-            scope,
-            first.as_slice()[place].set(),
-            start,
-            end,
-            guess,
-            values,
-        )?),
-    }
-}
-
-/// Those from the documents of a scope in a range.
-#[cycle(gather)]
-#[tactic(auto, using(crate::proofs::Ways::ways))]
-fn gather_all<T: ColumnValue>(
-    column: &Column<'_, T>,
-    segment: &Segment,
-    place: usize,
-    rest: &[Chain],
-    filters: &[Matches],
-    scope: u32,
-    start: u32,
-    end: u32,
-    guess: &mut RowGuess,
-    values: &mut Vec<T>,
-) -> Result<(), NoMemory>
-    requires within { end < segment.now.documents }
-    requires found { AreAt place segment.now.documents filters.now }
-    ensures { OnOk result (values.new.items ≡ values.old.items ++ flat_map (λ inside. values_of inside column.now) (flat_map (chain_docs place (scopes_in segment.now) rest.now filters.now scope) (marked_within start end (documents_of (scopes_in segment.now) scope)))) }
-{
-    match scope_documents(segment, scope) {
-        None => Ok(()),
-        Some(documents) => Ok(gather_in(
-            column, segment, place, rest, filters, scope, documents, start, end, guess, values,
-        )?),
+        [step, rest @ ..] => match passing_set(segment, place, step, filters) {
+            None => Ok(()),
+            Some(passing) => Ok(gather_in(
+                column,
+                segment,
+                place,
+                rest,
+                filters_left(step, filters),
+                step.scope,
+                passing,
+                start_of(segment, scope, doc),
+                doc,
+                guess,
+                values,
+            )?),
+        },
     }
 }
 
@@ -217,7 +172,7 @@ fn gather_in<T: ColumnValue>(
     passing: &BitSet,
     start: u32,
     end: u32,
-    guess: &mut RowGuess,
+    guess: &mut RowGuess<'_>,
     values: &mut Vec<T>,
 ) -> Result<(), NoMemory>
     requires within { end < segment.now.documents }
@@ -241,7 +196,7 @@ fn gather_last<T: ColumnValue>(
     passing: &BitSet,
     start: u32,
     end: u32,
-    guess: &mut RowGuess,
+    guess: &mut RowGuess<'_>,
     values: &mut Vec<T>,
 ) -> Result<(), NoMemory>
     requires { end ≤ length passing.now }

@@ -60,7 +60,7 @@ fn key_of(
     entries: &[Entry],
     hit: Hit,
     asked: &Asked<'_>,
-    guess: &mut RowGuess,
+    guess: &mut RowGuess<'_>,
     values: &mut Vec<i64>,
 ) -> Result<Option<i64>, NoMemory>
     requires doc { IsDocOf entries.now hit.place hit.doc }
@@ -89,7 +89,7 @@ pub(crate) fn key_in(
     place: usize,
     doc: u32,
     asked: &Asked<'_>,
-    guess: &mut RowGuess,
+    guess: &mut RowGuess<'_>,
     values: &mut Vec<i64>,
 ) -> Result<Option<i64>, NoMemory>
     requires column { option_map (λ own. own.now) column ≡ column_of asked.now.field segment.now.numbers }
@@ -112,7 +112,7 @@ fn own_number(
     column: Option<&NumberColumn<'_>>,
     doc: u32,
     asked: &Asked<'_>,
-    guess: &mut RowGuess,
+    guess: &mut RowGuess<'_>,
 ) -> Option<i64>
     requires column { option_map (λ own. own.now) column ≡ column_of asked.now.field segment.now.numbers }
     requires within { doc < segment.now.documents }
@@ -141,7 +141,7 @@ fn gather_numbers(
     place: usize,
     doc: u32,
     asked: &Asked<'_>,
-    guess: &mut RowGuess,
+    guess: &mut RowGuess<'_>,
     values: &mut Vec<i64>,
 ) -> Result<(), NoMemory>
     requires column { option_map (λ own. own.now) column ≡ column_of asked.now.field segment.now.numbers }

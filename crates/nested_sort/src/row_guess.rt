@@ -3,15 +3,20 @@ ghost use Rattle.std.specs.Prelude.{◌≡◌, ◌+◌, ◌≤◌, length};
 ghost use Rattle.std.specs.List.Sorted.{IsSorted};
 ghost use Rattle.doc_values.specs.Values.{values_of};
 
+use block_bits::BitSet;
 use doc_values::{Column, ColumnValue, Values};
 
 /// How many rows around a guessed one are looked at together.
 const WINDOW: u32 = 8;
 
-/// Where the row of a document is likely to stand, for documents that mostly ascend: as far behind the last one's as if rows
-/// lay evenly among the documents.
+/// Where the row of a document is likely to stand, for documents that mostly ascend.
+///
+/// Where each document of a scope has a row, the row is the rank of the document in that scope. Else it is as far behind the
+/// last one's as if rows lay evenly among the documents.
 #[derive(Drop)]
-pub(crate) struct RowGuess {
+pub(crate) struct RowGuess<'a> {
+    /// The ranks of the documents that have rows, where these are known.
+    ranks: Option<Ranks<'a>>,
     /// The row behind the last that was found.
     row: u32,
     /// The document behind the last that was looked for.
@@ -20,43 +25,49 @@ pub(crate) struct RowGuess {
     density: u64,
 }
 
-impl RowGuess {
+impl<'a> RowGuess<'a> {
     /// Rows are guessed to follow one another.
-    pub(crate) fn first() -> RowGuess {
+    pub(crate) fn first() -> RowGuess<'a> {
         RowGuess {
+            ranks: None,
             row: 0,
             doc: 0,
             density: 0,
         }
     }
 
-    /// Rows are guessed to lie as those of a column do.
-    pub(crate) fn over<T: ColumnValue>(column: Option<&Column<'_, T>>) -> RowGuess {
-        let Some(column) = column else {
-            return RowGuess::first();
-        };
+    /// Rows are guessed to lie as those of a column do, whose documents are of a scope.
+    pub(crate) fn over<T: ColumnValue>(
+        column: &Column<'_, T>,
+        documents: Option<&'a BitSet>,
+    ) -> RowGuess<'a> {
         let rows = column.rows();
         if rows == 0 {
             return RowGuess::first();
         }
         let doc = column.doc(0);
-        let documents = column.doc(rows - 1).saturating_sub(doc) as u64 + 1;
+        let spanned = column.doc(rows - 1).saturating_sub(doc) as u64 + 1;
         RowGuess {
+            ranks: Ranks::of_all(documents, rows),
             row: 0,
             doc,
-            density: (rows as u64 * (1 << 16)) / documents,
+            density: (rows as u64 * (1 << 16)) / spanned,
         }
     }
 
     /// The values of a document.
-    pub(crate) fn values<'a, T: ColumnValue>(
+    pub(crate) fn values<'b, T: ColumnValue>(
         &mut self,
-        column: &Column<'a, T>,
+        column: &Column<'b, T>,
         doc: u32,
-    ) -> Values<'a, T>
+    ) -> Values<'b, T>
         ensures values { result ≡ values_of doc column.now }
         ensures ascending { IsSorted T.cmp result }
     {
+        if let Some(ranks) = &mut self.ranks {
+            let mut row = ranks.before(doc);
+            return column.values_near(doc, &mut row);
+        }
         if !is_at(column, doc, self.row) {
             self.row = self.row_near(column, doc);
         }
@@ -104,4 +115,49 @@ fn rows_before<T: ColumnValue>(column: &Column<'_, T>, doc: u32, first: u32) -> 
         before = before.wrapping_add((column.doc(first + at) < doc) as u32);
     }
     before
+}
+
+/// How many documents of a set come before a document, for documents that mostly ascend.
+#[derive(Drop)]
+struct Ranks<'a> {
+    words: &'a [u64],
+    /// The u64 that was come to.
+    place: usize,
+    /// How many documents of the set those before it have.
+    passed: u32,
+}
+
+impl<'a> Ranks<'a> {
+    /// The ranks in a set, where it is of so many documents.
+    fn of_all(documents: Option<&'a BitSet>, count: u32) -> Option<Ranks<'a>> {
+        let documents = documents?;
+        if documents.count() != count {
+            return None;
+        }
+        Some(Ranks {
+            words: documents.words(),
+            place: 0,
+            passed: 0,
+        })
+    }
+
+    /// How many documents come before one.
+    fn before(&mut self, doc: u32) -> u32 {
+        let to = (doc / 64) as usize;
+        if to < self.place {
+            self.place = 0;
+            self.passed = 0;
+        }
+        'words: while self.place < to && self.place < self.words.len() {
+            self.passed = self
+                .passed
+                .wrapping_add(self.words[self.place].count_ones());
+            self.place += 1;
+        }
+        let own = match self.words.get(to) {
+            Some(word) => *word & !(u64::MAX << (doc % 64)),
+            None => 0,
+        };
+        self.passed.wrapping_add(own.count_ones())
+    }
 }

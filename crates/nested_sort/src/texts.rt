@@ -51,7 +51,7 @@ fn push_key(
     entries: &[Entry],
     hit: Hit,
     asked: &Asked<'_>,
-    guess: &mut RowGuess,
+    guess: &mut RowGuess<'_>,
     ordinals: &mut Vec<u64>,
     keys: &mut TextKeys,
 ) -> Result<(), NoMemory>
@@ -72,7 +72,7 @@ fn push_key_in(
     place: usize,
     doc: u32,
     asked: &Asked<'_>,
-    guess: &mut RowGuess,
+    guess: &mut RowGuess<'_>,
     ordinals: &mut Vec<u64>,
     keys: &mut TextKeys,
 ) -> Result<(), NoMemory>
@@ -126,7 +126,7 @@ fn gather_ordinals(
     place: usize,
     doc: u32,
     asked: &Asked<'_>,
-    guess: &mut RowGuess,
+    guess: &mut RowGuess<'_>,
     ordinals: &mut Vec<u64>,
 ) -> Result<(), NoMemory>
     requires within { doc < segment.now.documents }
