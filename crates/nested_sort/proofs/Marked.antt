@@ -52,4 +52,14 @@ added_more f g start end at flags had now all next was is =
 pub added_none : {T : Type 0} (f : ℕ → List T) (g : ℕ → List ℕ) (start end : ℕ) (flags : List Bool) (had all : List T) → next_place is_marked start (take end flags) ≡ None → had ++ flat_map f (flat_map g (marked_within start end flags)) ≡ all → had ≡ all
 added_none f g start end flags had all next was = sym (append-nil had) ∙ ap (λ docs. had ++ flat_map f (flat_map g docs)) (sym (within_none start end flags next)) ∙ was
 
+-- ---- values of the documents themselves
+
+pub values_more : {T : Type 0} (f : ℕ → List T) (start end at : ℕ) (flags : List Bool) (had now all : List T) → next_place is_marked start (take end flags) ≡ Some at → had ++ flat_map f (marked_within start end flags) ≡ all → now ≡ had ++ f at → now ++ flat_map f (marked_within (at + 1) end flags) ≡ all
+values_more f start end at flags had now all next was is =
+    let rest = flat_map f (marked_within (at + 1) end flags) in
+    ap (λ values. values ++ rest) is ∙ (append_assoc had (f at) rest ∙ (ap (λ docs. had ++ flat_map f docs) (sym (within_more start end at flags next)) ∙ was))
+
+pub values_none : {T : Type 0} (f : ℕ → List T) (start end : ℕ) (flags : List Bool) (had all : List T) → next_place is_marked start (take end flags) ≡ None → had ++ flat_map f (marked_within start end flags) ≡ all → had ≡ all
+values_none f start end flags had all next was = sym (append-nil had) ∙ ap (λ docs. had ++ flat_map f docs) (sym (within_none start end flags next)) ∙ was
+
 pub ruleset marked = (added_more, within_none)

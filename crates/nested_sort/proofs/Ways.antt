@@ -1,12 +1,14 @@
 -- A step down a chain.
-use Rattle.std.specs.Prelude.{◌≡◌, ℕ, zero, suc, Bool, true, false, List, [], ◌∷◌, ◌++◌, map, get_or, take, drop, Option, Some, None, is_some, refl}
+use Rattle.std.specs.Prelude.{◌≡◌, ◌<◌, ◌≤◌, ◌-◌, ℕ, zero, suc, length, Bool, true, false, List, [], ◌∷◌, ◌++◌, map, get_or, take, drop, Option, Some, None, is_some, refl}
 use Rattle.std.specs.List.{flat_map}
-use Rattle.std.proofs.Common.{ap, sym, ◌∙◌}
+use Rattle.std.proofs.Common.{arith, ap, sym, ◌∙◌}
 use Rattle.std.proofs.lemmas.Bool.{false≢true}
-use Rattle.std.proofs.lemmas.List.{append-nil}
+use Rattle.std.proofs.lemmas.List.{append-nil, take_all}
 use Rattle.block_bits.specs.Blocks.{documents_of}
 use Rattle.query_ast.specs.Clause.{Clause}
-use Rattle.nested_sort.specs.Inside.{filters_left, first_found, later_filters, marked_from, marked_within, passing}
+use Rattle.query_ast.specs.declared.sort.Chain.{Chain}
+use Rattle.view_objects.specs.Hits.{start_before}
+use Rattle.nested_sort.specs.Inside.{chain_docs, filters_left, first_found, later_filters, marked_from, marked_within, passing}
 
 -- with a filter, and without one
 pub passing_found : (at : ℕ) (scopes : List ℕ) (n : ℕ) (filter : Option Clause) (filters : List (List (List (Option ℕ)))) → is_some filter ≡ true → passing at scopes n filter filters ≡ map is_some (first_found at filters)
@@ -49,5 +51,34 @@ none_within start end flags none = none_marked start (drop start (take end flags
 -- values are added for no document
 pub nothing_added : {T : Type 0} (g : ℕ → List ℕ) (h : ℕ → List T) (values : List T) (docs : List ℕ) → docs ≡ [] → values ≡ values ++ flat_map h (flat_map g docs)
 nothing_added g h values docs none = sym (append-nil values) ∙ ap (λ ds. values ++ flat_map h (flat_map g ds)) (sym none)
+
+-- ---- the first step
+
+pub first_step : (at : ℕ) (scopes : List ℕ) (step : Chain) (chain : List Chain) (filters : List (List (List (Option ℕ)))) (n doc : ℕ) → 1 ≤ length chain → step ≡ get_or chain 0 step
+    → flat_map (chain_docs at scopes (take (length chain - 1) (drop 1 chain)) (filters_left step.filter filters) step.scope) (marked_within (start_before n doc scopes) doc (passing at scopes step.scope step.filter filters)) ≡ chain_docs at scopes chain filters n doc
+first_step at scopes step [] filters n doc some is = absurd (omega (arith, some))
+first_step at scopes step (first ∷ chain) filters n doc some is =
+    let rest : take (length (first ∷ chain) - 1) chain ≡ chain = take_all (length (first ∷ chain) - 1) chain (omega arith) in
+    ap (λ (c : List Chain). flat_map (chain_docs at scopes c (filters_left step.filter filters) step.scope) (marked_within (start_before n doc scopes) doc (passing at scopes step.scope step.filter filters))) rest
+    ∙ ap (λ (s : Chain). flat_map (chain_docs at scopes chain (filters_left s.filter filters) s.scope) (marked_within (start_before n doc scopes) doc (passing at scopes s.scope s.filter filters))) is
+
+-- ---- a single one
+
+only_docs : (at : ℕ) (scopes : List ℕ) (filters : List (List (List (Option ℕ)))) (n : ℕ) (docs : List ℕ) → flat_map (chain_docs at scopes [] filters n) docs ≡ docs
+only_docs at scopes filters n [] = refl
+only_docs at scopes filters n (d ∷ docs) = ap (λ ds. d ∷ ds) (only_docs at scopes filters n docs)
+
+pub single : (chain : List Chain) (step : Chain) → 1 ≤ length chain → length chain < 2 → step ≡ get_or chain 0 step → chain ≡ step ∷ []
+single [] step some few is = absurd (omega (arith, some))
+single (first ∷ []) step some few is = ap (λ (s : Chain). s ∷ []) (sym is)
+single (first ∷ second ∷ chain) step some few is = absurd (omega (arith, few))
+
+pub one_step : (at : ℕ) (scopes : List ℕ) (step : Chain) (chain : List Chain) (filters : List (List (List (Option ℕ)))) (n doc : ℕ) → chain ≡ step ∷ []
+    → marked_within (start_before n doc scopes) doc (passing at scopes step.scope step.filter filters) ≡ chain_docs at scopes chain filters n doc
+one_step at scopes step chain filters n doc is =
+    sym (ap (λ c. chain_docs at scopes c filters n doc) is ∙ only_docs at scopes (filters_left step.filter filters) step.scope (marked_within (start_before n doc scopes) doc (passing at scopes step.scope step.filter filters)))
+
+pub nothing_found : {T : Type 0} (h : ℕ → List T) (values : List T) (docs : List ℕ) → docs ≡ [] → values ≡ values ++ flat_map h docs
+nothing_found h values docs none = sym (append-nil values) ∙ ap (λ ds. values ++ flat_map h ds) (sym none)
 
 pub ruleset ways = (passing_found, left_found, passing_all, left_all)

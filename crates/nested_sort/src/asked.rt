@@ -15,3 +15,13 @@ pub(crate) struct Asked<'a> {
     pub(crate) scope: u32,
     pub(crate) missing: &'a Missing,
 }
+
+impl Asked<'_> {
+    /// The scope of the documents whose values are asked for.
+    pub(crate) fn inner_scope(&self) -> u32 {
+        match self.chain.last() {
+            Some(step) => step.scope,
+            None => self.scope,
+        }
+    }
+}

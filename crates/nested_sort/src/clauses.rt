@@ -4,7 +4,7 @@ ghost use Rattle.std.specs.List.{All};
 ghost use Rattle.hit_order.specs.Table.{directions_of, keys_of};
 ghost use Rattle.mapping_body.specs.declared.kind.Kind.{Kind};
 ghost use Rattle.nested_sort.specs.Documents.{AllLong, IsGivenAs, all_keys, behind_key, clause_keys, key_of_hit, question_of};
-ghost use Rattle.nested_sort.specs.Inside.{behind_chain, later_filters};
+ghost use Rattle.nested_sort.specs.Inside.{behind_chain};
 ghost use Rattle.nested_sort.specs.Listed.{AreDocs, IsCapped};
 ghost use Rattle.query_ast.specs.Page.{direction_of};
 ghost use Rattle.query_ast.specs.Resolved.{AreSorts, IsModeOf, IsSortKey};
@@ -12,6 +12,7 @@ ghost use Rattle.flattener.specs.Flat.{is_keyword};
 
 use crate::NoMemory;
 use crate::asked::Asked;
+use crate::inside::filters_left;
 use crate::numbers::{number_keys, score_keys};
 use crate::texts::text_keys;
 use block_join::Matches;
@@ -64,21 +65,9 @@ fn behind_chain<'a>(chain: &[Chain], filters: &'a [Matches]) -> &'a [Matches]
 {
     let mut rest = filters;
     'steps: for step in chain {
-        if step.filter.is_some() {
-            rest = later(rest);
-        }
+        rest = filters_left(step, rest);
     }
     rest
-}
-
-/// The filters behind the first.
-fn later(filters: &[Matches]) -> &[Matches]
-    ensures { result.now ≡ later_filters filters.now }
-{
-    match filters {
-        [] => filters,
-        [_, later @ ..] => later,
-    }
 }
 
 /// The keys of a clause.

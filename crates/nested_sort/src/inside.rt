@@ -1,13 +1,14 @@
 //! The documents inside a document, down a chain of scopes.
-ghost use Rattle.std.specs.Prelude.{◌≡◌, ◌++◌, ◌<◌, ℕ, false, get_or, is_some, length, map, IfSome, IfNone, OnOk};
+ghost use Rattle.std.specs.Prelude.{◌≡◌, ◌++◌, ◌<◌, ◌≤◌, ℕ, false, get_or, is_some, length, map, IfSome, IfNone, OnOk};
 ghost use Rattle.std.specs.List.{flat_map};
 ghost use Rattle.block_bits.specs.Blocks.{documents_of};
 ghost use Rattle.doc_values.specs.Values.{values_of};
-ghost use Rattle.nested_sort.specs.Inside.{AreAt, chain_docs, first_found, later_filters, marked_within};
+ghost use Rattle.nested_sort.specs.Inside.{AreAt, chain_docs, filters_left, first_found, marked_within, passing};
 ghost use Rattle.query_eval.specs.Folds.{scopes_in};
 ghost use Rattle.view_objects.specs.Hits.{start_before};
 
 use crate::NoMemory;
+use crate::row_guess::RowGuess;
 use block_bits::BitSet;
 use block_join::Matches;
 use doc_values::{Column, ColumnValue, Values};
@@ -16,10 +17,7 @@ use segment::{Segment, scopes_are_of_documents};
 
 /// Adds the values of the documents that a chain leads to, from a document of a scope in the entry at a place.
 ///
-/// `filters` holds what the filters of the chain find, from the outermost in. Values are looked for from row `row` of the column
-/// on, which is where those before were found.
-#[cycle(gather)]
-#[tactic(auto, using(crate::proofs::Ways::ways))]
+/// `filters` holds what the filters of the chain find, from the outermost in. Values are looked for where `guess` says.
 pub(crate) fn gather<T: ColumnValue>(
     column: &Column<'_, T>,
     segment: &Segment,
@@ -28,7 +26,7 @@ pub(crate) fn gather<T: ColumnValue>(
     filters: &[Matches],
     scope: u32,
     doc: u32,
-    row: &mut u32,
+    guess: &mut RowGuess<'_>,
     values: &mut Vec<T>,
 ) -> Result<(), NoMemory>
     requires within { doc < segment.now.documents }
@@ -36,83 +34,128 @@ pub(crate) fn gather<T: ColumnValue>(
     ensures { OnOk result (values.new.items ≡ values.old.items ++ flat_map (λ inside. values_of inside column.now) (chain_docs place (scopes_in segment.now) chain.now filters.now scope doc)) }
 {
     match chain {
-        [] => Ok(add(column.values_near(doc, row), values)?),
-        [step, rest @ ..] => {
-            let start = start_of(segment, scope, doc);
-            if step.filter.is_some() {
-                Ok(gather_found(
-                    column, segment, place, rest, filters, step.scope, start, doc, row, values,
-                )?)
-            } else {
-                Ok(gather_all(
-                    column, segment, place, rest, filters, step.scope, start, doc, row, values,
-                )?)
-            }
-        }
+        [step] => Ok(gather_step(
+            column, segment, place, step, filters, scope, doc, guess, values,
+        )?),
+        _ => Ok(gather_down(
+            column, segment, place, chain, filters, scope, doc, guess, values,
+        )?),
     }
 }
 
-/// Those from the documents that the first filter finds in a range.
-#[cycle(gather)]
-#[tactic(auto, using(crate::proofs::Ways::ways))]
-fn gather_found<T: ColumnValue>(
+/// Those that one step leads to.
+fn gather_step<T: ColumnValue>(
     column: &Column<'_, T>,
     segment: &Segment,
     place: usize,
-    rest: &[Chain],
+    step: &Chain,
     filters: &[Matches],
     scope: u32,
-    start: u32,
-    end: u32,
-    row: &mut u32,
+    doc: u32,
+    guess: &mut RowGuess<'_>,
     values: &mut Vec<T>,
 ) -> Result<(), NoMemory>
-    requires within { end < segment.now.documents }
+    requires within { doc < segment.now.documents }
     requires found { AreAt place segment.now.documents filters.now }
-    ensures { OnOk result (values.new.items ≡ values.old.items ++ flat_map (λ inside. values_of inside column.now) (flat_map (chain_docs place (scopes_in segment.now) rest.now (later_filters filters.now) scope) (marked_within start end (map is_some (first_found place filters.now))))) }
+    ensures { OnOk result (values.new.items ≡ values.old.items ++ flat_map (λ inside. values_of inside column.now) (marked_within (start_before scope doc (scopes_in segment.now)) doc (passing place (scopes_in segment.now) step.now.scope step.now.filter filters.now))) }
 {
-    match filters {
-        [] => Ok(()),
-        [first, later @ ..] => Ok(gather_in(
+    match passing_set(segment, place, step, filters) {
+        None => Ok(()),
+        Some(passing) => Ok(gather_last(
             column,
-            segment,
-            place,
-            rest,
-            later,
-            scope,
-            first.as_slice()[place].set(),
-            start,
-            end,
-            row,
+            passing,
+            start_of(segment, scope, doc),
+            doc,
+            guess,
             values,
         )?),
     }
 }
 
-/// Those from the documents of a scope in a range.
+/// The documents that a step may lead to; None where there are none.
+#[tactic(auto, using(crate::proofs::Ways::ways))]
+fn passing_set<'a>(
+    segment: &'a Segment,
+    place: usize,
+    step: &Chain,
+    filters: &'a [Matches],
+) -> Option<&'a BitSet>
+    requires found { AreAt place segment.now.documents filters.now }
+    ensures some { IfSome result (λ set. set.now ≡ passing place (scopes_in segment.now) step.now.scope step.now.filter filters.now) }
+    ensures long { IfSome result (λ set. length set.now ≡ segment.now.documents) }
+    ensures none { IfNone result ((doc : ℕ) → get_or (passing place (scopes_in segment.now) step.now.scope step.now.filter filters.now) doc false ≡ false) }
+{
+    if step.filter.is_some() {
+        first_set(place, filters)
+    } else {
+        scope_documents(segment, step.scope)
+    }
+}
+
+/// What the first filter finds in the entry at a place.
+fn first_set(place: usize, filters: &[Matches]) -> Option<&BitSet>
+    requires { (count : ℕ) × AreAt place count filters.now }
+    ensures some { IfSome result (λ set. set.now ≡ map is_some (first_found place filters.now)) }
+    ensures long { (count : ℕ) → AreAt place count filters.now → IfSome result (λ set. length set.now ≡ count) }
+    ensures none { IfNone result ((doc : ℕ) → get_or (map is_some (first_found place filters.now)) doc false ≡ false) }
+{
+    match filters {
+        [] => None,
+        [first, ..] => Some(first.as_slice()[place].set()),
+    }
+}
+
+/// The filters that are left behind a step.
+#[tactic(auto, using(crate::proofs::Ways::ways))]
+pub(crate) fn filters_left<'a>(step: &Chain, filters: &'a [Matches]) -> &'a [Matches]
+    ensures left { result.now ≡ filters_left step.now.filter filters.now }
+    ensures found { (place count : ℕ) → AreAt place count filters.now → AreAt place count result.now }
+{
+    if step.filter.is_none() {
+        return filters;
+    }
+    match filters {
+        [] => filters,
+        [_, later @ ..] => later,
+    }
+}
+
+/// The same down any chain.
 #[cycle(gather)]
 #[tactic(auto, using(crate::proofs::Ways::ways))]
-fn gather_all<T: ColumnValue>(
+fn gather_down<T: ColumnValue>(
     column: &Column<'_, T>,
     segment: &Segment,
     place: usize,
-    rest: &[Chain],
+    chain: &[Chain],
     filters: &[Matches],
     scope: u32,
-    start: u32,
-    end: u32,
-    row: &mut u32,
+    doc: u32,
+    guess: &mut RowGuess<'_>,
     values: &mut Vec<T>,
 ) -> Result<(), NoMemory>
-    requires within { end < segment.now.documents }
+    requires within { doc < segment.now.documents }
     requires found { AreAt place segment.now.documents filters.now }
-    ensures { OnOk result (values.new.items ≡ values.old.items ++ flat_map (λ inside. values_of inside column.now) (flat_map (chain_docs place (scopes_in segment.now) rest.now filters.now scope) (marked_within start end (documents_of (scopes_in segment.now) scope)))) }
+    ensures { OnOk result (values.new.items ≡ values.old.items ++ flat_map (λ inside. values_of inside column.now) (chain_docs place (scopes_in segment.now) chain.now filters.now scope doc)) }
 {
-    match scope_documents(segment, scope) {
-        None => Ok(()),
-        Some(documents) => Ok(gather_in(
-            column, segment, place, rest, filters, scope, documents, start, end, row, values,
-        )?),
+    match chain {
+        [] => Ok(add(guess.values(column, doc), values)?),
+        [step, rest @ ..] => match passing_set(segment, place, step, filters) {
+            None => Ok(()),
+            Some(passing) => Ok(gather_in(
+                column,
+                segment,
+                place,
+                rest,
+                filters_left(step, filters),
+                step.scope,
+                passing,
+                start_of(segment, scope, doc),
+                doc,
+                guess,
+                values,
+            )?),
+        },
     }
 }
 
@@ -129,7 +172,7 @@ fn gather_in<T: ColumnValue>(
     passing: &BitSet,
     start: u32,
     end: u32,
-    row: &mut u32,
+    guess: &mut RowGuess<'_>,
     values: &mut Vec<T>,
 ) -> Result<(), NoMemory>
     requires within { end < segment.now.documents }
@@ -139,9 +182,29 @@ fn gather_in<T: ColumnValue>(
 {
     let mut from = start;
     'inside: while let Some(doc) = passing.next_set_before(from, end) {
-        gather(
-            column, segment, place, rest, filters, scope, doc, row, values,
+        gather_down(
+            column, segment, place, rest, filters, scope, doc, guess, values,
         )?;
+        from = doc + 1;
+    }
+    Ok(())
+}
+
+/// Those of the documents of a set in a range.
+fn gather_last<T: ColumnValue>(
+    column: &Column<'_, T>,
+    passing: &BitSet,
+    start: u32,
+    end: u32,
+    guess: &mut RowGuess<'_>,
+    values: &mut Vec<T>,
+) -> Result<(), NoMemory>
+    requires { end ≤ length passing.now }
+    ensures { OnOk result (values.new.items ≡ values.old.items ++ flat_map (λ inside. values_of inside column.now) (marked_within start end passing.now)) }
+{
+    let mut from = start;
+    'inside: while let Some(doc) = passing.next_set_before(from, end) {
+        add(guess.values(column, doc), values)?;
         from = doc + 1;
     }
     Ok(())

@@ -14,6 +14,7 @@ mod modes;
 mod no_memory;
 mod numbers;
 mod reached;
+mod row_guess;
 mod rows;
 mod texts;
 

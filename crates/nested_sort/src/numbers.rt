@@ -12,6 +12,7 @@ use crate::NoMemory;
 use crate::asked::Asked;
 use crate::inside::gather;
 use crate::modes::{is_of_one, number_of};
+use crate::row_guess::RowGuess;
 use doc_values::NumberColumn;
 use hit_order::NumberKeys;
 use query_ast::Missing;
@@ -46,10 +47,10 @@ pub(crate) fn number_keys(
     ensures { IfOk result (λ keys. map number_or_null keys ≡ map (key_of_hit false entries.now (question_of asked.now)) hits.now) }
 {
     let mut keys = NumberKeys::empty(alloc);
-    let mut row = 0;
+    let mut guess = RowGuess::first();
     let mut values = Vec::new(alloc);
     'hits: for hit in hits {
-        keys.push(key_of(entries, *hit, asked, &mut row, &mut values)?)?;
+        keys.push(key_of(entries, *hit, asked, &mut guess, &mut values)?)?;
     }
     Ok(keys)
 }
@@ -59,7 +60,7 @@ fn key_of(
     entries: &[Entry],
     hit: Hit,
     asked: &Asked<'_>,
-    row: &mut u32,
+    guess: &mut RowGuess<'_>,
     values: &mut Vec<i64>,
 ) -> Result<Option<i64>, NoMemory>
     requires doc { IsDocOf entries.now hit.place hit.doc }
@@ -70,18 +71,25 @@ fn key_of(
     let place = hit.place as usize;
     let segment = entries[place].segment();
     let column = segment.numbers(asked.field);
-    Ok(key_in(segment, column.as_ref(), place, hit.doc, asked, row, values)?)
+    Ok(key_in(
+        segment,
+        column.as_ref(),
+        place,
+        hit.doc,
+        asked,
+        guess,
+        values,
+    )?)
 }
 
-/// The number of a document of the entry at a place, from the column of the field. It is looked for from row `row` on, which is
-/// where those before were found.
+/// The number of a document of the entry at a place, from the column of the field. It is looked for where `guess` says.
 pub(crate) fn key_in(
     segment: &Segment,
     column: Option<&NumberColumn<'_>>,
     place: usize,
     doc: u32,
     asked: &Asked<'_>,
-    row: &mut u32,
+    guess: &mut RowGuess<'_>,
     values: &mut Vec<i64>,
 ) -> Result<Option<i64>, NoMemory>
     requires column { option_map (λ own. own.now) column ≡ column_of asked.now.field segment.now.numbers }
@@ -90,11 +98,11 @@ pub(crate) fn key_in(
     requires given { IsGivenAs false asked.now.missing.now }
     ensures { IfOk result (λ key. number_or_null key ≡ key_in false segment.now place (question_of asked.now) doc) }
 {
-    let own = own_number(segment, column, doc, asked, row);
+    let own = own_number(segment, column, doc, asked, guess);
     if own.is_some() {
         return Ok(own);
     }
-    gather_numbers(segment, column, place, doc, asked, row, values)?;
+    gather_numbers(segment, column, place, doc, asked, guess, values)?;
     Ok(number_or(number_of(asked.mode, values)?, asked.missing))
 }
 
@@ -104,7 +112,7 @@ fn own_number(
     column: Option<&NumberColumn<'_>>,
     doc: u32,
     asked: &Asked<'_>,
-    row: &mut u32,
+    guess: &mut RowGuess<'_>,
 ) -> Option<i64>
     requires column { option_map (λ own. own.now) column ≡ column_of asked.now.field segment.now.numbers }
     requires within { doc < segment.now.documents }
@@ -117,7 +125,7 @@ fn own_number(
     if !asked.chain.is_empty() || !is_of_one(asked.mode) {
         return None;
     }
-    let mut values = column.values_near(doc, row);
+    let mut values = guess.values(column, doc);
     let first = values.next()?;
     match values.next() {
         None => Some(first),
@@ -133,7 +141,7 @@ fn gather_numbers(
     place: usize,
     doc: u32,
     asked: &Asked<'_>,
-    row: &mut u32,
+    guess: &mut RowGuess<'_>,
     values: &mut Vec<i64>,
 ) -> Result<(), NoMemory>
     requires column { option_map (λ own. own.now) column ≡ column_of asked.now.field segment.now.numbers }
@@ -152,7 +160,7 @@ fn gather_numbers(
             asked.filters,
             asked.scope,
             doc,
-            row,
+            guess,
             values,
         )?),
         None => Ok(()),

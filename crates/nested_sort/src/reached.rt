@@ -17,7 +17,9 @@ use crate::NoMemory;
 use crate::asked::Asked;
 use crate::clauses::direction_of;
 use crate::hits::{hits_found, next_hit};
+use crate::inside::scope_documents;
 use crate::numbers::key_in;
+use crate::row_guess::RowGuess;
 use block_join::{Matches, Scored};
 use doc_values::NumberColumn;
 use hit_order::{FirstKeys, pages_are_of_rows_within_reach};
@@ -156,9 +158,9 @@ fn add_candidates(
     let column = column_of(segment, clause);
     let end = found.len();
     let mut left = found.cursor();
-    let mut row = 0;
+    let mut guess = guess_of(segment, column.as_ref(), clause);
     'found: while let Some(hit) = next_hit(&mut left, place, end) {
-        let key = first_key(segment, column.as_ref(), hit, clause, &mut row, values)?;
+        let key = first_key(segment, column.as_ref(), hit, clause, &mut guess, values)?;
         offer(hit, key, keys, kept)?;
     }
     Ok(())
@@ -174,13 +176,27 @@ fn column_of<'a>(segment: &'a Segment, clause: &NumberClause<'_>) -> Option<Numb
     }
 }
 
+/// Where the rows of those numbers are likely to stand.
+fn guess_of<'a>(
+    segment: &'a Segment,
+    column: Option<&NumberColumn<'_>>,
+    clause: &NumberClause<'_>,
+) -> RowGuess<'a> {
+    match (clause, column) {
+        (NumberClause::Field(asked), Some(column)) => {
+            RowGuess::over(column, scope_documents(segment, asked.inner_scope()))
+        }
+        _ => RowGuess::first(),
+    }
+}
+
 /// The key of a hit of a segment for a clause.
 fn first_key(
     segment: &Segment,
     column: Option<&NumberColumn<'_>>,
     hit: Hit,
     clause: &NumberClause<'_>,
-    row: &mut u32,
+    guess: &mut RowGuess<'_>,
     values: &mut Vec<i64>,
 ) -> Result<Option<i64>, NoMemory>
     requires column { IsColumnOf segment.now clause.now (option_map (λ own. own.now) column) }
@@ -197,7 +213,7 @@ fn first_key(
             hit.place as usize,
             hit.doc,
             asked,
-            row,
+            guess,
             values,
         )?),
     }

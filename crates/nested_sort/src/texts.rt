@@ -14,6 +14,7 @@ use crate::NoMemory;
 use crate::asked::Asked;
 use crate::inside::gather;
 use crate::modes::ordinal_of;
+use crate::row_guess::RowGuess;
 use hit_order::TextKeys;
 use query_ast::Missing;
 use segment::{Segment, values_are_of_documents};
@@ -37,10 +38,10 @@ pub(crate) fn text_keys(
     ensures { IfOk result (λ keys. map text_or_null keys ≡ map (key_of_hit true entries.now (question_of asked.now)) hits.now) }
 {
     let mut keys = TextKeys::empty(alloc);
-    let mut row = 0;
+    let mut guess = RowGuess::first();
     let mut ordinals = Vec::new(alloc);
     'hits: for hit in hits {
-        push_key(entries, *hit, asked, &mut row, &mut ordinals, &mut keys)?;
+        push_key(entries, *hit, asked, &mut guess, &mut ordinals, &mut keys)?;
     }
     Ok(keys)
 }
@@ -50,7 +51,7 @@ fn push_key(
     entries: &[Entry],
     hit: Hit,
     asked: &Asked<'_>,
-    row: &mut u32,
+    guess: &mut RowGuess<'_>,
     ordinals: &mut Vec<u64>,
     keys: &mut TextKeys,
 ) -> Result<(), NoMemory>
@@ -62,7 +63,7 @@ fn push_key(
 {
     let place = hit.place as usize;
     let segment = entries[place].segment();
-    Ok(push_key_in(segment, place, hit.doc, asked, row, ordinals, keys)?)
+    Ok(push_key_in(segment, place, hit.doc, asked, guess, ordinals, keys)?)
 }
 
 /// Adds the text of a document of the entry at a place.
@@ -71,7 +72,7 @@ fn push_key_in(
     place: usize,
     doc: u32,
     asked: &Asked<'_>,
-    row: &mut u32,
+    guess: &mut RowGuess<'_>,
     ordinals: &mut Vec<u64>,
     keys: &mut TextKeys,
 ) -> Result<(), NoMemory>
@@ -83,7 +84,7 @@ fn push_key_in(
 {
     values_are_of_documents(segment);
     let _documents = segment.docs();
-    gather_ordinals(segment, place, doc, asked, row, ordinals)?;
+    gather_ordinals(segment, place, doc, asked, guess, ordinals)?;
     let terms = segment.terms();
     let found = ordinals.as_slice();
     let ordinal = term_ordinal(&terms, asked, found);
@@ -125,7 +126,7 @@ fn gather_ordinals(
     place: usize,
     doc: u32,
     asked: &Asked<'_>,
-    row: &mut u32,
+    guess: &mut RowGuess<'_>,
     ordinals: &mut Vec<u64>,
 ) -> Result<(), NoMemory>
     requires within { doc < segment.now.documents }
@@ -142,7 +143,7 @@ fn gather_ordinals(
             asked.filters,
             asked.scope,
             doc,
-            row,
+            guess,
             ordinals,
         )?),
         None => Ok(()),

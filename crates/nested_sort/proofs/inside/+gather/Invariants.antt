@@ -5,17 +5,11 @@ use Rattle.nested_sort.specs.Inside.{chain_docs, marked_within}
 use Rattle.nested_sort.proofs.inside.+gather.Given as goal
 use Rattle.query_eval.specs.Folds.{scopes_in}
 
-abbrev pub decreases-gather : goal.decreases-gather
-decreases-gather g l = 3 * length l.chain.now
-
-abbrev pub decreases-gather_found : goal.decreases-gather_found
-decreases-gather_found g l = 3 * length l.rest.now + 2
-
-abbrev pub decreases-gather_all : goal.decreases-gather_all
-decreases-gather_all g l = 3 * length l.rest.now + 2
+abbrev pub decreases-gather_down : goal.decreases-gather_down
+decreases-gather_down g l = 2 * length l.chain.now
 
 abbrev pub decreases-gather_in : goal.decreases-gather_in
-decreases-gather_in g l = 3 * length l.rest.now + 1
+decreases-gather_in g l = 2 * length l.rest.now + 1
 
 abbrev pub invariant-gather_in-inside : goal.invariant-gather_in-inside
 invariant-gather_in-inside g l =
