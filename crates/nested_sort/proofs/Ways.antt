@@ -49,18 +49,30 @@ pub none_within : (start end : ℕ) (flags : List Bool) → ((k : ℕ) → get_o
 none_within start end flags none = none_marked start (drop start (take end flags)) (none_dropped start (take end flags) (none_taken end flags none))
 
 -- values are added for no document
-pub nothing_added : {T : Type 0} (g : ℕ → List ℕ) (h : ℕ → List T) (values : List T) (docs : List ℕ) → docs ≡ [] → values ≡ values ++ flat_map h (flat_map g docs)
-nothing_added g h values docs none = sym (append-nil values) ∙ ap (λ ds. values ++ flat_map h (flat_map g ds)) (sym none)
+pub nothing_found : {T : Type 0} (h : ℕ → List T) (values : List T) (docs : List ℕ) → docs ≡ [] → values ≡ values ++ flat_map h docs
+nothing_found h values docs none = sym (append-nil values) ∙ ap (λ ds. values ++ flat_map h ds) (sym none)
 
 -- ---- the first step
 
-pub first_step : (at : ℕ) (scopes : List ℕ) (step : Chain) (chain : List Chain) (filters : List (List (List (Option ℕ)))) (n doc : ℕ) → 1 ≤ length chain → step ≡ get_or chain 0 step
+first_step : (at : ℕ) (scopes : List ℕ) (step : Chain) (chain : List Chain) (filters : List (List (List (Option ℕ)))) (n doc : ℕ) → 1 ≤ length chain → step ≡ get_or chain 0 step
     → flat_map (chain_docs at scopes (take (length chain - 1) (drop 1 chain)) (filters_left step.filter filters) step.scope) (marked_within (start_before n doc scopes) doc (passing at scopes step.scope step.filter filters)) ≡ chain_docs at scopes chain filters n doc
 first_step at scopes step [] filters n doc some is = absurd (omega (arith, some))
 first_step at scopes step (first ∷ chain) filters n doc some is =
     let rest : take (length (first ∷ chain) - 1) chain ≡ chain = take_all (length (first ∷ chain) - 1) chain (omega arith) in
     ap (λ (c : List Chain). flat_map (chain_docs at scopes c (filters_left step.filter filters) step.scope) (marked_within (start_before n doc scopes) doc (passing at scopes step.scope step.filter filters))) rest
     ∙ ap (λ (s : Chain). flat_map (chain_docs at scopes chain (filters_left s.filter filters) s.scope) (marked_within (start_before n doc scopes) doc (passing at scopes s.scope s.filter filters))) is
+
+pub first_taken : (at : ℕ) (scopes : List ℕ) (step : Chain) (chain : List Chain) (filters left : List (List (List (Option ℕ)))) (n doc start : ℕ) (flags : List Bool) → 1 ≤ length chain → step ≡ get_or chain 0 step
+    → start ≡ start_before n doc scopes → left ≡ filters_left step.filter filters → flags ≡ passing at scopes step.scope step.filter filters
+    → flat_map (chain_docs at scopes (take (length chain - 1) (drop 1 chain)) left step.scope) (marked_within start doc flags) ≡ chain_docs at scopes chain filters n doc
+first_taken at scopes step chain filters left n doc start flags some is begins goes passes = rw (begins, goes, passes) (first_step at scopes step chain filters n doc some is)
+
+pub first_none : {T : Type 0} (h : ℕ → List T) (values : List T) (at : ℕ) (scopes : List ℕ) (step : Chain) (chain : List Chain) (filters : List (List (List (Option ℕ)))) (n doc : ℕ) → 1 ≤ length chain → step ≡ get_or chain 0 step
+    → ((k : ℕ) → get_or (passing at scopes step.scope step.filter filters) k false ≡ false) → values ≡ values ++ flat_map h (chain_docs at scopes chain filters n doc)
+first_none h values at scopes step chain filters n doc some is none =
+    nothing_found h values (chain_docs at scopes chain filters n doc)
+    (sym (first_step at scopes step chain filters n doc some is)
+    ∙ ap (flat_map (chain_docs at scopes (take (length chain - 1) (drop 1 chain)) (filters_left step.filter filters) step.scope)) (none_within (start_before n doc scopes) doc (passing at scopes step.scope step.filter filters) none))
 
 -- ---- a single one
 
@@ -77,8 +89,5 @@ pub one_step : (at : ℕ) (scopes : List ℕ) (step : Chain) (chain : List Chain
     → marked_within (start_before n doc scopes) doc (passing at scopes step.scope step.filter filters) ≡ chain_docs at scopes chain filters n doc
 one_step at scopes step chain filters n doc is =
     sym (ap (λ c. chain_docs at scopes c filters n doc) is ∙ only_docs at scopes (filters_left step.filter filters) step.scope (marked_within (start_before n doc scopes) doc (passing at scopes step.scope step.filter filters)))
-
-pub nothing_found : {T : Type 0} (h : ℕ → List T) (values : List T) (docs : List ℕ) → docs ≡ [] → values ≡ values ++ flat_map h docs
-nothing_found h values docs none = sym (append-nil values) ∙ ap (λ ds. values ++ flat_map h ds) (sym none)
 
 pub ruleset ways = (passing_found, left_found, passing_all, left_all)

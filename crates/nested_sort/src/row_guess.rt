@@ -7,7 +7,7 @@ use block_bits::BitSet;
 use doc_values::{Column, ColumnValue, Values};
 
 /// How many rows around a guessed one are looked at together.
-const WINDOW: u32 = 8;
+const WINDOW: u32 = 16;
 
 /// Where the row of a document is likely to stand, for documents that mostly ascend.
 ///
@@ -86,7 +86,7 @@ impl<'a> RowGuess<'a> {
         if before > 0 || is_at(column, doc, first) {
             first.saturating_add(before)
         } else {
-            first.saturating_sub(8 * WINDOW)
+            first.saturating_sub(4 * WINDOW)
         }
     }
 
