@@ -7,7 +7,7 @@ ghost use Rattle.query_ast.specs.Clause.View.{clause_of};
 ghost use Rattle.query_ast.specs.Definition.{Definition, definition, definitions_of};
 ghost use Rattle.query_ast.specs.Inner.{Inner};
 ghost use Rattle.query_ast.specs.Inner.View.{inner_of as seen};
-ghost use Rattle.search_walk.specs.Names.{buckets_in as buckets_value, scope_inside};
+ghost use Rattle.search_walk.specs.Names.{buckets_in as buckets_value, scope_inside, text_under as text_value};
 ghost use Rattle.search_walk.specs.Refusal.{name_or, inner_count};
 ghost use Rattle.search_form.specs.Form.{form_at};
 ghost use Rattle.search_form.specs.declared.form.Form.TheVariants.{Buckets};
@@ -53,12 +53,13 @@ fn parents_if(relation: Option<u32>) -> InnerOver
     }
 }
 
-fn name_or<'a>(default: &'a [u8], inner: &'a JsonObject) -> &'a [u8]
-    ensures { result.now ≡ name_or default.now (member_of (members_of inner.now) (codes "name")) }
+// The name that inner hits give, or that which stands under a name of their clause.
+fn name_or<'a>(default: &[u8], clause: &'a JsonObject, inner: &'a JsonObject) -> &'a [u8]
+    ensures { result.now ≡ name_or (text_value (members_of clause.now) default.now) (member_of (members_of inner.now) (codes "name")) }
 {
     match member(inner, b"name") {
         Some(name) => text_of(name),
-        None => default,
+        None => text_under(clause, default),
     }
 }
 
@@ -80,7 +81,8 @@ fn query_of(
     }
 }
 
-// A definition with those that it owns: the scope of its hits, what they are looked for in, and its name by default.
+// A definition with those that it owns: the scope of its hits, what they are looked for in, and where its name by default
+// stands in its clause.
 fn defined(
     alloc: Global,
     mapping: &Mapping,
@@ -94,10 +96,10 @@ fn defined(
     owned: Vec<InnerDef>,
 ) -> Result<InnerDef, NoMemory>
     requires { IfSome shared (λ q. q.now ≡ clause_under mapping.now inside (codes "query") (members_of clause.now)) }
-    ensures { IfOk result (λ def. seen def ≡ definition (inner_of mapping.now inside over default.now (members_of clause.now) (members_of inner.now)) (definitions_of (map seen owned.items))) }
+    ensures { IfOk result (λ def. seen def ≡ definition (inner_of mapping.now inside over (text_value (members_of clause.now) default.now) (members_of clause.now) (members_of inner.now)) (definitions_of (map seen owned.items))) }
 {
     Ok(InnerDef {
-        name: copied(alloc, name_or(default, inner))?,
+        name: copied(alloc, name_or(default, clause, inner))?,
         over,
         query: query_of(alloc, mapping, known, inside, clause, shared)?,
         from: number_under(100, 0, inner, b"from"),
@@ -122,7 +124,7 @@ fn held_by(
     found: &mut Vec<InnerDef>,
 ) -> Result<(), NoMemory>
     requires { IfSome shared (λ q. q.now ≡ clause_under mapping.now inside (codes "query") (members_of clause.now)) }
-    ensures { OnOk result (map seen found.new.items ≡ map seen found.old.items ++ held_by mapping.now inside over default.now (members_of clause.now) (member_of (members_of clause.now) (codes "inner_hits")) (map seen owned.items)) }
+    ensures { OnOk result (map seen found.new.items ≡ map seen found.old.items ++ held_by mapping.now inside over (text_value (members_of clause.now) default.now) (members_of clause.now) (member_of (members_of clause.now) (codes "inner_hits")) (map seen owned.items)) }
 {
     match member(clause, b"inner_hits") {
         Some(Json::Object(inner)) => {
@@ -154,22 +156,20 @@ fn owned_by(
 {
     match form {
         Form::Nested => {
-            let path = text_under(object, b"path");
             let over = below_if(inside);
             Ok(held_by(
-                alloc, mapping, known, inside, over, path, object, shared, owned, found,
+                alloc, mapping, known, inside, over, b"path", object, shared, owned, found,
             )?)
         }
         Form::HasChild => {
             let over = children_if(child_in(mapping, scope, object));
-            let name = text_under(object, b"type");
             Ok(held_by(
-                alloc, mapping, known, inside, over, name, object, shared, owned, found,
+                alloc, mapping, known, inside, over, b"type", object, shared, owned, found,
             )?)
         }
         Form::HasParent => {
             let over = parents_if(parent_in(mapping, scope, object));
-            let name = text_under(object, b"parent_type");
+            let name = b"parent_type";
             Ok(held_by(
                 alloc, mapping, known, inside, over, name, object, shared, owned, found,
             )?)

@@ -7,7 +7,9 @@ ghost use Rattle.search_form.specs.Form.{line_among, line_at, form_at, has, has_
 
 use crate::form::{Form, Line, Presence};
 use crate::single::{is_between, is_whole};
-use crate::table::{Pair, apart_in, is_choice_of_one, lines_of, other_of, query_line};
+use crate::table::{
+    Pair, apart_in, inner_hits_line, is_choice_of_one, lines_of, nested_line, other_of, query_line,
+};
 use tree_json::{Json, JsonList, JsonObject};
 
 /// The most clauses of a sort.
@@ -26,11 +28,15 @@ pub(crate) fn line_at(form: Form, name: &[u8]) -> (Presence, Form)
 {
     match form {
         Form::Query => query_line(name),
+        Form::Nested => nested_line(name),
+        Form::InnerHits => inner_hits_line(name),
+        Form::Term => other_of(form, name),
         _ => line_of(form, name),
     }
 }
 
 // The same from the tables.
+#[inline(never)]
 fn line_of(form: Form, name: &[u8]) -> (Presence, Form)
     ensures { result ≡ line_at form name.now }
 {

@@ -1,6 +1,6 @@
 //! The tables of forms: the names of objects, the elements of lists, and what may stand alone.
 ghost use Rattle.std.specs.Prelude.{◌≡◌, if◌then◌else◌, map, option_map};
-ghost use Rattle.search_form.specs.declared.form.Form.TheVariants.{Query, Bucket, Unknown};
+ghost use Rattle.search_form.specs.declared.form.Form.TheVariants.{Query, Nested, InnerHits, Bucket, Unknown};
 ghost use Rattle.search_form.specs.Form.{line_at};
 ghost use Rattle.search_form.specs.Table.{lines_of, other_of, is_choice_of_one, apart_in, element_of, single_of, is_name};
 
@@ -76,6 +76,42 @@ pub(crate) fn query_line(name: &[u8]) -> (Presence, Form)
         (Presence::Choice, Form::ParentId)
     } else {
         other_of(Form::Query, name)
+    }
+}
+
+/// The same of `nested`.
+pub(crate) fn nested_line(name: &[u8]) -> (Presence, Form)
+    ensures { result ≡ line_at Nested name.now }
+{
+    if name == b"path".as_slice() {
+        (Presence::Required, Form::Text)
+    } else if name == b"query".as_slice() {
+        (Presence::Required, Form::Query)
+    } else if name == b"score_mode".as_slice() {
+        (Presence::Optional, Form::ScoreMode)
+    } else if name == b"ignore_unmapped".as_slice() {
+        (Presence::Optional, Form::Flag)
+    } else if name == b"inner_hits".as_slice() {
+        (Presence::Optional, Form::InnerHits)
+    } else {
+        other_of(Form::Nested, name)
+    }
+}
+
+/// The same of inner hits.
+pub(crate) fn inner_hits_line(name: &[u8]) -> (Presence, Form)
+    ensures { result ≡ line_at InnerHits name.now }
+{
+    if name == b"name".as_slice() {
+        (Presence::Optional, Form::Name)
+    } else if name == b"from".as_slice() || name == b"size".as_slice() {
+        (Presence::Optional, Form::Whole)
+    } else if name == b"sort".as_slice() {
+        (Presence::Optional, Form::Sort)
+    } else if name == b"_source".as_slice() {
+        (Presence::Optional, Form::Flag)
+    } else {
+        other_of(Form::InnerHits, name)
     }
 }
 

@@ -86,7 +86,9 @@ impl KnownNames {
                 Some(_) => self.nested_scope(mapping, text_under(object, b"path")),
                 None => None,
             },
-            _ => scope_inside(mapping, scope, form, object),
+            Form::ToChild | Form::HasChild | Form::HasParent | Form::SortNested | Form::Bucket =>
+                scope_inside(mapping, scope, form, object),
+            _ => scope,
         }
     }
 }
