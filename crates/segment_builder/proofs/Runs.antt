@@ -94,7 +94,7 @@ module _ {K P : Type 0} (cmp : K → K → Ordering) (o : IsTotalOrder cmp) wher
   same_run one other [] same = refl
   same_run one other (entry ∷ entries) same = rw ((eq_by_cmp_equiv o).congr one other entry.0 same, same_run one other entries same) refl
 
-  pub run_ahead : (first : K × P) (behind : List (K × P))
+  run_ahead : (first : K × P) (behind : List (K × P))
       → runs cmp (first ∷ behind) ≡ (first.0, first.1 ∷ members (take (run_length cmp first.0 behind) behind)) ∷ runs cmp (drop (run_length cmp first.0 behind) behind)
   run_ahead first [] = refl
   run_ahead first (entry ∷ entries) =
