@@ -6,6 +6,9 @@ ghost use Rattle.doc_values.specs.Values.{values_of};
 use block_bits::BitSet;
 use doc_values::{Column, ColumnValue, Values};
 
+/// Fewer rows than so many are not leapt over: the row is found in steps.
+const CLOSE: u64 = 3;
+
 /// How many rows around a guessed one are looked at together.
 const WINDOW: u32 = 16;
 
@@ -78,10 +81,14 @@ impl<'a> RowGuess<'a> {
     /// The row of a document, if it stands where it is guessed or close by; else one before it, most often.
     fn row_near<T: ColumnValue>(&self, column: &Column<'_, T>, doc: u32) -> u32 {
         let rows = column.rows();
-        if rows < WINDOW {
+        let between = self.between(doc);
+        if rows < WINDOW || between < CLOSE {
             return self.row;
         }
-        let first = self.guessed(doc).min((rows - WINDOW) as u64) as u32;
+        let guess = between.saturating_add(self.row as u64);
+        let first = guess
+            .saturating_sub(WINDOW as u64 / 2)
+            .min((rows - WINDOW) as u64) as u32;
         let before = rows_before(column, doc, first);
         if before > 0 || is_at(column, doc, first) {
             first.saturating_add(before)
@@ -90,13 +97,10 @@ impl<'a> RowGuess<'a> {
         }
     }
 
-    /// The first row of the window in which the document's is guessed to be.
-    fn guessed(&self, doc: u32) -> u64 {
+    /// How many rows are guessed to lie between the last that was found and a document's.
+    fn between(&self, doc: u32) -> u64 {
         let passed = doc.saturating_sub(self.doc) as u64;
-        let between = passed.wrapping_mul(self.density).wrapping_add(1 << 15) >> 16;
-        between
-            .saturating_add(self.row as u64)
-            .saturating_sub(WINDOW as u64 / 2)
+        passed.wrapping_mul(self.density).wrapping_add(1 << 15) >> 16
     }
 }
 
