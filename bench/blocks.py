@@ -1,19 +1,22 @@
 #!/usr/bin/env python3
-"""How long blocks take beside reading the same lines as JSON, in processor time.
+"""How long blocks and segments take beside reading the same lines as JSON.
 
 It puts a program into a copy of `crates`, which `rt` (on the path) proves and builds, and runs it over made sources:
 products with up to three offers, each of up to two stocks. A round reads each line (`read`), reads it and looks for
-faults (`faults`), or reads it and makes its block (`block`). The three go by turns, five times, and the best of each counts.
+faults (`faults`), or reads it and makes its block (`block`). The three go by turns, five times, and the best of each counts, in
+processor time. Then the built program is given the same sources, 256 at a time, and each `refresh` behind them, which makes a segment of
+their blocks, is timed from outside (`segment`); the best of three loads counts. Run `./run --prove examples/shop.ndjson` once before.
 
-    python3 bench/blocks.py [TREES [WORK]]      # 100,000 trees; the copy is made in the folder WORK
+    python3 bench/blocks.py [TREES [WORK [PROGRAM]]]      # 100,000 trees; the copy is made in the folder WORK
 """
 import os
 import shutil
 import subprocess
 import sys
 import tempfile
+import time
 
-from made import Draws, product
+from made import MAPPING, Draws, product
 
 PROGRAM = r'''//! Reads the lines of the standard input as often as the first line says, in the way that it says.
 #![tactic(auto)]
@@ -188,6 +191,32 @@ def built(work):
     return os.path.join(folder, "out", NAME)
 
 
+def seals(program, count):
+    """The milliseconds that the program takes for the segments of so many sources."""
+    with tempfile.TemporaryDirectory() as folder:
+        words = [program, "serve", os.path.join(folder, "store")]
+        session = subprocess.Popen(words, stdin=subprocess.PIPE, stdout=subprocess.PIPE)
+
+        def ask(lines, replies):
+            session.stdin.write(lines.encode())
+            session.stdin.flush()
+            return [session.stdout.readline() for _ in range(replies)]
+
+        ask(MAPPING + "\n", 1)
+        spent, batch = 0.0, []
+        for number, source in enumerate(sources(count)):
+            batch.append('{"index":{"_id":"%d"}}\n%s' % (number, source))
+            if len(batch) == 256:
+                ask("".join(batch), 256)
+                start = time.perf_counter()
+                ask('{"refresh":{}}\n', 1)
+                spent += time.perf_counter() - start
+                batch = []
+        session.stdin.close()
+        session.wait()
+    return spent * 1000
+
+
 def main():
     trees = int(sys.argv[1]) if len(sys.argv) > 1 else 100_000
     work = sys.argv[2] if len(sys.argv) > 2 else tempfile.mkdtemp()
@@ -205,6 +234,9 @@ def main():
     read = best["read"][0]
     for name, (spent, total) in best.items():
         print("%-7s %8.1f ms  %5.2f times reading  %d" % (name, spent / 1000, spent / read, total))
+    own = sys.argv[3] if len(sys.argv) > 3 else os.path.join(HERE, "crates/nestsearch/out/nestsearch")
+    segment = min(seals(own, trees) for _ in range(3))
+    print("segment %8.1f ms  %5.2f times reading" % (segment, segment * 1000 / read))
 
 
 main()
