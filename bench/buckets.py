@@ -3,7 +3,7 @@
 
 The trees are those of the made input, each written once. When they are loaded, each search is sent and its reply awaited, so many times, and the
 least time counts; that of a search for nothing but the number of trees is taken away. Then all segments are merged to one, and the same is
-measured again. The objects that a search looks at are
+measured again, and once more in a session that merges neighbours by itself. The objects that a search looks at are
 those of its own count: all offers for the bucket of `nested`. On a machine that does other work the figures are high. Run
 `./run --prove examples/shop.ndjson` once before: it builds the program.
 
@@ -45,27 +45,39 @@ def least(program, line):
     return min(times)
 
 
+def loaded(path, work, count, first):
+    """A session with so many trees, of which the lines `first` come first."""
+    program = subprocess.Popen([path, "serve", os.path.join(work, "store")], stdin=subprocess.PIPE, stdout=subprocess.PIPE)
+    draws = Draws(7)
+    for line in [MAPPING, *first]:
+        ask(program, line)
+    for number in range(count):
+        ask(program, '{"index":{"_id":"%d"}}\n%s' % (number, product(number, draws)))
+    return program
+
+
+def measure(program, state):
+    segments = len(json.loads(ask(program, '{"segments":{}}'))["segments"])
+    base = least(program, ALL)
+    print(f"{state}, in {segments} segments: a search for the number of trees takes {base / 1e6:.2f} ms")
+    for name, line in SEARCHES.items():
+        offers = json.loads(ask(program, line))["aggregations"]["offers"]["doc_count"]
+        spent = least(program, line) - base
+        print(f"  {name}: {spent / 1e6:.2f} ms over {offers:,} offers, {spent / offers:.1f} ns an offer")
+
+
 def main():
     count = int(sys.argv[1]) if len(sys.argv) > 1 else 100_000
     path = sys.argv[2] if len(sys.argv) > 2 else os.path.join(TOP, "crates/nestsearch/out/nestsearch")
     with tempfile.TemporaryDirectory() as work:
-        program = subprocess.Popen([path, "serve", os.path.join(work, "store")], stdin=subprocess.PIPE, stdout=subprocess.PIPE)
-        draws = Draws(7)
-        ask(program, MAPPING)
-        for number in range(count):
-            ask(program, '{"index":{"_id":"%d"}}\n%s' % (number, product(number, draws)))
-        trees = json.loads(ask(program, ALL))["hits"]["total"]
-        print(f"{trees:,} live trees")
-        for state in ("as they were written", "merged to one"):
-            if state == "merged to one":
-                ask(program, '{"forcemerge":{}}')
-            segments = len(json.loads(ask(program, '{"segments":{}}'))["segments"])
-            base = least(program, ALL)
-            print(f"{state}, in {segments} segments: a search for the number of trees takes {base / 1e6:.2f} ms")
-            for name, line in SEARCHES.items():
-                offers = json.loads(ask(program, line))["aggregations"]["offers"]["doc_count"]
-                spent = least(program, line) - base
-                print(f"  {name}: {spent / 1e6:.2f} ms over {offers:,} offers, {spent / offers:.1f} ns an offer")
+        program = loaded(path, work, count, [])
+        measure(program, "as they were written")
+        ask(program, '{"forcemerge":{}}')
+        measure(program, "merged to one")
+        program.stdin.close()
+        program.wait()
+        program = loaded(path, work, count, ['{"automerge":{"on":true}}'])
+        measure(program, "with automerge")
         program.stdin.close()
         program.wait()
 
