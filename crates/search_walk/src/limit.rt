@@ -16,7 +16,6 @@ use crate::refusal::SearchRefusal;
 use mapping::{Mapping, NoMemory};
 use search_form::{ChosenName, Form, chosen};
 use std::alloc::Global;
-use std::collections::HashSet;
 use tree_json::{Json, JsonObject};
 
 /// The largest `from` and `size` together, of a search and of inner hits.
@@ -74,19 +73,15 @@ pub(crate) fn inner_name_at<'a>(form: Form, value: &'a Json) -> Option<&'a [u8]>
     }
 }
 
-// Whether some name comes twice.
+// Whether some name comes twice: of the names in order, one of each is kept.
 fn has_twice(alloc: Global, names: &[&[u8]]) -> Result<bool, NoMemory>
     ensures { IfOk result (λ twice. twice ≡ has_twice (map (λ n. n.now) names.now)) }
 {
-    let mut met = HashSet::with_capacity(alloc, names.len())?;
-    'names: for name in names {
-        match met.insert(*name) {
-            Ok(true) => {}
-            Ok(false) => return Ok(true),
-            Err(_) => return Err(NoMemory),
-        }
-    }
-    Ok(false)
+    let mut kept = Vec::with_capacity(alloc, names.len())?;
+    kept.extend_from_slice(names)?;
+    kept.sort_unstable();
+    kept.dedup();
+    Ok(kept.as_slice().len() < names.len())
 }
 
 // ---- windows
