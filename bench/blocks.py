@@ -2,10 +2,10 @@
 """How long blocks and segments take beside reading the same lines as JSON.
 
 It puts a program into a copy of `crates`, which `rt` (on the path) proves and builds, and runs it over made sources:
-products with up to three offers, each of up to two stocks. A round reads each line (`read`), reads it and looks for
-faults (`faults`), or reads it and makes its block (`block`). The three go by turns, five times, and the best of each counts, in
-processor time. Then the built program is given the same sources, 256 at a time, and each `refresh` behind them, which makes a segment of
-their blocks, is timed from outside (`segment`); the best of three loads counts. Run `./run --prove examples/shop.ndjson` once before.
+products with up to three offers, each of up to two stocks. A round reads each line (`read`), has the kit's `serde_json` read it
+(`serde`), reads it and looks for faults (`faults`), or reads it and makes its block (`block`). The four go by turns, five times,
+and the best of each counts, in processor time. Then the built program is given the same sources, 256 at a time, and each `refresh`
+behind them, which makes a segment of their blocks, is timed from outside (`segment`); the best of three loads counts. Run `./run --prove examples/shop.ndjson` once before.
 
     python3 bench/blocks.py [TREES [WORK [PROGRAM]]]      # 100,000 trees; the copy is made in the folder WORK
 """
@@ -18,11 +18,12 @@ import time
 
 from made import MAPPING, Draws, product
 
-PROGRAM = r'''//! Reads the lines of the standard input as often as the first line says, in the way that it says.
+PROGRAM = r'''//! Times what is done with each line of the standard input.
 #![tactic(auto)]
 
 use flattener::block;
 use mapping::Mapping;
+use serde_json::Value;
 use std::alloc::{AllocError, AllocFailed, Global};
 use std::io;
 use std::io::Read;
@@ -63,6 +64,7 @@ impl From<io::Error> for Fault {
 #[derive(Clone, Copy)]
 enum Work {
     Read,
+    Serde,
     Faults,
     Block,
 }
@@ -87,10 +89,20 @@ fn documents(alloc: Global, mapping: &Mapping, source: &Json) -> u64 {
     }
 }
 
+fn serde(alloc: Global, line: &[u8]) -> u64 {
+    match Value::from_slice(alloc, line) {
+        Ok(_) => 1,
+        Err(_) => 0,
+    }
+}
+
 fn done(alloc: Global, work: Work, mapping: &Mapping, reader: &mut JsonReader, line: &[u8]) -> u64 {
+    if let Work::Serde = work {
+        return serde(alloc, line);
+    }
     match reader.read(alloc, line) {
         Ok(source) => match work {
-            Work::Read => 1,
+            Work::Read | Work::Serde => 1,
             Work::Faults => faults(alloc, mapping, &source),
             Work::Block => documents(alloc, mapping, &source),
         },
@@ -152,6 +164,9 @@ fn main(rt: HostRuntime) -> Result<(), Fault> {
         let sum = round(rt.alloc(), Work::Read, &mapping, text.as_slice());
         report(&rt, "read", from, sum)?;
         let from = spent(&rt)?;
+        let sum = round(rt.alloc(), Work::Serde, &mapping, text.as_slice());
+        report(&rt, "serde", from, sum)?;
+        let from = spent(&rt)?;
         let sum = round(rt.alloc(), Work::Faults, &mapping, text.as_slice());
         report(&rt, "faults", from, sum)?;
         let from = spent(&rt)?;
@@ -164,7 +179,7 @@ fn main(rt: HostRuntime) -> Result<(), Fault> {
 NAME = "block_times"
 BELOW = (
     "flattener layout block_bits segment segment_parts stored_sources tree_objects mapping_growth mapping_body"
-    " mapping tree_json analysis itoa"
+    " mapping tree_json analysis itoa json serde_json"
 )
 HERE = os.path.dirname(os.path.dirname(os.path.abspath(__file__)))
 
