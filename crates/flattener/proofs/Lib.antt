@@ -18,3 +18,4 @@ pub mod FitsFurther
 pub mod Smallness
 pub mod Weights
 pub mod Lightness
+pub mod Unshown

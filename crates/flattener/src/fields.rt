@@ -15,7 +15,7 @@ ghost use Rattle.flattener.specs.Walked.{flat_at, kept, valued};
 
 use crate::document::{Document, KeywordField, NumberField};
 use crate::refusal::NoMemory;
-use crate::shown::find_shown;
+use crate::shown::{find_shown, is_shown};
 use crate::texts::{has_text, push_words_of_field, tokens};
 use crate::values::{keywords, numbers};
 use mapping::{Kind, Mapping};
@@ -46,7 +46,7 @@ pub(crate) fn document<'a>(
     };
     let mut field = 0;
     'fields: while field < count {
-        add_field(
+        add_if_shown(
             alloc,
             mapping,
             generation,
@@ -59,6 +59,30 @@ pub(crate) fn document<'a>(
         field += 1;
     }
     Ok(document)
+}
+
+/// Adds a field to a document, if the object's scope shows it: most fields of a mapping are another scope's.
+fn add_if_shown<'a>(
+    alloc: Global,
+    mapping: &Mapping,
+    generation: u32,
+    scope: u32,
+    content: &'a Json,
+    field: u32,
+    found: &mut Vec<&'a Json>,
+    into: &mut Document,
+) -> Result<(), NoMemory>
+    requires field { field < length mapping.now.fields }
+    requires scope { scope < length mapping.now.scopes }
+    requires light { length (compact (view content.now)) ≤ most_source }
+    ensures { OnOk result (Adds mapping.now generation scope (view content.now) field (document_seen into.old) (document_seen into.new)) }
+{
+    if !is_shown(mapping, field, scope) {
+        return Ok(());
+    }
+    add_field(
+        alloc, mapping, generation, scope, content, field, found, into,
+    )
 }
 
 /// Adds what a field shows to a document.

@@ -1,9 +1,9 @@
 //! The items of a field that an object shows.
-ghost use Rattle.std.specs.Prelude.{◌≡◌, ◌++◌, ◌<◌, ◌==◌, length, map, filter, option_map, nat_le, reverse, IfOk, OnOk};
+ghost use Rattle.std.specs.Prelude.{◌≡◌, ◌++◌, ◌<◌, ◌==◌, ◌||◌, length, map, filter, option_map, nat_le, reverse, IfOk, OnOk};
 ghost use Rattle.std.specs.List.{All, flat_map, list_all};
 ghost use Rattle.tree_json.specs.Value.{is_object};
 ghost use Rattle.tree_json.specs.View.{view};
-ghost use Rattle.mapping.specs.Mapping.{outer, home_of, scope_at};
+ghost use Rattle.mapping.specs.Mapping.{outer, home_of, included, scope_at};
 ghost use Rattle.tree_objects.specs.Object.{items, way};
 ghost use Rattle.flattener.specs.Walked.{names_left, children_at, along, own_items, shown_items};
 
@@ -13,6 +13,15 @@ use crate::refusal::NoMemory;
 use mapping::Mapping;
 use std::alloc::Global;
 use tree_json::Json;
+
+/// Whether the objects of a scope show a field: at its home, or where a nested path includes it.
+pub(crate) fn is_shown(mapping: &Mapping, field: u32, scope: u32) -> bool
+    requires field { field < length mapping.now.fields }
+    requires scope { scope < length mapping.now.scopes }
+    ensures { result ≡ ((home_of mapping.now field == scope) || included mapping.now field scope) }
+{
+    mapping.home(field) == scope || mapping.included(field, scope)
+}
 
 /// Finds the items of a field that an object of a scope shows, in document order, in place of what was found before.
 pub(crate) fn find_shown<'a>(

@@ -90,7 +90,17 @@ impl Segment {
     {
         words_are_of_one_set();
         let bytes = segment_bytes(alloc, &columns)?;
-        let parts = Parts::read(alloc, bytes)?.unwrap();
+        Segment::of_text(alloc, Bytes::of(bytes))
+    }
+
+    /// The segment that bytes are known to be, as those are that a builder or a merge writes. It keeps them like `of_bytes`, and
+    /// reads them to find where the parts stand: that the columns agree isn't tested.
+    pub fn of_text(alloc: Global, bytes: Bytes) -> Result<Segment, crate::NoMemory>
+        requires { (columns : Columns) × IsEncoding columns bytes }
+        ensures { IfOk result (λ segment. IsEncoding segment bytes) }
+    {
+        words_are_of_one_set();
+        let parts = Parts::read(alloc, bytes.into_vec())?.unwrap();
         Segment::over(alloc, parts)
     }
 

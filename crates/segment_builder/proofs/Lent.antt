@@ -19,7 +19,7 @@ use Rattle.segment_builder.proofs.Among.{seen_at}
 use Rattle.segment_builder.proofs.Orders.{term_order}
 use Rattle.segment_builder.proofs.Runs.{first_run, runs_are}
 
-lent_order : IsTotalOrder lent_cmp
+pub lent_order : IsTotalOrder lent_cmp
 lent_order = on_total (λ (term : ℕ × Bor (List ℕ)). (term.0, term.1.now)) term_order.total
 
 pub numbers_grouped : {A : Type 0} (entries : List (ℕ × (ℕ × Bor (List ℤ)))) (groups : List (ℕ × Vec (ℕ × Bor (List ℤ)) A)) → AreGroups nat_cmp entries (groups_seen groups) → AreGroups nat_cmp (numbers_lent entries) (number_groups groups)

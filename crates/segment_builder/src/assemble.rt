@@ -29,7 +29,7 @@ use crate::{NoMemory, made_columns_agree, made_segments_are_blocks};
 use block_bits::words_are_of_one_set;
 use flattener::{Block, Document, blocks_are_of_their_mapping, blocks_are_small};
 use mapping::{Mapping, names_lead_to_fields};
-use segment::{Segment, SegmentRefusal, scopes_are_of_documents};
+use segment::{Segment, scopes_are_of_documents};
 use segment_parts::put_head_of;
 use std::alloc::Global;
 use stored_sources::Bytes;
@@ -71,15 +71,10 @@ fn made_of(alloc: Global, blocks: &[Block]) -> Result<Segment, NoMemory>
     words_are_of_one_set();
     made_columns_agree();
     let bytes = bytes_of(alloc, blocks)?;
-    match Segment::of_bytes(alloc, Bytes::of(bytes)) {
-        Ok(segment) => {
-            made_segments_are_blocks(&segment);
-            scopes_are_of_documents(&segment);
-            Ok(segment)
-        }
-        Err(SegmentRefusal::NoMemory) => Err(NoMemory),
-        Err(SegmentRefusal::NotASegment) => unreachable!(),
-    }
+    let segment = Segment::of_text(alloc, Bytes::of(bytes))?;
+    made_segments_are_blocks(&segment);
+    scopes_are_of_documents(&segment);
+    Ok(segment)
 }
 
 /// The bytes of the segment of blocks, written part by part. What goes into a part is taken from the blocks when it is

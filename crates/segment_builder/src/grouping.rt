@@ -21,7 +21,7 @@ pub fn grouped<K: Ord + Drop, P: Drop>(
 }
 
 /// Sorts entries by key; those of one key keep their order.
-pub(crate) fn sort<K: Ord, P>(entries: &mut Vec<(K, P)>) -> Result<(), NoMemory>
+fn sort<K: Ord, P>(entries: &mut Vec<(K, P)>) -> Result<(), NoMemory>
     ensures same { OnOk result ((key : K) → of_key K.cmp key entries.new.items ≡ of_key K.cmp key entries.old.items) }
     ensures rising { OnOk result (AreRising K.cmp entries.new.items) }
 {
@@ -35,7 +35,7 @@ pub(crate) fn run_len<K: Ord, P>(key: &K, entries: &[(K, P)]) -> usize
     ensures within { result ≤ length entries.now }
 {
     'entries: for at in 0..entries.len() {
-        if !key.cmp(&entries[at].0).is_eq() {
+        if *key != entries[at].0 {
             return at;
         }
     }

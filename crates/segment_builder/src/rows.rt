@@ -1,26 +1,64 @@
 //! Terms with their postings, written.
 
 ghost use Rattle.std.specs.Prelude.{◌≡◌, ◌<◌, ◌^◌, ◌++◌, ℕ, List, length, map, IfOk, OnOk};
+ghost use Rattle.std.specs.Cmp.Lexicographic.{slice_cmp};
 ghost use Rattle.std.specs.List.{All, AllByRecursion, flat_map};
+ghost use Rattle.std.specs.Ordering.{nat_cmp};
+ghost use Rattle.term_table.specs.Keys.{number_key};
 ghost use Rattle.term_table.specs.Part.{posting_text, row_text, rows_text, AreRows, IsRow};
 ghost use Rattle.term_table.specs.Terms.{term_cmp};
 ghost use Rattle.segment_builder.specs.Columns.{terms_in, terms_lent};
 ghost use Rattle.segment_builder.specs.Entries.{words_lent};
 ghost use Rattle.segment_builder.specs.Groups.{members, AreGroups};
 ghost use Rattle.segment_builder.specs.Taken.{AreTermEntries};
-ghost use Rattle.segment_builder.specs.Terms.{lent_row, postings_lent, row_group, rows_in};
+ghost use Rattle.segment_builder.specs.Terms.{lent_cmp, lent_row, postings_lent, row_group, rows_in};
 
 use crate::NoMemory;
-use crate::grouping::{run_len, sort};
+use crate::grouping::run_len;
 use part_text::{put_string, put_u32, put_u64};
 use std::alloc::Global;
+use std::cmp::Ordering;
+use term_table::{keys_are_ordered, number_of};
 
 /// Sorts the entries of terms; those of one term keep their order.
 pub(crate) fn sort_terms(entries: &mut Vec<((u32, &[u8]), (u32, &[u32]))>) -> Result<(), NoMemory>
     ensures { OnOk result (AreGroups term_cmp (words_lent entries.old.items) (map row_group (rows_in entries.new.items))) }
 {
-    sort(entries)?;
+    entries.sort_by(|one, other| order_of(&one.0, &other.0))?;
     Ok(())
+}
+
+/// The order of two terms.
+fn order_of(one: &(u32, &[u8]), other: &(u32, &[u8])) -> Ordering
+    ensures { result ≡ lent_cmp one.now other.now }
+{
+    match one.0.cmp(&other.0) {
+        Ordering::Less => Ordering::Less,
+        Ordering::Equal => order_of_bytes(one.1, other.1),
+        Ordering::Greater => Ordering::Greater,
+    }
+}
+
+/// The order of the bytes of two terms. The terms of a number field have one length and most bytes in common, so that numbers
+/// decide sooner.
+fn order_of_bytes(one: &[u8], other: &[u8]) -> Ordering
+    ensures { result ≡ slice_cmp nat_cmp one.now other.now }
+{
+    match number_of(one) {
+        Some(number) => match number_of(other) {
+            Some(another) => order_of_keys(number, another),
+            None => one.cmp(other),
+        },
+        None => one.cmp(other),
+    }
+}
+
+/// The order of the keys of two numbers.
+fn order_of_keys(number: i64, another: i64) -> Ordering
+    ensures { result ≡ slice_cmp nat_cmp (number_key number) (number_key another) }
+{
+    keys_are_ordered();
+    number.cmp(&another)
 }
 
 /// Appends the terms of entries whose terms rise, each with its postings, and gives these terms.

@@ -8,4 +8,4 @@ use Rattle.flattener.proofs.fields.document.Goals as goal
 pub fields-preserved : goal.fields-preserved
 fields-preserved c =
     let within : c.fields.field < length c.args.mapping.now.fields = grind (arith, nat_tests) in
-    begun_next c.args.mapping.now c.args.generation c.args.scope (view c.args.content.now) c.fields.field (document_seen c.fields.document) (document_seen c.add_field.new.into) within c.fields.invariant c.in_ok-add_field.ensures
+    begun_next c.args.mapping.now c.args.generation c.args.scope (view c.args.content.now) c.fields.field (document_seen c.fields.document) (document_seen c.add_if_shown.new.into) within c.fields.invariant c.in_ok-add_if_shown.ensures

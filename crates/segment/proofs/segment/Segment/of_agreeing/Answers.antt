@@ -1,20 +1,14 @@
-use Rattle.std.proofs.Common.{◌≡◌, ◌∙◌, sym, subst}
-use Rattle.segment_parts.specs.Agree.{AreColumns}
+use Rattle.std.proofs.Common.{◌≡◌, ◌∙◌, sym}
 use Rattle.segment_parts.specs.Whole.{segment_once}
 use Rattle.segment_parts.specs.declared.columns.Columns.{Columns}
+use Rattle.segment.specs.Encoding.{IsEncoding}
 use Rattle.segment.proofs.TermKinds.{when_ok}
 use Rattle.segment.proofs.segment.Segment.of_agreeing.Goals as goal
 
-pub over-requires : goal.over-requires
-over-requires c =
-    let text = rw c.unwrap-parts.ensures at c.in_ok-read.ensures.found in
-    let are = rw c.unwrap-parts.ensures at c.in_ok-read.ensures.are in
-    let same : c.args.columns ≡ c.unwrap-parts.result = segment_once c.words_are_of_one_set.ensures c.args.columns c.unwrap-parts.result c.requires.parts are (sym c.in_ok-bytes.ensures ∙ text) in
-    subst AreColumns same c.requires
+pub of_text-requires : goal.of_text-requires
+of_text-requires c = (c.args.columns, record { are = c.requires; text = c.of.ensures ∙ c.in_ok-bytes.ensures })
 
 pub returns : goal.returns
 returns c =
-    let text = rw c.unwrap-parts.ensures at c.in_ok-read.ensures.found in
-    let are = rw c.unwrap-parts.ensures at c.in_ok-read.ensures.are in
-    let same : c.args.columns ≡ c.unwrap-parts.result = segment_once c.words_are_of_one_set.ensures c.args.columns c.unwrap-parts.result c.requires.parts are (sym c.in_ok-bytes.ensures ∙ text) in
-    when_ok (λ (segment : Columns). segment ≡ c.unwrap-parts.result) (λ (segment : Columns). segment ≡ c.args.columns) c.over.result c.over.ensures (λ segment own. own ∙ sym same)
+    when_ok (λ (segment : Columns). IsEncoding segment c.of.result) (λ (segment : Columns). segment ≡ c.args.columns) c.of_text.result c.of_text.ensures
+    (λ segment own. segment_once c.words_are_of_one_set.ensures segment c.args.columns own.are.parts c.requires.parts (sym own.text ∙ c.of.ensures ∙ c.in_ok-bytes.ensures))

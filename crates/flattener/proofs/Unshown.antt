@@ -1,0 +1,55 @@
+-- A field that the objects of a scope don't show adds nothing to their documents.
+use Rattle.std.proofs.Common.{◌≡◌, ℕ, ◌==◌, ◌||◌, ◌&&◌, true, false, Bool, List, [], ◌++◌, refl, sym, if◌then◌else◌, Option}
+use Rattle.std.specs.List.{filter_map}
+use Rattle.std.specs.Ordering.{int_cmp}
+use Rattle.mapping.specs.Mapping.{Mapping, home_of, included, kind_at, knows}
+use Rattle.segment.specs.Flat.{FlatDocument}
+use Rattle.tree_json.specs.Value.{JsonValue}
+use Rattle.tree_objects.specs.Values.{convert}
+use Rattle.tree_objects.specs.declared.field_value.FieldValue.{FieldValue}
+use Rattle.flattener.specs.Adds.{Adds}
+use Rattle.flattener.specs.Flat.{ascending, bytes_cmp, has_numbers, is_keyword, is_text, numbers_in, texts_in, tokens, words_of_field}
+use Rattle.flattener.specs.Walked.{kept, keywords_of, numbers_of, shown_items, texts_of, valued, words_of}
+use Rattle.flattener.proofs.Documents.{nothing_more}
+
+neither : {A : Type 0} (here knows shown : Bool) (own all : List A) → (here || shown) ≡ false → (if here then own else (if knows && shown then all else [])) ≡ []
+neither true knows shown own all none = absurd (cc (none))
+neither false knows true own all none = absurd (cc (none))
+neither false true false own all none = refl
+neither false false false own all none = refl
+
+nothing_shown : (m : Mapping) (g f s : ℕ) (v : JsonValue) → ((home_of m f == s) || included m f s) ≡ false → shown_items m g f s v ≡ []
+nothing_shown m g f s v none = neither (home_of m f == s) (knows m g f) (included m f s) _ _ none
+
+module _ (f : ℕ) (t : JsonValue → Option FieldValue) (vs : List JsonValue) (e : vs ≡ []) where
+  no_numbers : (test : Bool) → (if test then kept (f, ascending int_cmp (numbers_in (filter_map t vs))) else []) ≡ []
+  no_numbers true = rw e refl
+  no_numbers false = refl
+
+  no_keywords : (test : Bool) → (if test then kept (f, ascending bytes_cmp (texts_in (filter_map t vs))) else []) ≡ []
+  no_keywords true = rw e refl
+  no_keywords false = refl
+
+  no_words : (test : Bool) → (if test then words_of_field f (tokens (texts_in (filter_map t vs))) else []) ≡ []
+  unfolding tokens
+  no_words true = rw e refl
+  no_words false = refl
+
+  no_texts : (test : Bool) → (if test then valued f (texts_in (filter_map t vs)) else []) ≡ []
+  no_texts true = rw e refl
+  no_texts false = refl
+
+pub unshown_adds : (m : Mapping) (g f s : ℕ) (v : JsonValue) (d : FlatDocument) → ((home_of m f == s) || included m f s) ≡ false → Adds m g s v f d d
+unshown_adds m g f s v d none =
+    let e = nothing_shown m g f s v none in
+    let numbers : numbers_of m g s v f ≡ [] = no_numbers f (convert (kind_at m f)) (shown_items m g f s v) e (has_numbers (kind_at m f)) in
+    let keywords : keywords_of m g s v f ≡ [] = no_keywords f (convert (kind_at m f)) (shown_items m g f s v) e (is_keyword (kind_at m f)) in
+    let words : words_of m g s v f ≡ [] = no_words f (convert (kind_at m f)) (shown_items m g f s v) e (is_text (kind_at m f)) in
+    let texts : texts_of m g s v f ≡ [] = no_texts f (convert (kind_at m f)) (shown_items m g f s v) e (is_text (kind_at m f)) in
+    record {
+      scope = refl;
+      numbers = rw numbers (sym (nothing_more d.numbers));
+      keywords = rw keywords (sym (nothing_more d.keywords));
+      words = rw words (sym (nothing_more d.words));
+      texts = rw texts (sym (nothing_more d.texts));
+    }
