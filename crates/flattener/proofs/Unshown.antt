@@ -1,5 +1,5 @@
 -- A field that the objects of a scope don't show adds nothing to their documents.
-use Rattle.std.proofs.Common.{◌≡◌, ℕ, ◌==◌, ◌||◌, ◌&&◌, true, false, Bool, List, [], ◌++◌, refl, sym, if◌then◌else◌, Option}
+use Rattle.std.proofs.Common.{◌≡◌, ℕ, ◌==◌, ◌||◌, ◌&&◌, true, false, Bool, List, [], refl, sym, if◌then◌else◌, Option}
 use Rattle.std.specs.List.{filter_map}
 use Rattle.std.specs.Ordering.{int_cmp}
 use Rattle.mapping.specs.Mapping.{Mapping, home_of, included, kind_at, knows}
