@@ -1,5 +1,6 @@
 -- Where no clause has inner hits, there are no definitions of inner hits.
-use Rattle.std.proofs.Common.{◌≡◌, ℕ, ◌+◌, List as Seq, [], ◌∷◌, ◌++◌, length, codes, Option, Some, None, refl, ap, ◌∙◌, arith}
+use Rattle.std.proofs.Common.{◌≡◌, ℕ, ◌+◌, Bool, true, false, ◌&&◌, if◌then◌else◌, bytes_eq, List as Seq, [], ◌∷◌, ◌++◌, length, codes, Option, Some, None, refl, ap, ◌∙◌, arith}
+use Rattle.std.proofs.lemmas.Bool.{false≢true}
 use Rattle.std.proofs.lemmas.List.{length-append}
 use Rattle.std.proofs.lemmas.List.Elements.{filter_map-append}
 use Rattle.std.specs.List.{filter_map}
@@ -13,6 +14,7 @@ use Rattle.search_form.specs.Table.{element_of, single_of}
 use Rattle.search_walk.specs.Names.{text_under, scope_inside, buckets_in}
 use Rattle.search_walk.specs.Node.{Node, node_here, level_under, nodes_at, nodes_in, nodes_among, nodes_if, after_nodes, nodes_of}
 use Rattle.search_walk.specs.Refusal.{inner_name_in, inner_name_at, inner_names, inner_count}
+use Rattle.query_parser.specs.Flat.{is_single, is_flat}
 use Rattle.query_parser.specs.InnerHits.{below_if, children_if, parents_if, held_by, owned_by, inner_at, inner_in, inner_among, inner_if, inner_of_body}
 use Rattle.query_parser.specs.Readings.{child_in, parent_in}
 
@@ -101,4 +103,60 @@ no_inner_hits m body h =
 pub no_inner_among : (m : Mapping) (scope : Option ℕ) (form : Form) (ms : Members) → ((level : ℕ) → nodes_among m scope level form ms ≡ []) → inner_among m scope form ms ≡ []
 no_inner_among m scope form ms none = none_among m scope 0 form ms (ap count (none 0))
 
+-- nor in an object in which no object and no list stands
+
+first_of : (a b : Bool) → (a && b) ≡ true → a ≡ true
+first_of true b h = refl
+first_of false b h = absurd (false≢true h)
+
+second_of : (a b : Bool) → (a && b) ≡ true → b ≡ true
+second_of true b h = h
+second_of false b h = absurd (false≢true h)
+
+module _ (m : Mapping) where
+  single_none : (scope : Option ℕ) (form : Form) (d : JsonValue) → is_single d ≡ true → inner_at m scope form d ≡ []
+  single_none scope form null h = refl
+  single_none scope form (bool b) h = refl
+  single_none scope form (whole z) h = refl
+  single_none scope form (text s) h = refl
+  single_none scope form (list ds) h = absurd (false≢true h)
+  single_none scope form (object ms) h = absurd (false≢true h)
+
+  flat_among : (scope : Option ℕ) (form : Form) (ms : Members) → is_flat ms ≡ true → inner_among m scope form ms ≡ []
+  flat_among scope form no_members h = refl
+  flat_among scope form (member k d ms) h =
+      rw (single_none scope (form_at form k) d (first_of (is_single d) (is_flat ms) h)) (flat_among scope form ms (second_of (is_single d) (is_flat ms) h))
+
+  module _ (inside : Option ℕ) (over : InnerOver) (default : Seq ℕ) (clause : Members) where
+    single_holds : (d : JsonValue) → is_single d ≡ true → held_by m inside over default clause (Some d) [] ≡ []
+    single_holds null h = refl
+    single_holds (bool b) h = refl
+    single_holds (whole z) h = refl
+    single_holds (text s) h = refl
+    single_holds (list ds) h = absurd (false≢true h)
+    single_holds (object ms) h = absurd (false≢true h)
+
+    flat_holds : (ms : Members) (name : Seq ℕ) → is_flat ms ≡ true → held_by m inside over default clause (member_of ms name) [] ≡ []
+    flat_holds no_members name h = refl
+    flat_holds (member k d ms) name h =
+        by (bytes_eq k name) (single_holds d (first_of (is_single d) (is_flat ms) h)) (flat_holds ms name (second_of (is_single d) (is_flat ms) h))
+      where
+        by : (b : Bool) → held_by m inside over default clause (Some d) [] ≡ [] → held_by m inside over default clause (member_of ms name) [] ≡ []
+            → held_by m inside over default clause (if b then Some d else member_of ms name) [] ≡ []
+        by true one other = one
+        by false one other = other
+
+  flat_owns : (scope : Option ℕ) (form : Form) (ms : Members) → is_flat ms ≡ true → owned_by m scope form ms [] ≡ []
+  flat_owns scope Nested ms h = flat_holds (scope_inside m scope Nested ms) (below_if (scope_inside m scope Nested ms)) (text_under ms (codes "path")) ms ms (codes "inner_hits") h
+  flat_owns scope HasChild ms h = flat_holds (scope_inside m scope HasChild ms) (children_if (child_in m scope ms)) (text_under ms (codes "type")) ms ms (codes "inner_hits") h
+  flat_owns scope HasParent ms h = flat_holds (scope_inside m scope HasParent ms) (parents_if (parent_in m scope ms)) (text_under ms (codes "parent_type")) ms ms (codes "inner_hits") h
+  flat_owns scope form ms h = refl
+
+pub flat_none : (m : Mapping) (scope : Option ℕ) (form : Form) (ms : Members) → is_flat ms ≡ true → inner_at m scope form (object ms) ≡ []
+flat_none m scope form ms h =
+    ap (owned_by m scope (single_of form) ms) (flat_among m (scope_inside m scope (single_of form) ms) (single_of form) ms h)
+    ∙ flat_owns m scope (single_of form) ms h
+
 pub ruleset no_inner = (no_inner_hits)
+
+pub ruleset flat = (flat_none)

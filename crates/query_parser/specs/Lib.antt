@@ -7,3 +7,4 @@ pub mod Buckets
 pub mod Search
 -- For proofs alone.
 pub mod Known
+pub mod Flat

@@ -1,5 +1,5 @@
 //! The definitions of inner hits that a body has.
-ghost use Rattle.std.specs.Prelude.{◌≡◌, ◌++◌, ◌∷◌, [], ℕ, List, false, map, codes, Option, Some, IfOk, IfSome, OnOk};
+ghost use Rattle.std.specs.Prelude.{◌≡◌, ◌++◌, ◌∷◌, [], ℕ, List, false, map, codes, Option, Some, IfOk, IfSome, IsTrue, OnOk};
 ghost use Rattle.mapping.specs.Mapping.{Mapping};
 ghost use Rattle.tree_json.specs.Value.{JsonValue, members_of, member_of, elements_of, object as object_value};
 ghost use Rattle.tree_json.specs.View.{view, values, entries};
@@ -10,9 +10,11 @@ ghost use Rattle.query_ast.specs.Inner.View.{inner_of as seen};
 ghost use Rattle.search_walk.specs.Names.{buckets_in as buckets_value, scope_inside, text_under as text_value};
 ghost use Rattle.search_walk.specs.Refusal.{name_or, inner_count};
 ghost use Rattle.search_form.specs.Form.{form_at};
+ghost use Rattle.search_form.specs.declared.form.Form.{Form};
 ghost use Rattle.search_form.specs.declared.form.Form.TheVariants.{Buckets};
 ghost use Rattle.query_parser.specs.Known.{known_of, known_under, IsOf, IsOfObject, IsOfElements, IsOfMembers};
 ghost use Rattle.query_parser.specs.Queries.{clause_under};
+ghost use Rattle.query_parser.specs.Flat.{is_flat};
 ghost use Rattle.query_parser.specs.InnerHits.{below_if, children_if, parents_if, inner_of, held_by, owned_by, inner_at, inner_in, inner_among, inner_if, inner_of_body};
 
 use crate::built::{Built, built_at, built_in, built_under, own_query};
@@ -196,6 +198,30 @@ fn append(found: &mut Vec<InnerDef>, mut more: Vec<InnerDef>) -> Result<(), NoMe
     Ok(())
 }
 
+// Whether no object and no list stands in an object.
+fn is_flat(object: &JsonObject) -> bool
+    ensures { result ≡ is_flat (members_of object.now) }
+{
+    'members: for (_, value) in object.as_slice() {
+        if matches!(value, Json::List(_) | Json::Object(_)) {
+            return false;
+        }
+    }
+    true
+}
+
+// Whether a value has no definitions, whatever its form: so it is with single values, and with objects of these.
+#[tactic(auto, using(crate::proofs::NoInner::flat))]
+fn has_no_inner(value: &Json) -> bool
+    ensures { IsTrue result → (m : Mapping) (scope : Option ℕ) (form : Form) → inner_at m scope form (view value.now) ≡ [] }
+{
+    match value {
+        Json::Object(object) => is_flat(object),
+        Json::List(_) => false,
+        Json::Null | Json::Bool(_) | Json::Whole(_) | Json::Text(_) => true,
+    }
+}
+
 /// Appends the definitions that a value has.
 #[cycle(inner)]
 #[tactic(auto, using(search_form::specs::Sizes::sizes, crate::proofs::Known::built_walks))]
@@ -357,7 +383,7 @@ fn inner_among(
     Ok(())
 }
 
-// Appends those that stand under a name. A single value has none, and its name isn't looked up.
+// Appends those that stand under a name, which isn't looked up where there are none.
 #[cycle(inner)]
 #[tactic(auto, using(search_form::specs::Sizes::sizes, crate::proofs::Known::built_walks))]
 fn inner_part(
@@ -374,19 +400,19 @@ fn inner_part(
     requires { IsOf mapping.now scope (form_at form name.now) (view value.now) (known_under (known_of built) name.now) }
     ensures { OnOk result (map seen found.new.items ≡ map seen found.old.items ++ inner_at mapping.now scope (form_at form name.now) (view value.now)) }
 {
-    match value {
-        Json::List(_) | Json::Object(_) => Ok(inner_at(
-            alloc,
-            mapping,
-            known,
-            scope,
-            form_at(form, name),
-            value,
-            built_under(built, name),
-            found,
-        )?),
-        Json::Null | Json::Bool(_) | Json::Whole(_) | Json::Text(_) => Ok(()),
+    if has_no_inner(value) {
+        return Ok(());
     }
+    inner_at(
+        alloc,
+        mapping,
+        known,
+        scope,
+        form_at(form, name),
+        value,
+        built_under(built, name),
+        found,
+    )
 }
 
 fn inner_under(

@@ -137,7 +137,7 @@ fn tested_leaf(
             values: values_of(alloc, kind, value)?,
             boost: boost_in(object),
         }),
-        Form::Range => Ok(range_leaf(alloc, kind, field, value)?),
+        Form::Range => range_leaf(alloc, kind, field, value),
         Form::Prefix => Ok(Query::Prefix {
             field,
             start: copied(alloc, start_of(value))?,
@@ -174,14 +174,14 @@ fn field_leaf(
     match chosen(form, object) {
         Some(ChosenName { name, value, .. }) => {
             let field = known_field_in(mapping, known, scope, name);
-            Ok(tested_leaf(
+            tested_leaf(
                 alloc,
                 kind_of_field(mapping, field),
                 field,
                 form,
                 object,
                 value,
-            )?)
+            )
         }
         None => Ok(Query::MatchAll { boost: 1 }),
     }
@@ -215,7 +215,7 @@ fn leaf_named(
             id: copied(alloc, text_under(object, b"id"))?,
             boost: boost_in(object),
         }),
-        _ => Ok(field_leaf(alloc, mapping, known, scope, form, object)?),
+        _ => field_leaf(alloc, mapping, known, scope, form, object),
     }
 }
 
@@ -251,14 +251,14 @@ pub(crate) fn clause_at(
         Json::Object(object) => match object.as_slice() {
             [] => Ok(Query::MatchAll { boost: 1 }),
             [(name, value), ..] => {
-                Ok(clause_named(
+                clause_named(
                     alloc,
                     mapping,
                     known,
                     scope,
                     form_named(name.as_slice()),
                     value,
-                )?)
+                )
             }
         },
         Json::Null | Json::Bool(_) | Json::Whole(_) | Json::Text(_) | Json::List(_) => Ok(
@@ -280,7 +280,7 @@ fn clause_named(
     ensures { IfOk result (λ q. clause_of q ≡ clause_named mapping.now scope form (view value.now)) }
 {
     match value {
-        Json::Object(object) => Ok(clause_in(alloc, mapping, known, scope, form, object)?),
+        Json::Object(object) => clause_in(alloc, mapping, known, scope, form, object),
         Json::Null | Json::Bool(_) | Json::Whole(_) | Json::Text(_) | Json::List(_) => Ok(
             Query::MatchAll { boost: 1 },
         ),
@@ -348,7 +348,7 @@ fn clause_in(
                 boost: boost_in(object),
             })
         }
-        _ => Ok(leaf_named(alloc, mapping, known, scope, form, object)?),
+        _ => leaf_named(alloc, mapping, known, scope, form, object),
     }
 }
 
@@ -401,7 +401,7 @@ fn clauses_at(
     ensures { IfOk result (λ qs. map clause_of qs.items ≡ clauses_at mapping.now scope (view value.now)) }
 {
     match value {
-        Json::List(list) => Ok(clauses_in(alloc, mapping, known, scope, list.as_slice())?),
+        Json::List(list) => clauses_in(alloc, mapping, known, scope, list.as_slice()),
         Json::Null | Json::Bool(_) | Json::Whole(_) | Json::Text(_) | Json::Object(_) => {
             let mut found = Vec::with_capacity(alloc, 1)?;
             found.push(clause_at(alloc, mapping, known, scope, value)?)?;

@@ -169,11 +169,11 @@ pub(crate) fn value_by(
     match kind {
         None => Ok(FieldValue::Number(0)),
         Some(Kind::Object | Kind::Nested | Kind::Join) => Ok(FieldValue::Number(0)),
-        Some(Kind::Text) => Ok(value_of_kind(alloc, Kind::Text, value)?),
-        Some(Kind::Keyword) => Ok(value_of_kind(alloc, Kind::Keyword, value)?),
-        Some(Kind::Long) => Ok(value_of_kind(alloc, Kind::Long, value)?),
-        Some(Kind::Boolean) => Ok(value_of_kind(alloc, Kind::Boolean, value)?),
-        Some(Kind::Date) => Ok(value_of_kind(alloc, Kind::Date, value)?),
+        Some(Kind::Text) => value_of_kind(alloc, Kind::Text, value),
+        Some(Kind::Keyword) => value_of_kind(alloc, Kind::Keyword, value),
+        Some(Kind::Long) => value_of_kind(alloc, Kind::Long, value),
+        Some(Kind::Boolean) => value_of_kind(alloc, Kind::Boolean, value),
+        Some(Kind::Date) => value_of_kind(alloc, Kind::Date, value),
     }
 }
 
@@ -199,11 +199,11 @@ pub(crate) fn asked_by(
 {
     match value {
         Json::Object(object) => match member(object, name) {
-            Some(value) => Ok(value_by(alloc, kind, value)?),
+            Some(value) => value_by(alloc, kind, value),
             None => Ok(FieldValue::Number(0)),
         },
         Json::Null | Json::Bool(_) | Json::Whole(_) | Json::Text(_) | Json::List(_) => {
-            Ok(value_by(alloc, kind, value)?)
+            value_by(alloc, kind, value)
         }
     }
 }

@@ -1,34 +1,28 @@
--- Where an object is a choice of one name, no name is required.
-use Rattle.std.proofs.Common.{◌≡◌, ℕ, List as Seq, Bool, true, false, Option, Some, None, refl, sym, subst}
+-- Where an object is a choice of one name, its choice and its pairs are all that is asked.
+use Rattle.std.proofs.Common.{◌≡◌, Bool, true, false, ◌&&◌, refl}
 use Rattle.std.proofs.lemmas.Bool.{false≢true}
 use Rattle.tree_json.specs.Value.{Members}
 use Rattle.search_form.specs.declared.form.Form.{Form}
 use Rattle.search_form.specs.declared.form.Form.TheVariants.{Query, Term, Terms, Range, Prefix, Match, MatchPhrase, SortClause, Bucket, BucketOrder}
-use Rattle.search_form.specs.declared.form.Presence.{Presence}
-use Rattle.search_form.specs.Table.{lines_of, is_choice_of_one}
-use Rattle.search_form.specs.Form.{has_required}
+use Rattle.search_form.specs.Table.{is_choice_of_one, apart_in}
+use Rattle.search_form.specs.Form.{suits, has_its_choice, are_apart}
 
-abbrev Lines : Type 0
-Lines = Seq (Seq ℕ × Presence × Form)
+and_true : (a b : Bool) → (a && (b && true)) ≡ (a && b)
+and_true true true = refl
+and_true true false = refl
+and_true false b = refl
 
-abbrev has_required_if : Option Lines → Members → Bool
-has_required_if None ms = true
-has_required_if (Some lines) ms = has_required lines ms
+pub one_suits : (inner : Bool) (form : Form) (ms : Members) → is_choice_of_one form ≡ true → suits inner form ms ≡ (has_its_choice form ms && are_apart (apart_in form) ms)
+one_suits inner Query ms h = and_true (has_its_choice Query ms) (are_apart (apart_in Query) ms)
+one_suits inner Term ms h = and_true (has_its_choice Term ms) (are_apart (apart_in Term) ms)
+one_suits inner Terms ms h = and_true (has_its_choice Terms ms) (are_apart (apart_in Terms) ms)
+one_suits inner Range ms h = and_true (has_its_choice Range ms) (are_apart (apart_in Range) ms)
+one_suits inner Prefix ms h = and_true (has_its_choice Prefix ms) (are_apart (apart_in Prefix) ms)
+one_suits inner Match ms h = and_true (has_its_choice Match ms) (are_apart (apart_in Match) ms)
+one_suits inner MatchPhrase ms h = and_true (has_its_choice MatchPhrase ms) (are_apart (apart_in MatchPhrase) ms)
+one_suits inner SortClause ms h = and_true (has_its_choice SortClause ms) (are_apart (apart_in SortClause) ms)
+one_suits inner Bucket ms h = and_true (has_its_choice Bucket ms) (are_apart (apart_in Bucket) ms)
+one_suits inner BucketOrder ms h = and_true (has_its_choice BucketOrder ms) (are_apart (apart_in BucketOrder) ms)
+one_suits inner form ms h = absurd (false≢true h)
 
-none_if : (form : Form) (ms : Members) → is_choice_of_one form ≡ true → has_required_if (lines_of form) ms ≡ true
-none_if Query ms h = refl
-none_if Term ms h = refl
-none_if Terms ms h = refl
-none_if Range ms h = refl
-none_if Prefix ms h = refl
-none_if Match ms h = refl
-none_if MatchPhrase ms h = refl
-none_if SortClause ms h = refl
-none_if Bucket ms h = refl
-none_if BucketOrder ms h = refl
-none_if form ms h = absurd (false≢true h)
-
-pub none_required : (form : Form) (lines : Lines) (ms : Members) → lines_of form ≡ Some lines → is_choice_of_one form ≡ true → has_required lines ms ≡ true
-none_required form lines ms are h = subst (λ (o : Option Lines). has_required_if o ms ≡ true) are (none_if form ms h)
-
-pub ruleset required = (none_required)
+pub ruleset required = (one_suits)

@@ -1,6 +1,6 @@
 -- One more element, or one more member, of texts.
-use Rattle.std.proofs.Common.{◌≡◌, ℕ, zero, suc, ◌+◌, ◌<◌, List as Seq, [], ◌∷◌, length, get_or, drop, sym, subst, arith}
-use Rattle.tree_json.specs.Value.{JsonValue, elements_of, members_of}
+use Rattle.std.proofs.Common.{◌≡◌, ℕ, zero, suc, ◌+◌, ◌<◌, List as Seq, [], ◌∷◌, length, get_or, drop, subst, arith}
+use Rattle.tree_json.specs.Value.{elements_of, members_of}
 use Rattle.tree_json.specs.View.{view, values, entries}
 use Rattle.tree_json.specs.declared.value.Json.{Json}
 use Rattle.search_form.specs.Texts.{AreTexts, AllAreTexts, EachAreTexts}

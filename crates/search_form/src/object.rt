@@ -58,10 +58,16 @@ fn line_among(name: &[u8], lines: &[Line], other: (Presence, Form)) -> (Presence
     other
 }
 
+// An object has few names of its form, so that they are sought one by one.
 fn has(object: &JsonObject, name: &[u8]) -> bool
     ensures { result ≡ has (members_of object.now) name.now }
 {
-    object.member(name).is_some()
+    'names: for (known, _) in object.as_slice() {
+        if known.as_slice() == name {
+            return true;
+        }
+    }
+    false
 }
 
 fn has_required(lines: &[Line], object: &JsonObject) -> bool
@@ -73,15 +79,6 @@ fn has_required(lines: &[Line], object: &JsonObject) -> bool
         }
     }
     true
-}
-
-// Whether an object has the names that its form requires. Where it is a choice of one name, none is.
-#[tactic(auto, using(crate::proofs::Required::required))]
-fn has_its_names(form: Form, lines: &[Line], object: &JsonObject) -> bool
-    requires { lines_of form ≡ Some (map (λ l. (l.0.now, l.1, l.2)) lines.now) }
-    ensures { result ≡ has_required (map (λ l. (l.0.now, l.1, l.2)) lines.now) (members_of object.now) }
-{
-    is_choice_of_one(form) || has_required(lines, object)
 }
 
 /// The one of an object's names that is a choice, the form of what stands under it, and that.
@@ -189,15 +186,19 @@ fn fits(inner: bool, form: Form, object: &JsonObject) -> bool
 }
 
 /// Whether an object has the names that its form wants; so many of them are a choice.
+#[tactic(auto, using(crate::proofs::Required::required))]
 pub(crate) fn suits(inner: bool, form: Form, choices: usize, object: &JsonObject) -> bool
     requires { choices ≡ choice_count form (members_of object.now) }
     ensures { result ≡ suits inner form (members_of object.now) }
 {
+    if is_choice_of_one(form) {
+        return choices == 1 && are_apart(apart_in(form), object);
+    }
     match lines_of(form) {
         None => false,
         Some(lines) => {
-            has_its_names(form, lines, object)
-                && choices == if is_choice_of_one(form) { 1 } else { 0 }
+            has_required(lines, object)
+                && choices == 0
                 && are_apart(apart_in(form), object)
                 && fits(inner, form, object)
         }

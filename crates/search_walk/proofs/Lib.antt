@@ -1,5 +1,6 @@
 pub mod Firsts
 pub mod Twice
+pub mod Rising
 pub mod Partless
 pub mod KnownPaths
 pub mod Walked

@@ -1,6 +1,8 @@
 //! The limits of a search body: names of inner hits, windows, clauses, depth and terms.
-ghost use Rattle.std.specs.Prelude.{◌≡◌, nat_lt, ◌+◌, ◌<◌, ◌^◌, if◌then◌else◌, Option, Some, option_map, map, length, codes, IfOk};
+ghost use Rattle.std.specs.Prelude.{◌≡◌, nat_lt, ◌+◌, ◌<◌, ◌^◌, if◌then◌else◌, IsTrue, false, Option, Some, option_map, map, length, codes, IfOk};
+ghost use Rattle.std.specs.Cmp.Lexicographic.{slice_cmp};
 ghost use Rattle.std.specs.List.{list_any, filter};
+ghost use Rattle.std.specs.Ordering.{ordering_then, nat_cmp};
 ghost use Rattle.tree_json.specs.Value.{members_of, member_of};
 ghost use Rattle.tree_json.specs.View.{view};
 ghost use Rattle.search_form.specs.Form.{chosen, has};
@@ -16,6 +18,7 @@ use crate::refusal::SearchRefusal;
 use mapping::{Mapping, NoMemory};
 use search_form::{ChosenName, Form, chosen};
 use std::alloc::Global;
+use std::cmp::Ordering;
 use tree_json::{Json, JsonObject};
 
 /// The largest `from` and `size` together, of a search and of inner hits.
@@ -73,8 +76,32 @@ pub(crate) fn inner_name_at<'a>(form: Form, value: &'a Json) -> Option<&'a [u8]>
     }
 }
 
+// The order of names by their lengths, and by their bytes where they are as long.
+fn by_length(one: &[u8], other: &[u8]) -> Ordering
+    ensures { result ≡ ordering_then (nat_cmp (length one.now) (length other.now)) (slice_cmp nat_cmp one.now other.now) }
+{
+    match one.len().cmp(&other.len()) {
+        Ordering::Equal => one.cmp(other),
+        Ordering::Less => Ordering::Less,
+        Ordering::Greater => Ordering::Greater,
+    }
+}
+
+// Whether names ascend by their lengths and bytes, as names do that are numbered. Then none comes twice.
+#[tactic(auto, using(crate::proofs::Rising::rising))]
+fn are_rising(names: &[&[u8]]) -> bool
+    ensures { IsTrue result → has_twice (map (λ n. n.now) names.now) ≡ false }
+{
+    'names: for index in 1..names.len() {
+        if !by_length(names[index - 1], names[index]).is_lt() {
+            return false;
+        }
+    }
+    true
+}
+
 // Whether some name comes twice: of the names in order, one of each is kept.
-fn has_twice(alloc: Global, names: &[&[u8]]) -> Result<bool, NoMemory>
+fn some_twice(alloc: Global, names: &[&[u8]]) -> Result<bool, NoMemory>
     ensures { IfOk result (λ twice. twice ≡ has_twice (map (λ n. n.now) names.now)) }
 {
     let mut kept = Vec::with_capacity(alloc, names.len())?;
@@ -82,6 +109,16 @@ fn has_twice(alloc: Global, names: &[&[u8]]) -> Result<bool, NoMemory>
     kept.sort_unstable();
     kept.dedup();
     Ok(kept.as_slice().len() < names.len())
+}
+
+fn has_twice(alloc: Global, names: &[&[u8]]) -> Result<bool, NoMemory>
+    ensures { IfOk result (λ twice. twice ≡ has_twice (map (λ n. n.now) names.now)) }
+{
+    if are_rising(names) {
+        Ok(false)
+    } else {
+        Ok(some_twice(alloc, names)?)
+    }
 }
 
 // ---- windows

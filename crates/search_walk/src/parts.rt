@@ -2,11 +2,12 @@
 ghost use Rattle.std.specs.Prelude.{◌≡◌, ◌∷◌, ◌++◌, ◌+◌, [], ℕ, Option, false, if◌then◌else◌, length, map, OnOk, IfOk, Some, codes};
 ghost use Rattle.std.specs.List.{list_any, filter};
 ghost use Rattle.std.specs.Option.{option_or};
-ghost use Rattle.tree_json.specs.Value.{Members, elements_of, members_of, object};
+ghost use Rattle.tree_json.specs.Value.{Members, elements_of, members_of, object, object as object_value};
 ghost use Rattle.mapping.specs.Mapping.{Mapping};
 ghost use Rattle.tree_json.specs.View.{view, values, entries};
 ghost use Rattle.search_form.specs.declared.form.Form.TheVariants.{Query, Sort, Buckets, SearchAfter};
 ghost use Rattle.search_walk.specs.Node.{is_judged, node_here, deeper, level_under, nodes_at, nodes_in, nodes_among, nodes_under, after_nodes, hit_nodes, bucket_nodes, nodes_of};
+ghost use Rattle.search_walk.specs.Names.{scope_inside};
 ghost use Rattle.search_walk.specs.Parts.{has_parts};
 ghost use Rattle.search_walk.specs.Fault.{fault_of, first_fault};
 ghost use Rattle.search_walk.specs.Refusal.{inner_names, has_large_window, is_clause, is_deep, has_many_terms};
@@ -143,6 +144,7 @@ fn clauses_with(form: Form, clauses: usize) -> Result<usize, NoMemory>
 }
 
 // Takes one part more.
+#[inline(never)]
 fn meet<'a>(mapping: &Mapping, node: &Node<'a>, walk: &mut Walk<'a>) -> Result<(), NoMemory>
     requires { node.now.inside ≡ inside_at mapping.now node.now.scope node.now.form (view node.now.value.now) }
     ensures { OnOk result (walk_of walk.new ≡ walked mapping.now (walk_of walk.old) (node_of node.now ∷ [])) }
@@ -158,6 +160,7 @@ fn meet<'a>(mapping: &Mapping, node: &Node<'a>, walk: &mut Walk<'a>) -> Result<(
 
 // Takes what stands here, if it is judged.
 #[tactic(auto, using(crate::proofs::Walked::walks))]
+#[inline]
 fn meet_here<'a>(
     mapping: &Mapping,
     scope: Option<u32>,
@@ -183,9 +186,10 @@ fn meet_here<'a>(
     Ok(())
 }
 
-/// Takes the parts that a value has.
+/// Takes the parts that a value has. A single value is looked at where it stands.
 #[cycle(nodes)]
-#[tactic(auto, using(search_form::specs::Sizes::sizes, crate::proofs::Partless::partless, crate::proofs::Walked::walks))]
+#[tactic(auto, using(search_form::specs::Sizes::sizes, crate::proofs::Walked::walks))]
+#[inline]
 fn nodes_at<'a>(
     mapping: &Mapping,
     scope: Option<u32>,
@@ -197,31 +201,55 @@ fn nodes_at<'a>(
     ensures { OnOk result (walk_of walk.new ≡ walked mapping.now (walk_of walk.old) (nodes_at mapping.now scope level form (view value.now))) }
 {
     match value {
-        Json::List(list) => Ok(nodes_in(
+        Json::List(list) => nodes_in(
             mapping,
             scope,
             level,
             element_of(form),
             list.as_slice(),
             walk,
-        )?),
-        Json::Object(object) => {
-            let form = single_of(form);
-            let inside = walk.known.scope_inside(mapping, scope, form, object);
-            meet_here(mapping, scope, inside, level, form, value, walk)?;
-            if !has_parts(form) {
-                return Ok(());
-            }
-            Ok(nodes_among(mapping, inside, level, form, object.as_slice(), walk)?)
-        }
+        ),
+        Json::Object(object) => object_nodes(
+            mapping,
+            scope,
+            level,
+            single_of(form),
+            object,
+            value,
+            walk,
+        ),
         Json::Null | Json::Bool(_) | Json::Whole(_) | Json::Text(_) => {
-            Ok(meet_here(mapping, scope, None, level, single_of(form), value, walk)?)
+            meet_here(mapping, scope, None, level, single_of(form), value, walk)
         }
     }
 }
 
 #[cycle(nodes)]
+#[tactic(auto, using(search_form::specs::Sizes::sizes, crate::proofs::Partless::partless, crate::proofs::Walked::walks))]
+#[inline(never)]
+fn object_nodes<'a>(
+    mapping: &Mapping,
+    scope: Option<u32>,
+    level: u32,
+    form: Form,
+    object: &'a JsonObject,
+    value: &'a Json,
+    walk: &mut Walk<'a>,
+) -> Result<(), NoMemory>
+    requires { view value.now ≡ object_value (members_of object.now) }
+    ensures { OnOk result (walk_of walk.new ≡ walked mapping.now (walk_of walk.old) (node_here scope level form (object_value (members_of object.now)) ++ nodes_among mapping.now (scope_inside mapping.now scope form (members_of object.now)) level form (members_of object.now))) }
+{
+    let inside = walk.known.scope_inside(mapping, scope, form, object);
+    meet_here(mapping, scope, inside, level, form, value, walk)?;
+    if !has_parts(form) {
+        return Ok(());
+    }
+    Ok(nodes_among(mapping, inside, level, form, object.as_slice(), walk)?)
+}
+
+#[cycle(nodes)]
 #[tactic(auto, using(search_form::specs::Sizes::sizes, crate::proofs::Walked::walks))]
+#[inline(never)]
 fn nodes_in<'a>(
     mapping: &Mapping,
     scope: Option<u32>,

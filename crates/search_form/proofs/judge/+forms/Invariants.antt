@@ -6,13 +6,16 @@ use Rattle.search_form.specs.Texts.{AllAreTexts, EachAreTexts}
 use Rattle.search_form.proofs.judge.+forms.Given as goal
 
 abbrev pub decreases-has_form : goal.decreases-has_form
-decreases-has_form l = 2 * value_size (view l.value.now)
+decreases-has_form l = 3 * value_size (view l.value.now)
 
 abbrev pub decreases-all_have_form : goal.decreases-all_have_form
-decreases-all_have_form l = 2 * elements_size (elements_of (values l.elements.now))
+decreases-all_have_form l = 3 * elements_size (elements_of (values l.elements.now))
+
+abbrev pub decreases-object_has_form : goal.decreases-object_has_form
+decreases-object_has_form l = 3 * members_size (members_of l.object.now) + 1
 
 abbrev pub decreases-choices_among : goal.decreases-choices_among
-decreases-choices_among l = 2 * members_size (members_of (entries l.members.now))
+decreases-choices_among l = 3 * members_size (members_of (entries l.members.now))
 
 -- what is left decides as the whole does
 abbrev pub invariant-all_have_form-elements : goal.invariant-all_have_form-elements

@@ -1,4 +1,4 @@
-use Rattle.std.proofs.Common.{◌≡◌, ◌*◌, drop}
+use Rattle.std.proofs.Common.{◌≡◌, ◌+◌, ◌*◌, drop}
 use Rattle.tree_json.specs.Value.{value_size, elements_size, elements_of, members_size, members_of}
 use Rattle.tree_json.specs.View.{view, values, entries}
 use Rattle.search_walk.specs.Node.{nodes_in, nodes_among}
@@ -6,13 +6,16 @@ use Rattle.search_walk.specs.Walk.{walk_of, walked}
 use Rattle.search_walk.proofs.parts.+nodes.Given as goal
 
 abbrev pub decreases-nodes_at : goal.decreases-nodes_at
-decreases-nodes_at l = 2 * value_size (view l.value.now)
+decreases-nodes_at l = 3 * value_size (view l.value.now)
+
+abbrev pub decreases-object_nodes : goal.decreases-object_nodes
+decreases-object_nodes l = 3 * members_size (members_of l.object.now) + 1
 
 abbrev pub decreases-nodes_in : goal.decreases-nodes_in
-decreases-nodes_in l = 2 * elements_size (elements_of (values l.elements.now))
+decreases-nodes_in l = 3 * elements_size (elements_of (values l.elements.now))
 
 abbrev pub decreases-nodes_among : goal.decreases-nodes_among
-decreases-nodes_among l = 2 * members_size (members_of (entries l.members.now))
+decreases-nodes_among l = 3 * members_size (members_of (entries l.members.now))
 
 -- a walk that goes on over what is left is the walk over the whole
 abbrev pub invariant-nodes_in-elements : goal.invariant-nodes_in-elements

@@ -1,7 +1,7 @@
 use Rattle.std.proofs.Common.{◌∙◌, ◌++◌, ap}
 use Rattle.std.proofs.lemmas.List.Filters.{dedup_is}
 use Rattle.search_walk.proofs.Twice.{is_shorter}
-use Rattle.search_walk.proofs.limit.has_twice.Goals as goal
+use Rattle.search_walk.proofs.limit.some_twice.Goals as goal
 
 pub returns : goal.returns
 returns c =
