@@ -20,3 +20,4 @@ pub mod Ways
 pub mod Reaches
 pub mod Nearby
 pub mod Termed
+pub mod Above

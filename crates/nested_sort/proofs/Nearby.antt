@@ -1,5 +1,5 @@
 -- The hits that have a number within reach are those that a page can show.
-use Rattle.std.specs.Prelude.{◌≡◌, ℕ, suc, ◌+◌, ◌<◌, ◌&&◌, ℤ, pos, Bool, true, false, not, cond, List, [], ◌∷◌, ◌++◌, filter, length, map, get_or, slice_get, IsSomeAnd, Option, Some, None, is_some, option_map, FitsSigned, refl}
+use Rattle.std.specs.Prelude.{◌≡◌, ℕ, suc, ◌+◌, ◌<◌, ◌&&◌, ℤ, pos, Bool, true, false, not, cond, List, [], ◌∷◌, ◌++◌, filter, length, map, get_or, slice_get, IfSome, IsSomeAnd, Option, Some, None, is_some, option_map, FitsSigned, refl}
 use Rattle.std.specs.Cmp.{IsStrictWeakOrder}
 use Rattle.std.specs.Cmp.Lexicographic.{slice_cmp}
 use Rattle.std.specs.Int.{w64}
@@ -45,6 +45,7 @@ use Rattle.nested_sort.specs.declared.reached.NumberClause.{NumberClause}
 use Rattle.nested_sort.specs.declared.reached.NumberClause.TheVariants.{Score, Field}
 use Rattle.nested_sort.proofs.Alike.{by_test}
 use Rattle.nested_sort.proofs.Gathers.{map_flat}
+use Rattle.nested_sort.proofs.Reaches.{read}
 use Rattle.nested_sort.proofs.Termed.{flip, numbers_fail, numbers_fit}
 
 -- keys stand in one order
@@ -269,7 +270,7 @@ filled_long : (score : Option ℕ) (flags : List Bool) → length (filled score 
 filled_long score [] = refl
 filled_long score (flag ∷ flags) = ap suc (filled_long score flags)
 
-cut_long : (marks flags : List Bool) → length marks ≡ length flags → length (intersection marks flags) ≡ length flags
+pub cut_long : (marks flags : List Bool) → length marks ≡ length flags → length (intersection marks flags) ≡ length flags
 cut_long [] [] long = refl
 cut_long [] (flag ∷ flags) long = absurd (omega (arith, long))
 cut_long (mark ∷ marks) [] long = absurd (omega (arith, long))
@@ -308,3 +309,13 @@ module _ (ordered : (one other : ℤ) → FitsSigned w64 one → FitsSigned w64 
       subst (λ (a : Option ℤ). AllByRecursion (λ (z : ℤ). reaches reach.direction (option_map NumberKey a) reach.limit (NumberKey z) ≡ false) (numbers_at c field doc)) (sym some)
       (both_hold (λ z z_out z_fits. reached_behind ordered reach.direction reach.limit z limit_fits z_fits far far_is after after_fits near near_is reach.direction.descending refl z_out) (numbers_at c field doc)
       (numbers_fail field (is_within_by reach.direction.descending (Closed near) (Past far)) (flat_of c doc) out) fits_all)
+
+pub some_more : {A : Type 0} {P Q : A → Type 0} → ((x : A) → P x → Q x) → (o : Option A) → IfSome o P → IfSome o Q
+some_more goes None held = tt
+some_more goes (Some x) held = goes x held
+
+pub cut_there : (view : List EntryState) (at : ℕ) (all near : List (Option ℕ)) (entry : EntryState) (columns : Columns) (q : Question) (reach : Reach) → IsLongAt view at all → entry ≡ get_or view at entry → columns ≡ entry.columns → IsCut columns at q reach all near
+    → IsSomeAnd (slice_get view at) (λ (entry : EntryState). IsCut entry.columns at q reach all near)
+cut_there view at all near entry columns q reach long is same cut =
+    subst (λ (o : Option EntryState). IsSomeAnd o (λ (entry : EntryState). IsCut entry.columns at q reach all near)) (sym (read view at all entry long is))
+    (subst (λ (c : Columns). IsCut c at q reach all near) same cut)

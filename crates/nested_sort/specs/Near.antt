@@ -1,7 +1,8 @@
 -- Serves proofs: the hits whose numbers a page can show, as they are found by the terms of a field.
 use Rattle.std.specs.Prelude.{◌≡◌, ℕ, ℤ, ◌<◌, ◌≤◌, Bool, true, false, ◌&&◌, cond, List, filter, get_or, length, map, slice_get, IsSomeAnd, Option, Some, is_some, option_map, ⊤}
 use Rattle.std.specs.List.{AllByRecursion, count_by, flat_map}
-use Rattle.block_bits.specs.Flags.{intersection}
+use Rattle.block_bits.specs.Flags.{intersection, is_marked}
+use Rattle.block_bits.specs.Places.{next_place}
 use Rattle.block_join.specs.Scores.{filled}
 use Rattle.hit_order.specs.Reach.{is_late, is_near, is_within as is_shown, key_before}
 use Rattle.query_ast.specs.declared.sort.Direction.{Direction}
@@ -53,6 +54,12 @@ inside_numbers columns place q doc = flat_map (numbers_at columns q.field) (docs
 -- no number is within reach
 abbrev pub AreOut : Reach → List ℤ → Type 0
 AreOut reach numbers = AllByRecursion (λ (number : ℤ). reaches reach.direction (option_map NumberKey reach.after) reach.limit (NumberKey number) ≡ false) numbers
+
+-- documents that aren't in a set are of another one, the parents, and none of those inside before `at` has them as the next
+pub record HaveNone (parents inner : List Bool) (at : ℕ) (set : List Bool) : Type 0 where
+  pub long : length set ≡ length parents
+  pub parent : (doc : ℕ) → doc < length parents → get_or set doc false ≡ false → get_or parents doc false ≡ true
+  pub none : (doc inside : ℕ) → doc < length parents → get_or set doc false ≡ false → inside < at → get_or inner inside false ≡ true → next_place is_marked inside parents ≡ Some doc → ⊥
 
 -- documents with one score: those that are left out have no number within reach
 pub record IsCut (columns : Columns) (place : ℕ) (q : Question) (reach : Reach) (all some : List (Option ℕ)) : Type 0 where

@@ -5,6 +5,7 @@ ghost use Rattle.nested_sort.specs.Near.{IsSuited};
 ghost use Rattle.query_ast.specs.declared.sort.Key.{Key as RowKey};
 
 use crate::asked::Asked;
+use crate::inside::scope_documents;
 use crate::modes::is_of_one;
 use crate::near::Reach;
 use crate::reached::NumberClause;
@@ -35,21 +36,14 @@ pub(crate) fn reach_of(
     ensures after { IfSome result (λ reach. option_map RowKey.Number reach.after ≡ option_map (λ row. first_of_row row.now) after.entry) }
 {
     let asked = suited(clause)?;
-    if direction.null_first || !asked.chain.is_empty() {
+    if direction.null_first {
         return None;
     }
     let after = match after {
         None => None,
         Some(row) => Some(first_number(row)?),
     };
-    let limit = limit_of(
-        entries,
-        found,
-        asked.field,
-        direction.descending,
-        after,
-        most,
-    )?;
+    let limit = limit_of(entries, found, asked, direction.descending, after, most)?;
     Some(Reach {
         direction,
         after,
@@ -90,7 +84,7 @@ fn first_number(row: &KeyRow) -> Option<i64>
 fn limit_of(
     entries: &[Entry],
     found: &[Scored],
-    field: u32,
+    asked: &Asked<'_>,
     descending: bool,
     after: Option<i64>,
     most: usize,
@@ -99,7 +93,7 @@ fn limit_of(
     'entries: for at in 0..found.len() {
         if let Some(entry) = entries.get(at) {
             let hits = found[at].set();
-            let own = limit_in(entry.segment(), hits, field, descending, after, most);
+            let own = limit_in(entry.segment(), at, hits, asked, descending, after, most);
             limit = nearer(descending, limit, own);
         }
     }
@@ -124,15 +118,17 @@ fn nearer(descending: bool, one: Option<i64>, other: Option<i64>) -> Option<i64>
 /// The number before which as many hits of a segment stand as a page wants, if few documents have to be looked at.
 fn limit_in(
     segment: &Segment,
+    place: usize,
     hits: &BitSet,
-    field: u32,
+    asked: &Asked<'_>,
     descending: bool,
     after: Option<i64>,
     most: usize,
 ) -> Option<i64> {
+    let way = way_of(segment, place, asked)?;
     let terms = segment.terms();
     let postings = segment.postings();
-    let (first, end) = terms_behind(&terms, field, descending, after);
+    let (first, end) = terms_behind(&terms, asked.field, descending, after);
     let mut room = hits.count() / SHARE;
     let mut found = 0;
     'terms: for step in 0..end - first {
@@ -145,7 +141,7 @@ fn limit_in(
             return number_of(terms.term(ordinal).1);
         }
         room = room.checked_sub(postings.documents(ordinal))?;
-        found = found.saturating_add(hits_of_term(&postings, ordinal, hits));
+        found = found.saturating_add(hits_of_term(&postings, ordinal, &way, hits));
     }
     None
 }
@@ -172,8 +168,56 @@ fn terms_behind(
     }
 }
 
+/// Which document the numbers of one are asked for by.
+#[derive(Drop)]
+enum Way<'a> {
+    /// The document itself.
+    Itself,
+    /// If it is of the first set, the next of the second.
+    Above(&'a BitSet, &'a BitSet),
+}
+
+impl Way<'_> {
+    /// Whether a document's numbers are asked for by one of a set.
+    fn leads_into(&self, doc: u32, hits: &BitSet) -> bool {
+        match self {
+            Way::Itself => is_in(hits, doc),
+            Way::Above(passing, parents) => {
+                if !is_in(passing, doc) {
+                    return false;
+                }
+                match parents.next_set(doc) {
+                    Some(parent) => is_in(hits, parent),
+                    None => false,
+                }
+            }
+        }
+    }
+}
+
+/// Whether a document is in a set.
+fn is_in(set: &BitSet, doc: u32) -> bool {
+    doc < set.len() && set.has(doc)
+}
+
+/// The way up a chain of at most one step, in the entry at a place.
+fn way_of<'a>(segment: &'a Segment, place: usize, asked: &Asked<'a>) -> Option<Way<'a>> {
+    match asked.chain {
+        [] => Some(Way::Itself),
+        [step] => {
+            let passing = if step.filter.is_some() {
+                asked.filters.first()?.as_slice().get(place)?.set()
+            } else {
+                scope_documents(segment, step.scope)?
+            };
+            Some(Way::Above(passing, scope_documents(segment, asked.scope)?))
+        }
+        _ => None,
+    }
+}
+
 /// How many of the hits a term has.
-fn hits_of_term(postings: &PostingsTable<'_>, ordinal: u64, hits: &BitSet) -> usize
+fn hits_of_term(postings: &PostingsTable<'_>, ordinal: u64, way: &Way<'_>, hits: &BitSet) -> usize
     requires { ordinal < length postings.now }
 {
     let mut cursor = postings.cursor(ordinal);
@@ -181,7 +225,7 @@ fn hits_of_term(postings: &PostingsTable<'_>, ordinal: u64, hits: &BitSet) -> us
     let mut count = 0usize;
     'postings: for _ in 0..postings.documents(ordinal) {
         if let Some(doc) = next {
-            if doc < hits.len() && hits.has(doc) {
+            if way.leads_into(doc, hits) {
                 count = count.saturating_add(1);
             }
         }

@@ -193,7 +193,8 @@ fn near_hits(
     clause: &NumberClause<'_>,
     reach: Reach,
 ) -> Result<Option<Scored>, NoMemory>
-    requires { IsLongAt entries.now place found.now }
+    requires long { IsLongAt entries.now place found.now }
+    requires asked { IsAsked entries.now clause.now }
     ensures { IfOk result (λ made. IfSome made (λ near. IsCutAt entries.now place clause.now reach found.now near)) }
 {
     match clause {

@@ -12,8 +12,8 @@ use Rattle.nested_sort.proofs.Nearby.{entry_near, kept_near, keys_ordered, near_
 use Rattle.nested_sort.proofs.Reaches.{entry_more, kept_narrower, kept_none, long_at}
 use Rattle.nested_sort.proofs.reached.near_candidates.Goals as goal
 
-pub near_hits-requires : goal.near_hits-requires
-near_hits-requires c = long_at c.args.entries.now c.args.found.now c.entries.at c.index-found-at.result c.requires.found c.entries-test.true c.index-found-at.is
+pub near_hits-requires-clause-long : goal.near_hits-requires-clause-long
+near_hits-requires-clause-long c = long_at c.args.entries.now c.args.found.now c.entries.at c.index-found-at.result c.requires.found c.entries-test.true c.index-found-at.is
 
 pub add_candidates-requires-clause-long : goal.add_candidates-requires-clause-long
 add_candidates-requires-clause-long c =
