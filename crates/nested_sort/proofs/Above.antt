@@ -5,7 +5,7 @@ use Rattle.std.specs.Option.{option_map_or}
 use Rattle.std.proofs.Common.{arith, ap, sym, subst, ◌∙◌, ltb-true, ltb-false}
 use Rattle.std.proofs.lemmas.Bool.{true≢false}
 use Rattle.std.proofs.lemmas.List.{get_or-drop, get_or-set_same, length-set}
-use Rattle.block_bits.specs.Blocks.{documents_of, has_scope}
+use Rattle.block_bits.specs.Blocks.{documents_of}
 use Rattle.block_bits.specs.Flags.{difference, intersection, is_marked}
 use Rattle.block_bits.specs.Places.{next_place, previous_place}
 use Rattle.block_bits.proofs.Places.{next_place-empty, next_place-first, next_place-is, previous_place-empty, previous_place-is}

@@ -1,4 +1,4 @@
-use Rattle.std.proofs.Common.{◌+◌, arith, ap, length, replicate, subst, sym, true, ◌∙◌}
+use Rattle.std.proofs.Common.{◌+◌, arith, ap, replicate, subst, sym, true, ◌∙◌}
 use Rattle.block_bits.specs.Flags.{difference}
 use Rattle.nested_sort.specs.Near.{HaveNone}
 use Rattle.nested_sort.proofs.Above.{none_added, none_at_all, none_first, none_kept}
