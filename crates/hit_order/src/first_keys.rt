@@ -123,8 +123,8 @@ impl<'a> FirstKeys<'a> {
         }
     }
 
-    /// Whether it doesn't stand behind the bound.
-    fn is_near(&self, key: Option<i64>) -> bool
+    /// Whether it doesn't stand behind the bound of what is within reach, where there is one.
+    pub fn is_near(&self, key: Option<i64>) -> bool
         ensures { result ≡ is_near self.now.direction self.now.bound (number_or_null key) }
     {
         match self.bound {

@@ -31,7 +31,7 @@ flat_none : {D A : Type 0} (f : D → List A) → ((d : D) → f d ≡ []) → (
 flat_none f none [] = refl
 flat_none f none (d ∷ ds) = ap (λ xs. xs ++ flat_map f ds) (none d) ∙ flat_none f none ds
 
-map_flat : {D A B : Type 0} (h : A → B) (f : D → List A) (ds : List D) → map h (flat_map f ds) ≡ flat_map (λ d. map h (f d)) ds
+pub map_flat : {D A B : Type 0} (h : A → B) (f : D → List A) (ds : List D) → map h (flat_map f ds) ≡ flat_map (λ d. map h (f d)) ds
 map_flat h f [] = refl
 map_flat h f (d ∷ ds) = map-append h (f d) (flat_map f ds) ∙ ap (λ xs. map h (f d) ++ xs) (map_flat h f ds)
 

@@ -18,3 +18,6 @@ pub mod Shown
 pub mod Tables
 pub mod Ways
 pub mod Reaches
+pub mod Nearby
+pub mod Termed
+pub mod Above

@@ -44,7 +44,7 @@ doc_at [] place doc scores long low = absurd long
 doc_at (e ∷ view) zero doc scores long low = subst (λ count. doc < count) long low
 doc_at (e ∷ view) (suc place) doc scores long low = doc_at view place doc scores long low
 
-read : (view : List EntryState) (place : ℕ) (scores : List (Option ℕ)) (entry : EntryState) → IsLongAt view place scores → entry ≡ get_or view place entry → slice_get view place ≡ Some entry
+pub read : (view : List EntryState) (place : ℕ) (scores : List (Option ℕ)) (entry : EntryState) → IsLongAt view place scores → entry ≡ get_or view place entry → slice_get view place ≡ Some entry
 read [] place scores entry long is = absurd long
 read (e ∷ view) zero scores entry long is = ap (λ (own : EntryState). Some own) (sym is)
 read (e ∷ view) (suc place) scores entry long is = read view place scores entry long is

@@ -3,8 +3,10 @@
 pub mod Filters
 pub mod Keyed
 pub mod Listed
--- For proofs alone: the documents inside a document, the keys by documents, and the best of values.
+-- For proofs alone: the documents inside a document, the keys by documents, the best of values, and the hits that a page
+-- can show.
 pub mod Inside
 pub mod Documents
 pub mod Best
 pub mod Reached
+pub mod Near

@@ -74,7 +74,7 @@ fn gather_step<T: ColumnValue>(
 
 /// The documents that a step may lead to; None where there are none.
 #[tactic(auto, using(crate::proofs::Ways::ways))]
-fn passing_set<'a>(
+pub(crate) fn passing_set<'a>(
     segment: &'a Segment,
     place: usize,
     step: &Chain,

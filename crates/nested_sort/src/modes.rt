@@ -2,6 +2,7 @@
 ghost use Rattle.std.specs.Prelude.{◌≡◌, ◌<◌, ◌≤◌, ◌^◌, ◌-◌, ◌*◌, ◌/◌, ◌+ℤ◌, ◌-ℤ◌, ◌≤ℤ◌, [], ◌∷◌, ℤ, Some, pos, fold, get_or, length, map, option_map, vec_len, IfOk, IsTrue};
 ghost use Rattle.nested_sort.specs.Best.{best, is_before, is_behind, ordinal_by};
 ghost use Rattle.nested_sort.specs.Documents.{number_value};
+ghost use Rattle.nested_sort.specs.Near.{IsPick};
 ghost use Rattle.query_ast.specs.SortKey.{median, mode_value};
 ghost use Rattle.score_math.specs.Integers.{floor_div};
 
@@ -26,9 +27,10 @@ pub(crate) fn number_of(mode: SortMode, values: &mut Vec<i64>) -> Result<Option<
     Ok(some_number(mode, values)?)
 }
 
-/// Whether a number that stands alone is known to stand for itself.
+/// Whether the number that stands for several is one of them, so that one alone stands for itself.
 pub(crate) fn is_of_one(mode: SortMode) -> bool
-    ensures { IsTrue result → (number : ℤ) → mode_value mode (number_value number ∷ []) ≡ Some (number_value number) }
+    ensures alone { IsTrue result → (number : ℤ) → mode_value mode (number_value number ∷ []) ≡ Some (number_value number) }
+    ensures pick { IsTrue result → IsPick mode }
 {
     match mode {
         SortMode::Min => true,

@@ -22,3 +22,9 @@ impl From<hit_order::NoMemory> for NoMemory {
         NoMemory
     }
 }
+
+impl From<block_bits::NoMemory> for NoMemory {
+    fn from(_: block_bits::NoMemory) -> NoMemory {
+        NoMemory
+    }
+}

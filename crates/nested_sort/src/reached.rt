@@ -1,9 +1,11 @@
 //! The hits that a page can show, by their first keys: those out of reach get no row.
-ghost use Rattle.std.specs.Prelude.{◌≡◌, ◌++◌, ◌∷◌, ◌<◌, ℕ, Bool, List, [], None, filter, option_map, Option, IfOk, IfSome, OnOk};
+ghost use Rattle.std.specs.Prelude.{◌≡◌, ◌++◌, ◌∷◌, ◌<◌, ℕ, Bool, List, [], None, false, filter, option_map, Option, IfOk, IfSome, OnOk};
 ghost use Rattle.std.specs.List.{All, flat_map};
+ghost use Rattle.hit_order.specs.Reach.{first_of_row};
 ghost use Rattle.hit_order.specs.Table.{number_or_null};
 ghost use Rattle.nested_sort.specs.Documents.{AllLong, clause_key};
 ghost use Rattle.nested_sort.specs.Listed.{IsCapped};
+ghost use Rattle.nested_sort.specs.Near.{IsCutAt, IsSuited};
 ghost use Rattle.nested_sort.specs.Reached.{AreKept, HavePages, IsAsked, IsAskedAt, IsColumnOf, IsLongAt, hit_within, key_at, key_by};
 ghost use Rattle.query_ast.specs.Resolved.{AreSorts, IsSortKey};
 ghost use Rattle.query_ast.specs.declared.sort.Direction.{Direction as RowDirection};
@@ -18,13 +20,15 @@ use crate::asked::Asked;
 use crate::clauses::direction_of;
 use crate::hits::{hits_found, next_hit};
 use crate::inside::scope_documents;
+use crate::limit::reach_of;
+use crate::near::{Reach, within_reach};
 use crate::numbers::key_in;
 use crate::row_guess::RowGuess;
 use block_join::{Matches, Scored};
 use doc_values::NumberColumn;
 use hit_order::{FirstKeys, pages_are_of_rows_within_reach};
 use mapping::{Kind, Mapping};
-use query_ast::{KeyRow, Sort, SortKey};
+use query_ast::{Direction, Key as RowKey, KeyRow, Sort, SortKey, rows_stand_in_order};
 use segment::Segment;
 use segment_view::Entry;
 use std::alloc::Global;
@@ -71,8 +75,10 @@ pub(crate) fn hits_within(
         [first, ..] => match number_clause(mapping, filters, scope, first) {
             None => Ok(hits_found(alloc, found)?),
             Some(clause) => {
-                let mut keys = FirstKeys::of(alloc, direction_of(first), after, most);
-                let kept = candidates(alloc, entries, found, &clause, &mut keys)?;
+                let direction = direction_of(first);
+                let (kept, keys) = kept_hits(
+                    alloc, entries, found, &clause, direction, after, most,
+                )?;
                 let hits = within(alloc, kept.as_slice(), &keys)?;
                 Ok(hits)
             }
@@ -105,6 +111,97 @@ fn number_clause<'a>(
                 scope,
                 missing: &sort.missing,
             }))
+        }
+    }
+}
+
+/// The documents with a score that may be within reach, each with its key, and which keys are.
+fn kept_hits<'a>(
+    alloc: Global,
+    entries: &[Entry],
+    found: &[Scored],
+    clause: &NumberClause<'_>,
+    direction: Direction,
+    after: Option<&'a KeyRow>,
+    most: usize,
+) -> Result<(Vec<Candidate>, FirstKeys<'a>), NoMemory>
+    requires asked { IsAsked entries.now clause.now }
+    requires found { AreLong entries.now found.now }
+    ensures { IfOk result (λ kept. AreKept (key_by entries.now clause.now) direction (option_map (λ row. first_of_row row.now) after.entry) most (hits_in found.now) kept.0.items kept.1) }
+{
+    if let Some(reach) = reach_of(entries, found, clause, direction, after, most) {
+        let mut keys = FirstKeys::of(alloc, direction, after, most);
+        if let Some(kept) = near_candidates(alloc, entries, found, clause, reach, &mut keys)? {
+            return Ok((kept, keys));
+        }
+    }
+    let mut keys = FirstKeys::of(alloc, direction, after, most);
+    let kept = candidates(alloc, entries, found, clause, &mut keys)?;
+    Ok((kept, keys))
+}
+
+/// The documents with a score that were within reach when they were met, each with its key, where the hits of the page lie
+/// before a limit; None where they don't, or where this isn't known.
+fn near_candidates(
+    alloc: Global,
+    entries: &[Entry],
+    found: &[Scored],
+    clause: &NumberClause<'_>,
+    reach: Reach,
+    keys: &mut FirstKeys<'_>,
+) -> Result<Option<Vec<Candidate>>, NoMemory>
+    requires asked { IsAsked entries.now clause.now }
+    requires found { AreLong entries.now found.now }
+    requires suited { IsSuited clause.now }
+    requires direction { reach.direction ≡ keys.old.direction }
+    requires null { keys.old.direction.null_first ≡ false }
+    requires after { option_map Key.Number reach.after ≡ keys.old.after }
+    requires none { keys.old.bound ≡ None }
+    requires new { keys.old.keys ≡ [] }
+    ensures { IfOk result (λ found_ones. IfSome found_ones (λ kept. AreKept (key_by entries.now clause.now) keys.old.direction keys.old.after keys.old.most (hits_in found.now) kept.items keys.new)) }
+{
+    rows_stand_in_order::<RowKey>();
+    let mut kept = Vec::new(alloc);
+    let mut values = Vec::new(alloc);
+    'entries: for at in 0..found.len() {
+        let Some(near) = near_hits(alloc, entries, at, &found[at], clause, reach)? else {
+            return Ok(None);
+        };
+        add_candidates(
+            entries,
+            at as u64,
+            &near,
+            clause,
+            keys,
+            &mut kept,
+            &mut values,
+        )?;
+    }
+    keys.narrow();
+    if keys.is_near(Some(reach.limit)) {
+        return Ok(None);
+    }
+    Ok(Some(kept))
+}
+
+/// Of the entry at a place the documents with a score that may be within reach.
+fn near_hits(
+    alloc: Global,
+    entries: &[Entry],
+    place: usize,
+    found: &Scored,
+    clause: &NumberClause<'_>,
+    reach: Reach,
+) -> Result<Option<Scored>, NoMemory>
+    requires long { IsLongAt entries.now place found.now }
+    requires asked { IsAsked entries.now clause.now }
+    ensures { IfOk result (λ made. IfSome made (λ near. IsCutAt entries.now place clause.now reach found.now near)) }
+{
+    match clause {
+        NumberClause::Score => Ok(None),
+        NumberClause::Field(asked) => {
+            let segment = entries[place].segment();
+            Ok(within_reach(alloc, segment, place, found, asked, reach)?)
         }
     }
 }
