@@ -18,7 +18,7 @@ use crate::NoMemory;
 use crate::columns::{count_ordinals, has_most, is_text};
 use crate::distinct::distinct_values;
 use crate::posted::posting_counts;
-use crate::rows::{CountRow, add, merged};
+use crate::rows::{CountRow, add, add_text, merged};
 use block_bits::BitSet;
 use block_join::Matches;
 use doc_values::OrdinalColumn;
@@ -27,7 +27,7 @@ use segment::{Segment, values_are_of_documents};
 use segment_view::Entry;
 use std::alloc::Global;
 use term_table::TermTable;
-use tree_objects::{Bytes, FieldValue};
+use tree_objects::FieldValue;
 
 /// The values of a field of this kind, by ascending value, each with the number of objects that show it.
 pub(crate) fn counted(
@@ -156,8 +156,9 @@ fn put_ordinals(
     ensures counts { (v : Value) → OnOk result (weight v rows.new.items ≡ weight v rows.old.items + count_by (is_term terms.now v) ordinals.now) }
     ensures keys { (kind : Kinds) → is_written kind ≡ true → AreKeys kind rows.old.items → OnOk result (AreKeys kind rows.new.items) }
 {
+    let mut near = 0;
     'ordinals: for at in 0..ordinals.len() {
-        put_term(alloc, terms, ordinals[at], 1, rows)?;
+        put_term(alloc, terms, ordinals[at], 1, &mut near, rows)?;
     }
     Ok(())
 }
@@ -184,8 +185,9 @@ fn put_terms(
     ensures keys { (kind : Kinds) → is_written kind ≡ true → AreKeys kind rows.old.items → OnOk result (AreKeys kind rows.new.items) }
 {
     let _all = terms.count();
+    let mut near = 0;
     'terms: for at in 0..counts.len() {
-        put_term(alloc, terms, first + at as u64, counts[at], rows)?;
+        put_term(alloc, terms, first + at as u64, counts[at], &mut near, rows)?;
     }
     Ok(())
 }
@@ -196,6 +198,7 @@ fn put_term(
     terms: &TermTable,
     ordinal: u64,
     count: u64,
+    near: &mut usize,
     rows: &mut Vec<CountRow>,
 ) -> Result<(), NoMemory>
     requires { ordinal < length terms.now }
@@ -206,8 +209,7 @@ fn put_term(
         return Ok(());
     }
     let (_, bytes) = terms.term(ordinal);
-    let key = FieldValue::Written(Bytes::of(Vec::from_slice(alloc, bytes)?));
-    add(rows, key, count)?;
+    add_text(alloc, rows, near, bytes, count)?;
     Ok(())
 }
 
