@@ -43,7 +43,7 @@ use Rattle.tree_objects.specs.declared.field_value.FieldValue.{FieldValue}
 use Rattle.view_objects.specs.Hits.{live_objects}
 use Rattle.view_objects.specs.Values.{values_shown}
 use Rattle.bucket_aggs.specs.Counts.{AreCounts, AreKeys, count_in, flats_of_view, marked_count, rows_ordered}
-use Rattle.bucket_aggs.specs.Given.{AreAll, AreInside, AreReplies, HaveOwnNumbers, IsAnswer, as_ones, bucket_by, buckets_by, count_by_field, greatest_by, is_given, least_by, more_replies, objects_given, replies_by, reply_by, single_by, sum_by_field, value_by}
+use Rattle.bucket_aggs.specs.Given.{AreAll, AreInside, AreOfValue, AreReplies, HaveOwnNumbers, IsAnswer, as_ones, bucket_by, buckets_by, count_by_field, greatest_by, is_given, least_by, more_replies, objects_given, replies_by, reply_by, single_by, sum_by_field, value_by}
 use Rattle.bucket_aggs.specs.Sums.{IsSummary, numbers_in, values_in}
 use Rattle.bucket_aggs.specs.declared.metrics.Summary.{Summary}
 use Rattle.bucket_aggs.specs.declared.rows.CountRow.{CountRow}
@@ -199,24 +199,31 @@ no_text Plain is = refl
 no_text NestedKind is = refl
 no_text Join is = refl
 
-term_hits : (m : Mapping) (live : List Tree) (f : ℕ) (key : FieldValue) (o : Object) → is_text (kind_at m f) ≡ false → is_some (hit m live (leaf (on_field (Some f) (is_among (key ∷ []))) 1) o) ≡ has_value m (Some f) key o
+pub term_hits : (m : Mapping) (live : List Tree) (f : ℕ) (key : FieldValue) (o : Object) → is_text (kind_at m f) ≡ false → is_some (hit m live (leaf (on_field (Some f) (is_among (key ∷ []))) 1) o) ≡ has_value m (Some f) key o
 unfolding leaf_holds
 term_hits m live f key o plain =
     if_some (list_any (is_one_of (key ∷ [])) (flat_map (terms_of (is_text (kind_at m f))) (values m f o)))
     ∙ ap (λ (b : Bool). list_any (is_one_of (key ∷ [])) (flat_map (terms_of b) (values m f o))) plain
     ∙ one_value (is_one_of (key ∷ [])) (is_same_value key) (λ v. or_false (is_same_value v key) ∙ same_back value_cmp value_total value_exact v key) (values m f o)
 
-pub bucket_is : (m : Mapping) (view : List EntryState) (n f : ℕ) (ds : Definitions Agg) (given : Given) (row : CountRow) (parts : List ReplyPart) → is_text (kind_at m f) ≡ false
-    → IsAnswer m view n (replies_by m ds) (paired_by KeptRule given (score_by m (leaf (on_field (Some f) (is_among (row.key ∷ []))) 1))) parts
-    → IsAnswer m view n (bucket_by m f ds row) given (record { key = row.key; count = row.count; inner = replies_of parts })
-bucket_is m view n f ds given row parts plain answered = record {
+pub of_term : (m : Mapping) (view : List EntryState) (n f : ℕ) (key : FieldValue) (given : Given) (those : List Scores) → is_text (kind_at m f) ≡ false
+    → IsSeen m view n (paired_by KeptRule given (score_by m (leaf (on_field (Some f) (is_among (key ∷ []))) 1))) those → AreOfValue m view n f key given those
+of_term m view n f key given those plain is =
+    let c : Clause = leaf (on_field (Some f) (is_among (key ∷ []))) 1 in
+    record {
+      inner = paired_by KeptRule given (score_by m c);
+      seen = is;
+      are = λ trees stand.
+          let live : List Tree = live_trees trees in
+          filtered_are m n live c (given live) ∙ filter_same (λ o. is_some (hit m live c o)) (has_value m (Some f) key) (λ o. term_hits m live f key o plain) (objects_given m n live (given live));
+    }
+
+pub bucket_is : (m : Mapping) (view : List EntryState) (n f : ℕ) (ds : Definitions Agg) (given : Given) (row : CountRow) (those : List Scores) (parts : List ReplyPart) (are : AreOfValue m view n f row.key given those)
+    → IsAnswer m view n (replies_by m ds) are.inner parts → IsAnswer m view n (bucket_by m f ds row) given (record { key = row.key; count = row.count; inner = replies_of parts })
+bucket_is m view n f ds given row those parts are answered = record {
   is = λ trees stand own.
       let live : List Tree = live_trees trees in
-      let os : List Object = objects_given m n live (given live) in
-      let c : Clause = leaf (on_field (Some f) (is_among (row.key ∷ []))) 1 in
-      ap (λ (l : List ReplyPart). record { key = row.key; count = row.count; inner = replies_of l })
-      (answered.is trees stand own
-      ∙ ap (bucket_replies m live ds) (filtered_are m n live c (given live) ∙ filter_same (λ o. is_some (hit m live c o)) (has_value m (Some f) row.key) (λ o. term_hits m live f row.key o plain) os));
+      ap (λ (l : List ReplyPart). record { key = row.key; count = row.count; inner = replies_of l }) (answered.is trees stand own ∙ ap (bucket_replies m live ds) (are.are trees stand));
 }
 
 pub bucket_alone : (m : Mapping) (view : List EntryState) (n f : ℕ) (given : Given) (row : CountRow) → IsAnswer m view n (bucket_by m f no_definitions row) given (record { key = row.key; count = row.count; inner = replies_of [] })

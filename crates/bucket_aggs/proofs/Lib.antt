@@ -19,4 +19,6 @@ pub mod Told
 pub mod Sums
 pub mod Least
 pub mod Formed
+pub mod Cuts
+pub mod Texts
 pub mod Rooted

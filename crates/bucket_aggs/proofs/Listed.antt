@@ -77,24 +77,24 @@ present_end flags (p ∷ ps) (suc at) is = present_end flags ps at is
 
 -- ---- postings as rows, each with the ordinal alone
 
-abbrev as_row : ℕ → ℕ × List ℕ → ℕ × List ℕ
+abbrev pub as_row : ℕ → ℕ × List ℕ → ℕ × List ℕ
 as_row o posting = (posting.0, o ∷ [])
 
-abbrev as_rows : ℕ → Postings → ColumnRows
+abbrev pub as_rows : ℕ → Postings → ColumnRows
 as_rows o ps = map (as_row o) ps
 
-same_documents : (o : ℕ) (ps : Postings) → documents ps ≡ row_documents (as_rows o ps)
+pub same_documents : (o : ℕ) (ps : Postings) → documents ps ≡ row_documents (as_rows o ps)
 same_documents o [] = refl
 same_documents o (p ∷ ps) = ap (λ (l : List ℕ). p.0 ∷ l) (same_documents o ps)
 
-rows_have : (o doc : ℕ) (ps : Postings) → has_ordinal o (values_of doc (as_rows o ps)) ≡ has_document doc ps
+pub rows_have : (o doc : ℕ) (ps : Postings) → has_ordinal o (values_of doc (as_rows o ps)) ≡ has_document doc ps
 rows_have o doc [] = refl
 rows_have o doc (p ∷ ps) =
     by_test (p.0 == doc)
     (λ held. let itself : (o == o) ≡ true = eq-eqb o o refl in rw (held, itself) refl)
     (λ failed. rw failed (rows_have o doc ps))
 
-row_is : (o : ℕ) (flags : List Bool) (p : ℕ × List ℕ) → row_counts (has_ordinal o) refl flags (as_row o p) ≡ is_posted flags p
+pub row_is : (o : ℕ) (flags : List Bool) (p : ℕ × List ℕ) → row_counts (has_ordinal o) refl flags (as_row o p) ≡ is_posted flags p
 row_is o flags p = let itself : (o == o) ≡ true = eq-eqb o o refl in rw itself (by (get_or flags p.0 false))
   where
     by : (b : Bool) → (b && true) ≡ b
@@ -138,7 +138,7 @@ module _ (columns : Columns) (f : ℕ) (found : ColumnRows) (flags : List Bool) 
       (λ row all. recursion_from_All (IsOrdinalAt (terms_of columns) (postings_of columns) f row.0) row.1 all) found
       (recursion_from_All (λ (row : ℕ × List ℕ). All (IsOrdinalAt (terms_of columns) (postings_of columns) f row.0) row.1) found own))
 
-  posted_same : (o : ℕ) → IsOf (terms_of columns) f o → (doc : ℕ) → has_ordinal o (values_of doc (as_rows o (get_or (postings_of columns) o []))) ≡ has_ordinal o (values_of doc found)
+  pub posted_same : (o : ℕ) → IsOf (terms_of columns) f o → (doc : ℕ) → has_ordinal o (values_of doc (as_rows o (get_or (postings_of columns) o []))) ≡ has_ordinal o (values_of doc found)
   posted_same o of doc =
       let ps : Postings = get_or (postings_of columns) o [] in
       rows_have o doc ps

@@ -42,7 +42,7 @@ module _ (columns : Columns) (kind : Kind) (f : ℕ) where
       ap (λ (b : Bool). cond b (map Written (values_of f (flat_of columns doc).keywords)) (map Number (values_of f (flat_of columns doc).numbers))) plain
       ∙ ap (map Number) (law f doc)
 
-  shown_text : is_written kind ≡ true → HaveKeywords columns → (doc : ℕ) → values_shown kind f (flat_of columns doc) ≡ map Written (map (bytes_at (terms_of columns)) (column_values doc (column_of f columns.ordinals)))
+  pub shown_text : is_written kind ≡ true → HaveKeywords columns → (doc : ℕ) → values_shown kind f (flat_of columns doc) ≡ map Written (map (bytes_at (terms_of columns)) (column_values doc (column_of f columns.ordinals)))
   shown_text written law doc =
       ap (λ (b : Bool). cond b (map Written (values_of f (flat_of columns doc).keywords)) (map Number (values_of f (flat_of columns doc).numbers))) written
       ∙ ap (map Written) (law f doc)

@@ -90,7 +90,7 @@ later_apart terms i j term up first second less =
     let own : Equal ≡ Less = sym (tied_itself term_total term) ∙ ap (λ t. term_cmp t term) (sym here) ∙ ap (term_cmp (get_or terms i term)) (sym there) ∙ before in
     let no : ⊥ = cc in no
 
-one_place : (terms : TermList) (i j : ℕ) (term : ℕ × List ℕ) → AreAscending terms → slice_get terms i ≡ Some term → slice_get terms j ≡ Some term → i ≡ j
+pub one_place : (terms : TermList) (i j : ℕ) (term : ℕ × List ℕ) → AreAscending terms → slice_get terms i ≡ Some term → slice_get terms j ≡ Some term → i ≡ j
 one_place terms i j term up first second =
     by_test (i == j)
     (λ held. eqb-true i j held)

@@ -1,11 +1,11 @@
 -- Rows of keys with their counts, put together by key.
-use Rattle.std.proofs.Common.{◌≡◌, ℕ, suc, ◌+◌, ◌<◌, Bool, true, false, cond, List, [], ◌∷◌, ◌++◌, get_or, refl, sym, ap, subst, ◌∙◌, arith, append_assoc}
+use Rattle.std.proofs.Common.{◌≡◌, ℕ, zero, suc, ◌+◌, ◌<◌, Bool, true, false, cond, List, [], ◌∷◌, ◌++◌, get_or, length, set, refl, sym, ap, subst, ◌∙◌, arith, append_assoc}
 use Rattle.std.specs.Cmp.{IsStrictWeakOrder}
 use Rattle.std.specs.List.Sorted.{IsPermutation, IsSortedBy}
 use Rattle.std.proofs.lemmas.Bool.{false≢true}
 use Rattle.std.proofs.lemmas.List.Elements.{recursion_from_All, All-from_recursion}
 use Rattle.std.proofs.lemmas.List.Sorted.{All-permutation, ranks_by, sorted_far, sum_by-IsPermutation}
-use Rattle.std.proofs.lemmas.List.Sums.{sum_by-cons}
+use Rattle.std.proofs.lemmas.List.Sums.{sum_by-cons, sum_by_push}
 use Rattle.tree_objects.specs.declared.field_value.FieldValue.{FieldValue}
 use Rattle.mapping_body.specs.declared.kind.Kind.{Kind}
 use Rattle.query_ast.specs.Uses.{IsValueOf}
@@ -49,6 +49,43 @@ keys_added kind key count [] is some h = ((is, some), tt)
 keys_added kind key count (row ∷ []) is some h =
     by_test (is_same_value row.key key) (λ held. rw held ((h.0.0, omega (arith, some)), tt)) (λ failed. rw failed (h.0, ((is, some), tt)))
 keys_added kind key count (row ∷ next ∷ rows) is some h = (h.0, keys_added kind key count (next ∷ rows) is some h.1)
+
+-- ---- a count more for a row at a place, or a row more
+
+sum_if : (b : Bool) (count more : ℕ) → cond {A = ℕ} b (count + more) 0 ≡ cond b count 0 + cond b more 0
+sum_if true count more = refl
+sum_if false count more = refl
+
+abbrev pub with_more : CountRow → ℕ → CountRow
+with_more row sum = record { key = row.key; count = sum }
+
+pub weight_set : (v : FieldValue) (rows : Rows) (at : ℕ) (old : CountRow) (more sum : ℕ) → at < length rows → old ≡ get_or rows at old → sum ≡ old.count + more
+    → weight v (set rows at (with_more old sum)) ≡ weight v rows + cond (is_same_value v old.key) more 0
+weight_set v [] at old more sum low is new = absurd (omega (arith, low))
+weight_set v (row ∷ rows) zero old more sum low is new =
+    omega (
+      arith,
+      sum_by-cons (weight_in v) (with_more old sum) rows,
+      sum_by-cons (weight_in v) row rows,
+      ap (λ (n : ℕ). cond {A = ℕ} (is_same_value v old.key) n 0) new,
+      sum_if (is_same_value v old.key) old.count more,
+      ap (weight_in v) is,
+    )
+weight_set v (row ∷ rows) (suc at) old more sum low is new =
+    omega (arith, sum_by-cons (weight_in v) row (set rows at (with_more old sum)), sum_by-cons (weight_in v) row rows, weight_set v rows at old more sum (omega (arith, low)) is new)
+
+pub keys_set : (kind : Kind) (rows : Rows) (at : ℕ) (old : CountRow) (more sum : ℕ) → at < length rows → old ≡ get_or rows at old → sum ≡ old.count + more → AreKeys kind rows → AreKeys kind (set rows at (with_more old sum))
+keys_set kind [] at old more sum low is new h = tt
+keys_set kind (row ∷ rows) zero old more sum low is new h =
+    ((subst (λ (r : CountRow). IsValueOf kind r.key) (sym is) h.0.0, omega (arith, new, h.0.1, ap (λ (r : CountRow). r.count) is)), h.1)
+keys_set kind (row ∷ rows) (suc at) old more sum low is new h = (h.0, keys_set kind rows at old more sum (omega (arith, low)) is new h.1)
+
+pub weight_pushed : (v key : FieldValue) (count : ℕ) (rows : Rows) → weight v (rows ++ record { key = key; count = count } ∷ []) ≡ weight v rows + cond (is_same_value v key) count 0
+weight_pushed v key count rows = sum_by_push (weight_in v) rows (record { key = key; count = count })
+
+pub keys_pushed : (kind : Kind) (key : FieldValue) (count : ℕ) (rows : Rows) → IsValueOf kind key → 0 < count → AreKeys kind rows → AreKeys kind (rows ++ record { key = key; count = count } ∷ [])
+keys_pushed kind key count [] is some h = ((is, some), tt)
+keys_pushed kind key count (row ∷ rows) is some h = (h.0, keys_pushed kind key count rows is some h.1)
 
 -- the last row is looked at alone
 pub added_last : (key : FieldValue) (count : ℕ) (front : Rows) (last : CountRow) → added key count (front ++ last ∷ []) ≡ front ++ added key count (last ∷ [])

@@ -1,5 +1,5 @@
 -- Keys with their counts: of how many documents each is a value.
-use Rattle.std.specs.Prelude.{◌≡◌, ℕ, zero, suc, ◌+◌, ◌==◌, ◌<◌, nat_lt, Bool, true, false, if◌then◌else◌, List, [], ◌∷◌, map, reverse, length, get_or, count_by, sum_by, ℤ, Option, Some, None, is_some, ◌++◌, ⊤}
+use Rattle.std.specs.Prelude.{◌≡◌, ℕ, zero, suc, ◌+◌, ◌==◌, ◌<◌, nat_lt, Bool, true, false, ◌&&◌, cond, if◌then◌else◌, List, [], ◌∷◌, map, reverse, length, get_or, count_by, sum_by, ℤ, Option, Some, None, is_some, ◌++◌, ⊤}
 use Rattle.std.specs.Ordering.{int_cmp, is_eq}
 use Rattle.std.specs.declared.cmp.Ordering.{Ordering}
 use Rattle.std.specs.List.{AllByRecursion, list_any}
@@ -8,12 +8,15 @@ use Rattle.mapping_body.specs.declared.kind.Kind.{Kind}
 use Rattle.query_ast.specs.Compare.{is_less, is_same_value, in_order}
 use Rattle.query_ast.specs.Uses.{IsValueOf}
 use Rattle.segment.specs.Flat.{FlatDocument, bytes_at, flat_of}
+use Rattle.postings.specs.Marks.{has_document}
 use Rattle.segment.specs.Live.{EntryState}
+use Rattle.segment_parts.specs.Lists.{postings_of}
 use Rattle.segment_parts.specs.Text.{marked_places}
 use Rattle.segment_parts.specs.declared.columns.Columns.{Columns}
 use Rattle.tree_objects.specs.declared.field_value.FieldValue.{FieldValue}
 use Rattle.tree_objects.specs.declared.field_value.FieldValue.TheVariants.{Number, Written}
 use Rattle.view_objects.specs.Values.{values_shown}
+use Rattle.bucket_aggs.specs.declared.posted.TermSet.{TermSet}
 use Rattle.bucket_aggs.specs.declared.rows.CountRow.{CountRow}
 
 -- ---- documents
@@ -123,6 +126,48 @@ added key count (row ∷ []) =
     if is_same_value row.key key then record { key = row.key; count = row.count + count } ∷ []
     else row ∷ record { key = key; count = count } ∷ []
 added key count (row ∷ next ∷ rows) = row ∷ added key count (next ∷ rows)
+
+-- ---- documents that show a value
+
+-- the scores of the documents that pass a test, the first document having a number
+abbrev pub passed_from : (ℕ → Bool) → ℕ → List (Option ℕ) → List (Option ℕ)
+passed_from test start [] = []
+passed_from test start (score ∷ scores) = cond (test start) score None ∷ passed_from test (start + 1) scores
+
+-- those of an entry, and of all entries, by what the documents show
+abbrev pub passed_in : (FlatDocument → Bool) → Columns → List (Option ℕ) → List (Option ℕ)
+passed_in test columns scores = passed_from (λ doc. test (flat_of columns doc)) 0 scores
+
+abbrev pub passed_of_view : (FlatDocument → Bool) → List EntryState → List (List (Option ℕ)) → List (List (Option ℕ))
+passed_of_view test [] scores = []
+passed_of_view test (entry ∷ entries) [] = []
+passed_of_view test (entry ∷ entries) (scores ∷ more) = passed_in test entry.columns scores ∷ passed_of_view test entries more
+
+-- of the documents of a set those that show a value
+pub record IsShownSet (columns : Columns) (kind : Kind) (f : ℕ) (v : FieldValue) (flags own : List Bool) : Type 0 where
+  pub long : length own ≡ length flags
+  pub marked : (doc : ℕ) → doc < length flags → get_or own doc false ≡ (get_or flags doc false && shows kind f v (flat_of columns doc))
+
+-- of the documents of a set those that have the term with an ordinal
+pub record IsTermSet (columns : Columns) (flags : List Bool) (ordinal : ℕ) (own : List Bool) : Type 0 where
+  pub long : length own ≡ length flags
+  pub marked : (doc : ℕ) → doc < length flags → get_or own doc false ≡ (get_or flags doc false && has_document doc (get_or (postings_of columns) ordinal []))
+
+abbrev pub IsFoundAt : Columns → List Bool → ℕ → TermSet → Type 0
+IsFoundAt columns flags entry it = (it.entry ≡ entry) × IsTermSet columns flags it.ordinal it.documents
+
+-- to what was found some of one entry is added
+pub record AreFound (columns : Columns) (flags : List Bool) (entry : ℕ) (old new : List TermSet) : Type 0 where
+  pub own : List TermSet
+  pub each : AllByRecursion (IsFoundAt columns flags entry) own
+  pub is : new ≡ old ++ own
+
+-- what was found of entries
+pub record IsKnown (view : List EntryState) (scores : List (List (Option ℕ))) (it : TermSet) : Type 0 where
+  pub is : (entry : EntryState) (own : List (Option ℕ)) → it.entry < length view → entry ≡ get_or view it.entry entry → own ≡ get_or scores it.entry own → IsTermSet entry.columns (map is_some own) it.ordinal it.documents
+
+abbrev pub AreKnown : List EntryState → List (List (Option ℕ)) → List TermSet → Type 0
+AreKnown view scores found = AllByRecursion (IsKnown view scores) found
 
 -- ---- the order of rows
 

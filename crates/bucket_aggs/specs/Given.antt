@@ -17,6 +17,7 @@ use Rattle.block_join.specs.declared.rule.Rule.TheVariants.{Kept}
 use Rattle.segment.specs.Live.{EntryState}
 use Rattle.tree_objects.specs.Object.{Object}
 use Rattle.tree_objects.specs.Tree.{Tree}
+use Rattle.tree_objects.specs.declared.field_value.FieldValue.{FieldValue}
 use Rattle.view_objects.specs.Hits.{live_objects}
 use Rattle.bucket_aggs.specs.declared.rows.CountRow.{CountRow}
 
@@ -92,3 +93,9 @@ pub record AreInside (m : Mapping) (view : List EntryState) (n p : ℕ) (given :
   pub inner : List Tree → Object → Option ℕ
   pub seen : IsSeen m view p inner those
   pub are : (trees : List (List (Marked Tree))) → ViewStandsFor m view trees → objects_given m p (live_trees trees) (inner (live_trees trees)) ≡ flat_map (below_at m p) (objects_given m n (live_trees trees) (given (live_trees trees)))
+
+-- these are the objects of a scope that are given something and show a value
+pub record AreOfValue (m : Mapping) (view : List EntryState) (n f : ℕ) (v : FieldValue) (given : List Tree → Object → Option ℕ) (those : List (List (Option ℕ))) : Type 0 where
+  pub inner : List Tree → Object → Option ℕ
+  pub seen : IsSeen m view n inner those
+  pub are : (trees : List (List (Marked Tree))) → ViewStandsFor m view trees → objects_given m n (live_trees trees) (inner (live_trees trees)) ≡ filter (has_value m (Some f) v) (objects_given m n (live_trees trees) (given (live_trees trees)))

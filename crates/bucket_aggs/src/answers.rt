@@ -14,14 +14,16 @@ ghost use Rattle.mapping.specs.Mapping.{Mapping as Meaning, IsAbove, kind_at};
 ghost use Rattle.query_eval.specs.Found.{AreLong, IsSeen};
 ghost use Rattle.tree_objects.specs.Object.{Object};
 ghost use Rattle.tree_objects.specs.Tree.{Tree};
-ghost use Rattle.bucket_aggs.specs.Counts.{AreKeys};
-ghost use Rattle.bucket_aggs.specs.Given.{AreReplies, IsAnswer, bucket_by, buckets_by, count_by_field, greatest_by, least_by, more_replies, reply_by, single_by, sum_by_field, value_by};
+ghost use Rattle.bucket_aggs.specs.Counts.{AreKeys, AreKnown};
+ghost use Rattle.bucket_aggs.specs.Given.{AreOfValue, AreReplies, IsAnswer, bucket_by, buckets_by, count_by_field, greatest_by, least_by, more_replies, reply_by, single_by, sum_by_field, value_by};
 ghost use Rattle.bucket_aggs.specs.Sums.{IsKept};
 
 use crate::NoMemory;
 use crate::metrics::{FieldSummary, summed, value_count};
 use crate::objects::{alike, count_of, filtered, have_one_score, inside_of};
+use crate::posted::TermSet;
 use crate::rows::{CountRow, copied, ordered, sum_of_counts};
+use crate::showing::showing;
 use crate::terms::counted;
 use block_join::Matches;
 use join_ordinals::JoinOrdinals;
@@ -36,7 +38,7 @@ use source_steps::Steps;
 use std::alloc::Global;
 use std::sync::ledger::Ledger;
 use tree_joins::objects_are_parted;
-use tree_objects::{Bytes, objects_nest};
+use tree_objects::{Bytes, FieldValue, objects_nest};
 use view_objects::{documents_show_values, hits_are_objects};
 
 /// The answers to definitions of buckets over the objects of a scope that the documents of hits stand for, in the order of the
@@ -493,13 +495,24 @@ fn mapped_terms(
     ensures { (given : List Tree → Object → Option ℕ) → IsSeen mapping.now entries.now scope given objects.now → IfOk result (λ value. IsAnswer mapping.now entries.now scope (value_by mapping.now (AggForm.Terms (Some field) size by_key descending) (definitions_of inner.now)) given (value_of value)) }
 {
     documents_show_values();
-    let rows = counted(alloc, entries, mapping.kind(field), field, objects)?;
+    let inside = !inner.as_slice().is_empty();
+    let mut found = Vec::new(alloc);
+    let rows = counted(
+        alloc,
+        entries,
+        mapping.kind(field),
+        field,
+        objects,
+        inside,
+        &mut found,
+    )?;
     let sorted = ordered(rows, by_key, descending)?;
     let end = sorted.len().min(size as usize);
     let (first, others) = sorted.as_slice().split_at(end);
     let other = sum_of_counts(others)?;
+    let found = found.as_slice();
     let buckets = shown(
-        alloc, entries, mapping, ordinals, field, first, inner, scope, objects,
+        alloc, entries, mapping, ordinals, field, first, inner, scope, objects, found,
     )?;
     Ok(AggValue::Buckets {
         buckets: BucketList::of(buckets),
@@ -519,8 +532,10 @@ fn shown(
     inner: &AggList,
     scope: u32,
     objects: &Matches,
+    found: &[TermSet],
 ) -> Result<Vec<Bucket>, NoMemory>
     requires field { IsUse (λ u. u.sorted) mapping.now (Some field) }
+    requires found { AreKnown entries.now objects.now found.now }
     requires keys { AreKeys (kind_at mapping.now field) rows.now }
     requires resolved { AreAggDefinitions mapping.now scope (definitions_of inner.now) }
     requires joined { some_agg_joins (definitions_of inner.now) ≡ true → AreOrdinals entries.now ordinals.now }
@@ -530,7 +545,7 @@ fn shown(
     let mut buckets = Vec::with_capacity(alloc, rows.len())?;
     'rows: for at in 0..rows.len() {
         let bucket = bucket(
-            alloc, entries, mapping, ordinals, field, &rows[at], inner, scope, objects,
+            alloc, entries, mapping, ordinals, field, &rows[at], inner, scope, objects, found,
         )?;
         buckets.push(bucket)?;
     }
@@ -549,8 +564,10 @@ fn bucket(
     inner: &AggList,
     scope: u32,
     objects: &Matches,
+    found: &[TermSet],
 ) -> Result<Bucket, NoMemory>
     requires field { IsUse (λ u. u.sorted) mapping.now (Some field) }
+    requires found { AreKnown entries.now objects.now found.now }
     requires key { IsValueOf (kind_at mapping.now field) row.now.key }
     requires resolved { AreAggDefinitions mapping.now scope (definitions_of inner.now) }
     requires joined { some_agg_joins (definitions_of inner.now) ≡ true → AreOrdinals entries.now ordinals.now }
@@ -566,13 +583,9 @@ fn bucket(
             inner: AggReplies::of(Vec::new(alloc)),
         });
     }
-    let value = copied(alloc, &row.key)?;
-    let query = Query::Term {
-        field: Some(field),
-        value,
-        boost: 1,
-    };
-    let those = kept_hits(alloc, entries, mapping, &query, scope, objects)?;
+    let those = of_value(
+        alloc, entries, mapping, field, &row.key, scope, objects, found,
+    )?;
     let replies = replies(
         alloc,
         entries,
@@ -587,6 +600,41 @@ fn bucket(
         count,
         inner: AggReplies::of(replies),
     })
+}
+
+/// Of the objects those that show a value of a field.
+fn of_value(
+    alloc: Global,
+    entries: &[Entry],
+    mapping: &Mapping,
+    field: u32,
+    key: &FieldValue,
+    scope: u32,
+    objects: &Matches,
+    found: &[TermSet],
+) -> Result<Matches, NoMemory>
+    requires field { IsUse (λ u. u.sorted) mapping.now (Some field) }
+    requires key { IsValueOf (kind_at mapping.now field) key.now }
+    requires long { AreLong entries.now objects.now }
+    requires found { AreKnown entries.now objects.now found.now }
+    ensures long { IfOk result (AreLong entries.now) }
+    ensures those { (given : List Tree → Object → Option ℕ) → IsSeen mapping.now entries.now scope given objects.now → IfOk result (AreOfValue mapping.now entries.now scope field key.now given) }
+{
+    documents_show_values();
+    match key {
+        FieldValue::Written(text) => {
+            let kind = mapping.kind(field);
+            Ok(showing(alloc, entries, kind, field, text.as_slice(), objects, found)?)
+        }
+        FieldValue::Number(number) => {
+            let query = Query::Term {
+                field: Some(field),
+                value: FieldValue::Number(*number),
+                boost: 1,
+            };
+            Ok(kept_hits(alloc, entries, mapping, &query, scope, objects)?)
+        }
+    }
 }
 
 /// The least value of a field; None where there is none.

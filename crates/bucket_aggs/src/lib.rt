@@ -14,6 +14,7 @@ mod no_memory;
 mod objects;
 mod posted;
 mod rows;
+mod showing;
 mod terms;
 
 pub use answers::buckets;

@@ -1,10 +1,13 @@
 //! Keys with their counts: put together by key, and in the order that is asked for.
 
-ghost use Rattle.std.specs.Prelude.{◌≡◌, true, false, reverse, sum_by, IfOk, OnOk};
+ghost use Rattle.std.specs.Prelude.{◌≡◌, ◌<◌, ◌+◌, true, false, length, reverse, slice_index_or, sum_by, IfOk, IfSome, IsTrue, OnOk};
 ghost use Rattle.mapping_body.specs.declared.kind.Kind.{Kind};
 ghost use Rattle.query_ast.specs.Compare.{in_order, value_cmp};
+ghost use Rattle.query_ast.specs.Uses.{is_written};
 ghost use Rattle.tree_objects.specs.declared.field_value.FieldValue.{FieldValue as Value};
-ghost use Rattle.bucket_aggs.specs.Counts.{AreKeys, KeysAscend, added, count_in, row_first, rows_ordered, weight};
+ghost use Rattle.tree_objects.specs.declared.field_value.FieldValue.TheVariants.{Written};
+ghost use Rattle.bucket_aggs.specs.Counts.{AreKeys, KeysAscend, added, count_if, count_in, row_first, rows_ordered, weight};
+ghost use Rattle.bucket_aggs.specs.declared.rows.CountRow.{CountRow as Row};
 
 use crate::NoMemory;
 use query_ast::rows_stand_in_order;
@@ -74,6 +77,81 @@ pub(crate) fn add(rows: &mut Vec<CountRow>, key: FieldValue, count: u64) -> Resu
             Ok(())
         }
     }
+}
+
+/// How many rows are looked at for a text, from the place on where the one before it was found.
+const NEAR_ROWS: usize = 4;
+
+/// Adds a count to the row of a text, where that is near a place or the last, else as a new row. No text is copied for a row
+/// that is there: the terms of one segment are mostly those of the segment before, in one order.
+pub(crate) fn add_text(
+    alloc: Global,
+    rows: &mut Vec<CountRow>,
+    near: &mut usize,
+    text: &[u8],
+    count: u64,
+) -> Result<(), NoMemory>
+    requires { 0 < count }
+    ensures counts { (v : Value) → OnOk result (weight v rows.new.items ≡ weight v rows.old.items + count_if v (Written text.now) count) }
+    ensures keys { (kind : Kind) → is_written kind ≡ true → AreKeys kind rows.old.items → OnOk result (AreKeys kind rows.new.items) }
+{
+    let end = near.saturating_add(NEAR_ROWS);
+    match row_of(rows.as_slice(), *near, end, text) {
+        Some(at) => {
+            if at < end {
+                *near = at;
+            }
+            add_at(rows, at, count)?;
+            Ok(())
+        }
+        None => {
+            let key = FieldValue::Written(Bytes::of(Vec::from_slice(alloc, text)?));
+            rows.push(CountRow { key, count })?;
+            Ok(())
+        }
+    }
+}
+
+/// The place of a row of a text, if it is one of those from `near` up to `end`, or the last.
+fn row_of(rows: &[CountRow], near: usize, end: usize, text: &[u8]) -> Option<usize>
+    ensures within { IfSome result (λ at. at < length rows.now) }
+    ensures key { IfSome result (λ at. (d : Row) → (slice_index_or rows.now at d).key ≡ Written text.now) }
+{
+    'rows: for at in near..end.min(rows.len()) {
+        if is_of(&rows[at].key, text) {
+            return Some(at);
+        }
+    }
+    let last = rows.len().checked_sub(1)?;
+    if is_of(&rows[last].key, text) {
+        Some(last)
+    } else {
+        None
+    }
+}
+
+/// Whether a key is a text.
+fn is_of(key: &FieldValue, text: &[u8]) -> bool
+    ensures { IsTrue result → key.now ≡ Written text.now }
+{
+    match key {
+        FieldValue::Number(_) => false,
+        FieldValue::Written(own) => own.as_slice() == text,
+    }
+}
+
+/// Adds a count to a row.
+fn add_at(rows: &mut Vec<CountRow>, at: usize, count: u64) -> Result<(), NoMemory>
+    requires { at < length rows.old.items }
+    ensures counts { (v : Value) (d : Row) → OnOk result (weight v rows.new.items ≡ weight v rows.old.items + count_if v (slice_index_or rows.old.items at d).key count) }
+    ensures keys { (kind : Kind) → AreKeys kind rows.old.items → OnOk result (AreKeys kind rows.new.items) }
+{
+    let row = &mut rows[at];
+    let Some(sum) = row.count.checked_add(count) else {
+        return Err(NoMemory);
+    };
+    row.count = sum;
+    Ok(())
 }
 
 /// One row for each key, by ascending key, with the sum of its counts.

@@ -1,6 +1,6 @@
 //! The values of a field over all entries of a view, each with the number of objects that show it.
 
-ghost use Rattle.std.specs.Prelude.{◌≡◌, ◌<◌, ◌≤◌, ◌+◌, ◌-◌, true, false, count_by, length, map, replicate, IfOk, OnOk, Some};
+ghost use Rattle.std.specs.Prelude.{◌≡◌, ◌<◌, ◌≤◌, ◌+◌, ◌-◌, [], true, false, count_by, length, map, replicate, IfOk, OnOk, Some};
 ghost use Rattle.std.specs.List.{AllByRecursion};
 ghost use Rattle.doc_values.specs.Values.{values_of};
 ghost use Rattle.mapping_body.specs.declared.kind.Kind.{Kind as Kinds};
@@ -12,13 +12,13 @@ ghost use Rattle.segment_parts.specs.Lists.{terms_of};
 ghost use Rattle.segment_parts.specs.Text.{marked_places};
 ghost use Rattle.term_table.specs.Ranges.{IsRange, is_of_field};
 ghost use Rattle.tree_objects.specs.declared.field_value.FieldValue.{FieldValue as Value};
-ghost use Rattle.bucket_aggs.specs.Counts.{AreCounts, AreKeys, Counted, Weighed, count_if, counts_of, flats_of_view, is_number, is_term, term_key, weight};
+ghost use Rattle.bucket_aggs.specs.Counts.{AreCounts, AreFound, AreKeys, AreKnown, Counted, Weighed, count_if, counts_of, flats_of_view, is_number, is_term, term_key, weight};
 
 use crate::NoMemory;
 use crate::columns::{count_ordinals, has_most, is_text};
 use crate::distinct::distinct_values;
-use crate::posted::posting_counts;
-use crate::rows::{CountRow, add, merged};
+use crate::posted::{TermSet, posting_counts, posting_sets};
+use crate::rows::{CountRow, add, add_text, merged};
 use block_bits::BitSet;
 use block_join::Matches;
 use doc_values::OrdinalColumn;
@@ -27,18 +27,23 @@ use segment::{Segment, values_are_of_documents};
 use segment_view::Entry;
 use std::alloc::Global;
 use term_table::TermTable;
-use tree_objects::{Bytes, FieldValue};
+use tree_objects::FieldValue;
 
-/// The values of a field of this kind, by ascending value, each with the number of objects that show it.
+/// The values of a field of this kind, by ascending value, each with the number of objects that show it. Where they are to be
+/// kept, the documents of the terms of a field with few are added to those found.
 pub(crate) fn counted(
     alloc: Global,
     entries: &[Entry],
     kind: Kind,
     field: u32,
     objects: &Matches,
+    keep: bool,
+    found: &mut Vec<TermSet>,
 ) -> Result<Vec<CountRow>, NoMemory>
-    requires { AreLong entries.now objects.now }
-    ensures { IfOk result (λ rows. AreCounts kind field (flats_of_view entries.now objects.now) rows.items) }
+    requires long { AreLong entries.now objects.now }
+    requires none { found.old.items ≡ [] }
+    ensures counts { IfOk result (λ rows. AreCounts kind field (flats_of_view entries.now objects.now) rows.items) }
+    ensures found { OnOk result (AreKnown entries.now objects.now found.new.items) }
 {
     let objects = objects.as_slice();
     let mut rows = Vec::new(alloc);
@@ -49,6 +54,9 @@ pub(crate) fn counted(
             kind,
             field,
             objects[at].set(),
+            at,
+            keep,
+            found,
             &mut rows,
         )?;
     }
@@ -62,16 +70,21 @@ fn add_rows(
     kind: Kind,
     field: u32,
     set: &BitSet,
+    entry: usize,
+    keep: bool,
+    found: &mut Vec<TermSet>,
     rows: &mut Vec<CountRow>,
 ) -> Result<(), NoMemory>
+    ensures found { OnOk result (AreFound segment.now set.now entry found.old.items found.new.items) }
     ensures counts { OnOk result (Weighed kind field (map (flat_of segment.now) (marked_places 0 set.now)) rows.old.items rows.new.items) }
     ensures keys { AreKeys kind rows.old.items → OnOk result (AreKeys kind rows.new.items) }
 {
     if is_text(kind) {
-        add_texts(alloc, segment, kind, field, set, rows)
-    } else {
-        add_numbers(alloc, segment, kind, field, set, rows)
+        add_texts(alloc, segment, kind, field, set, entry, keep, found, rows)?;
+        return Ok(());
     }
+    add_numbers(alloc, segment, kind, field, set, rows)?;
+    Ok(())
 }
 
 /// How many terms of a field there may be for each document of a set where a count is kept for each term.
@@ -85,9 +98,13 @@ fn add_texts(
     kind: Kind,
     field: u32,
     set: &BitSet,
+    entry: usize,
+    keep: bool,
+    found: &mut Vec<TermSet>,
     rows: &mut Vec<CountRow>,
 ) -> Result<(), NoMemory>
     requires { is_written kind ≡ true }
+    ensures found { OnOk result (AreFound segment.now set.now entry found.old.items found.new.items) }
     ensures counts { OnOk result (Weighed kind field (map (flat_of segment.now) (marked_places 0 set.now)) rows.old.items rows.new.items) }
     ensures keys { AreKeys kind rows.old.items → OnOk result (AreKeys kind rows.new.items) }
 {
@@ -108,13 +125,23 @@ fn add_texts(
         put_ordinals(alloc, &terms, sorted, rows)?;
         return Ok(());
     }
-    let counts = term_counts(alloc, segment, field, set, &column, first, end)?;
+    let counts = term_counts(
+        alloc, segment, field, set, &column, first, end, entry, keep, found,
+    )?;
     put_terms(alloc, &terms, first, counts.as_slice(), rows)?;
     Ok(())
 }
 
 /// How many documents of a set there have to be for each term of a field where the terms are counted by their postings.
 const DOCUMENTS_EACH: u64 = 8;
+
+/// How many terms a field may have in a segment where their documents are kept.
+const KEPT_TERMS: u64 = 16;
+
+/// Whether the documents of so many terms are kept: there are few terms, and no more u64s of their sets than documents to count.
+fn are_kept(terms: u64, set: &BitSet) -> bool {
+    terms <= KEPT_TERMS && terms * u64::from(set.len() / 64) <= u64::from(set.count())
+}
 
 /// The counts of the terms of a field in the documents of a set, by ordinal from the field's first up to its end.
 ///
@@ -128,16 +155,23 @@ fn term_counts(
     column: &OrdinalColumn,
     first: u64,
     end: u64,
+    entry: usize,
+    keep: bool,
+    found: &mut Vec<TermSet>,
 ) -> Result<Vec<u64>, NoMemory>
     requires column { column_of field segment.now.ordinals ≡ Some column.now }
     requires ordered { first ≤ end }
     requires within { end ≤ length (terms_of segment.now) }
     requires range { IsRange (is_of_field field) (terms_of segment.now) first end }
-    ensures { IfOk result (λ counts. Counted first (map (λ doc. values_of doc column.now) (marked_places 0 set.now)) (replicate (end - first) 0) counts.items) }
+    ensures counted { IfOk result (λ counts. Counted first (map (λ doc. values_of doc column.now) (marked_places 0 set.now)) (replicate (end - first) 0) counts.items) }
+    ensures found { OnOk result (AreFound segment.now set.now entry found.old.items found.new.items) }
 {
     if has_most(set, column) && end - first < u64::from(set.count()) / DOCUMENTS_EACH {
-        let _agree = segment.docs();
+        let documents = segment.docs();
         let _ascending = segment.terms().count();
+        if keep && are_kept(end - first, set) && set.len() == documents {
+            return Ok(posting_sets(alloc, segment, set, first, end, entry, found)?);
+        }
         return Ok(posting_counts(alloc, set, &segment.postings(), first, end)?);
     }
     let mut counts = no_counts(alloc, (end - first) as usize)?;
@@ -156,8 +190,9 @@ fn put_ordinals(
     ensures counts { (v : Value) → OnOk result (weight v rows.new.items ≡ weight v rows.old.items + count_by (is_term terms.now v) ordinals.now) }
     ensures keys { (kind : Kinds) → is_written kind ≡ true → AreKeys kind rows.old.items → OnOk result (AreKeys kind rows.new.items) }
 {
+    let mut near = 0;
     'ordinals: for at in 0..ordinals.len() {
-        put_term(alloc, terms, ordinals[at], 1, rows)?;
+        put_term(alloc, terms, ordinals[at], 1, &mut near, rows)?;
     }
     Ok(())
 }
@@ -184,8 +219,9 @@ fn put_terms(
     ensures keys { (kind : Kinds) → is_written kind ≡ true → AreKeys kind rows.old.items → OnOk result (AreKeys kind rows.new.items) }
 {
     let _all = terms.count();
+    let mut near = 0;
     'terms: for at in 0..counts.len() {
-        put_term(alloc, terms, first + at as u64, counts[at], rows)?;
+        put_term(alloc, terms, first + at as u64, counts[at], &mut near, rows)?;
     }
     Ok(())
 }
@@ -196,6 +232,7 @@ fn put_term(
     terms: &TermTable,
     ordinal: u64,
     count: u64,
+    near: &mut usize,
     rows: &mut Vec<CountRow>,
 ) -> Result<(), NoMemory>
     requires { ordinal < length terms.now }
@@ -206,8 +243,7 @@ fn put_term(
         return Ok(());
     }
     let (_, bytes) = terms.term(ordinal);
-    let key = FieldValue::Written(Bytes::of(Vec::from_slice(alloc, bytes)?));
-    add(rows, key, count)?;
+    add_text(alloc, rows, near, bytes, count)?;
     Ok(())
 }
 

@@ -6,7 +6,7 @@ use mir.Val.{SFits, of_z, to_z}
 use Rattle.block_join.specs.declared.rule.Rule.TheVariants.{Kept}
 use Rattle.mapping.specs.Mapping.{kind_at}
 use Rattle.mapping_body.specs.declared.kind.Kind.{Kind}
-use Rattle.query_ast.specs.Clause.{Clause, is_among, leaf, on_field}
+use Rattle.query_ast.specs.Clause.{Clause}
 use Rattle.query_ast.specs.Agg.{Agg}
 use Rattle.query_ast.specs.Agg.View.{agg_of}
 use Rattle.query_ast.specs.Definition.{Definition, Definitions, definitions_of, no_definitions}
@@ -14,7 +14,6 @@ use Rattle.query_ast.specs.Replies.{BucketPart, ReplyPart, metric, replies_of}
 use Rattle.query_ast.specs.Replies.View.{bucket_part, reply_part, value_of}
 use Rattle.query_ast.specs.declared.bucket.AggReply.{AggReply}
 use Rattle.query_ast.specs.Resolved.{IsForm}
-use Rattle.query_ast.specs.Uses.{IsValueOf}
 use Rattle.query_ast.specs.declared.agg.AggDef.{AggDef}
 use Rattle.query_ast.specs.declared.agg.AggForm.{AggForm}
 use Rattle.query_ast.specs.declared.agg.AggForm.TheVariants.{Children, Parent, ReverseNested, Terms, Min as MinOf, Max as MaxOf, Sum as SumOf, ValueCount}
@@ -25,11 +24,11 @@ use Rattle.query_eval.specs.Nested.{below_by}
 use Rattle.query_eval.specs.Sides.{by_relation, children_by}
 use Rattle.score_math.specs.Scores.{mode_of}
 use Rattle.score_math.specs.declared.score.ScoreMode.TheVariants.{Max}
-use Rattle.bucket_aggs.specs.Counts.{AreCounts, AreKeys, count_in, flats_of_view, rows_ordered}
+use Rattle.bucket_aggs.specs.Counts.{AreCounts, AreKeys, AreKnown, count_in, flats_of_view, rows_ordered}
 use Rattle.tree_objects.specs.declared.field_value.FieldValue.{FieldValue}
-use Rattle.bucket_aggs.specs.Given.{AreReplies, IsAnswer, bucket_by, buckets_by, count_by_field, greatest_by, least_by, more_replies, replies_by, sum_by_field, value_by}
+use Rattle.bucket_aggs.specs.Given.{AreOfValue, AreReplies, IsAnswer, bucket_by, buckets_by, count_by_field, greatest_by, least_by, more_replies, replies_by, sum_by_field, value_by}
 use Rattle.bucket_aggs.specs.declared.rows.CountRow.{CountRow}
-use Rattle.bucket_aggs.proofs.Formed.{bucket_alone, bucket_is, buckets_more, children_is, cut_first, cut_others, definitions_parts, filter_is, key_at, keys_taken, metric_is, nested_is, no_buckets_yet, no_terms, no_text, none_inside, number_is, parent_is, replies_more, reply_is, reverse_is, single_is, sorted_valued, terms_is}
+use Rattle.bucket_aggs.proofs.Formed.{bucket_alone, bucket_is, buckets_more, children_is, cut_first, cut_others, definitions_parts, filter_is, key_at, keys_taken, metric_is, nested_is, no_buckets_yet, no_terms, none_inside, number_is, parent_is, replies_more, reply_is, reverse_is, single_is, terms_is}
 use Rattle.bucket_aggs.proofs.Handed.{Laws}
 use Rattle.bucket_aggs.proofs.answers.+answers.Goals as goal
 
@@ -148,7 +147,7 @@ shown-rows-init t c = λ given is.
 pub shown-bucket-requires : goal.shown-bucket-requires
 shown-bucket-requires t c =
     let key = key_at (kind_at c.args.mapping.now c.args.field) c.args.rows.now c.rows.at c.index-rows-at.result c.requires.keys c.rows-test.true c.index-rows-at.is in
-    (omega arith, (c.requires.field, (key, (c.requires.resolved, (c.requires.joined, c.requires.long)))))
+    (omega arith, (c.requires.field, (c.requires.found, (key, (c.requires.resolved, (c.requires.joined, c.requires.long))))))
 
 pub shown-rows-preserved : goal.shown-rows-preserved
 shown-rows-preserved t c = λ given is.
@@ -186,11 +185,6 @@ bucket-returns-then-is_empty t c = λ given is.
     subst (λ (ds : Definitions Agg). IsAnswer m view c.args.scope (bucket_by m c.args.field ds row) given part) (sym none)
     (subst (λ (p : BucketPart). IsAnswer m view c.args.scope (bucket_by m c.args.field no_definitions row) given p) (sym alone) (bucket_alone m view c.args.scope c.args.field given row))
 
-pub bucket-kept-requires-clause-resolved : goal.bucket-kept-requires-clause-resolved
-bucket-kept-requires-clause-resolved t c =
-    let kind = kind_at c.args.mapping.now c.args.field in
-    ((c.requires.field.0, (sorted_valued kind c.requires.field.1, (subst (IsValueOf kind) (sym c.in_ok-value.ensures) c.requires.key, tt))), (omega arith, omega arith))
-
 pub bucket-returns : goal.bucket-returns
 bucket-returns t c = λ given is.
     let m = c.args.mapping.now in
@@ -198,17 +192,14 @@ bucket-returns t c = λ given is.
     let f : ℕ = c.args.field in
     let row : CountRow = c.args.row.now in
     let ds = definitions_of c.args.inner.now in
-    let hits : FieldValue → Clause = λ key. leaf (on_field (Some f) (is_among (key ∷ []))) 1 in
+    let are : AreOfValue m view c.args.scope f row.key given c.in_ok-those.those = c.in_ok-those.ensures.those given is in
     let parts : List ReplyPart = map reply_part c.in_ok-replies.replies.items in
-    let answered : IsAnswer m view c.args.scope (replies_by m ds) (paired_by Kept given (score_by m (hits row.key))) parts =
-    subst (λ (key : FieldValue). IsAnswer m view c.args.scope (replies_by m ds) (paired_by Kept given (score_by m (hits key))) parts) c.in_ok-value.ensures
-    (subst (λ (defs : List (Definition Agg)). IsAnswer m view c.args.scope (replies_by m (definitions_of defs)) (paired_by Kept given (score_by m (hits c.in_ok-value.value))) parts) c.as_slice-2.ensures
-    (c.in_ok-replies.ensures (paired_by Kept given (score_by m (hits c.in_ok-value.value))) (c.in_ok-those.ensures.seen given is))) in
+    let answered : IsAnswer m view c.args.scope (replies_by m ds) are.inner parts =
+    subst (λ (defs : List (Definition Agg)). IsAnswer m view c.args.scope (replies_by m (definitions_of defs)) are.inner parts) c.as_slice-2.ensures (c.in_ok-replies.ensures are.inner are.seen) in
     let same : record { key = c.in_ok-key.key; count = row.count; inner = replies_of c.of-2.result } ≡ record { key = row.key; count = row.count; inner = replies_of parts } =
     ap (λ (k : FieldValue). record { key = k; count = row.count; inner = replies_of c.of-2.result }) c.in_ok-key.ensures
     ∙ ap (λ (l : List ReplyPart). record { key = row.key; count = row.count; inner = replies_of l }) c.of-2.ensures in
-    subst (λ (p : BucketPart). IsAnswer m view c.args.scope (bucket_by m f ds row) given p) (sym same)
-    (bucket_is m view c.args.scope f ds given row parts (no_text (kind_at m f) c.requires.field.1) answered)
+    subst (λ (p : BucketPart). IsAnswer m view c.args.scope (bucket_by m f ds row) given p) (sym same) (bucket_is m view c.args.scope f ds given row c.in_ok-those.those parts are answered)
 
 pub mapped_terms-returns : goal.mapped_terms-returns
 mapped_terms-returns t c = λ given is.
@@ -220,9 +211,9 @@ mapped_terms-returns t c = λ given is.
     let rows : List CountRow = c.in_ok-rows.rows.items in
     let sorted : List CountRow = rows_ordered c.args.by_key c.args.descending rows in
     let counts : AreCounts (kind_at m f) f (flats_of_view view c.args.objects.now) rows =
-    subst (λ (kind : Kind). AreCounts kind f (flats_of_view view c.args.objects.now) rows) c.kind.ensures c.in_ok-rows.ensures in
-    let whole : c.as_slice.result.now ≡ sorted = c.as_slice.ensures.value ∙ c.in_ok-sorted.ensures.order in
-    let cut : c.min-end.result ≡ min (length sorted) size = omega (arith, c.min-end.ensures, c.len.ensures, c.as_slice.ensures.len, ap (λ (l : List CountRow). length l) whole) in
+    subst (λ (kind : Kind). AreCounts kind f (flats_of_view view c.args.objects.now) rows) c.kind.ensures c.in_ok-rows.ensures.counts in
+    let whole : c.as_slice-2.result.now ≡ sorted = c.as_slice-2.ensures.value ∙ c.in_ok-sorted.ensures.order in
+    let cut : c.min-end.result ≡ min (length sorted) size = omega (arith, c.min-end.ensures, c.len.ensures, c.as_slice-2.ensures.len, ap (λ (l : List CountRow). length l) whole) in
     let first : c.split_at.result.0.now ≡ take size sorted = c.split_at.ensures.front ∙ ap (take c.min-end.result) whole ∙ cut_first sorted size c.min-end.result cut in
     let others : c.split_at.result.1.now ≡ drop size sorted = c.split_at.ensures.back ∙ ap (drop c.min-end.result) whole ∙ cut_others sorted size c.min-end.result cut in
     let answered : IsAnswer m view c.args.scope (buckets_by m f ds (take size sorted)) given c.of.result =
@@ -280,7 +271,8 @@ pub mapped_terms-shown-requires : goal.mapped_terms-shown-requires
 mapped_terms-shown-requires t c =
     let kind = kind_at c.args.mapping.now c.args.field in
     let counts : AreCounts kind c.args.field (flats_of_view c.args.entries.now c.args.objects.now) c.in_ok-rows.rows.items =
-    subst (λ (k : Kind). AreCounts k c.args.field (flats_of_view c.args.entries.now c.args.objects.now) c.in_ok-rows.rows.items) c.kind.ensures c.in_ok-rows.ensures in
+    subst (λ (k : Kind). AreCounts k c.args.field (flats_of_view c.args.entries.now c.args.objects.now) c.in_ok-rows.rows.items) c.kind.ensures c.in_ok-rows.ensures.counts in
     let keys : AreKeys kind c.split_at.result.0.now =
-    subst (AreKeys kind) (sym (c.split_at.ensures.front ∙ ap (take c.min-end.result) c.as_slice.ensures.value)) (keys_taken kind c.min-end.result c.in_ok-sorted.sorted.items (c.in_ok-sorted.ensures.keys kind counts.keys)) in
-    (omega arith, (c.requires.field, (keys, (c.requires.resolved, (c.requires.joined, c.requires.long)))))
+    subst (AreKeys kind) (sym (c.split_at.ensures.front ∙ ap (take c.min-end.result) c.as_slice-2.ensures.value)) (keys_taken kind c.min-end.result c.in_ok-sorted.sorted.items (c.in_ok-sorted.ensures.keys kind counts.keys)) in
+    let found : AreKnown c.args.entries.now c.args.objects.now c.as_slice-found.result.now = subst (AreKnown c.args.entries.now c.args.objects.now) (sym c.as_slice-found.ensures.value) c.in_ok-rows.ensures.found in
+    (omega arith, (c.requires.field, (found, (keys, (c.requires.resolved, (c.requires.joined, c.requires.long))))))

@@ -3,6 +3,7 @@ use Rattle.std.specs.List.Sorted.{IsPermutation}
 use Rattle.segment_parts.specs.Fields.{column_of}
 use Rattle.segment_parts.specs.Text.{marked_places}
 use Rattle.bucket_aggs.specs.Counts.{is_term}
+use Rattle.bucket_aggs.proofs.Cuts.{found_none}
 use Rattle.bucket_aggs.proofs.Lists.{Each}
 use Rattle.bucket_aggs.proofs.Numbered.{no_texts_shown, texts_shown}
 use Rattle.bucket_aggs.proofs.Termed.{different, ordinals_counted, ordinals_within, texts_counted}
@@ -23,7 +24,7 @@ returns-clause-counts c =
             arith,
             c.in_ok-put_terms.ensures.counts v,
             texts_counted c.args.segment.now c.args.field c.in-Some.column docs c.docs-documents.ensures.agree some c.terms-terms.result c.terms-terms.ensures c.count-ascending.ensures.ascending c.field_range-first.result.0 c.field_range-first.result.1 c.field_range-first.ensures.ordered
-                c.field_range-first.ensures.within c.field_range-first.ensures.of_field (replicate (c.field_range-first.result.1 - c.field_range-first.result.0) 0) c.in_ok-counts.counts.items c.as_slice.result.now refl c.in_ok-counts.ensures c.as_slice.ensures.value v,
+                c.field_range-first.ensures.within c.field_range-first.ensures.of_field (replicate (c.field_range-first.result.1 - c.field_range-first.result.0) 0) c.in_ok-counts.counts.items c.as_slice.result.now refl c.in_ok-counts.ensures.counted c.as_slice.ensures.value v,
             texts_shown c.args.segment.now c.args.kind c.args.field v c.in-Some.column docs c.requires c.values_are_of_documents.ensures.keywords some,
           );
     }
@@ -60,3 +61,9 @@ returns-then-few-clause-counts c =
             texts_shown columns c.args.kind f v c.in-Some.column docs c.requires c.values_are_of_documents.ensures.keywords some,
           );
     }
+
+pub returns-in_default-clause-found : goal.returns-in_default-clause-found
+returns-in_default-clause-found c = found_none c.args.segment.now c.args.set.now c.args.entry c.args.found.now.items c.args.found.now.items refl
+
+pub returns-then-few-clause-found : goal.returns-then-few-clause-found
+returns-then-few-clause-found c = found_none c.args.segment.now c.args.set.now c.args.entry c.args.found.now.items c.args.found.now.items refl

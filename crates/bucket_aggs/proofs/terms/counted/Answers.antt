@@ -1,9 +1,17 @@
-use Rattle.std.proofs.Common.{◌≡◌, ◌+◌, ◌++◌, List, length, get_or, ap, ◌∙◌, arith}
-use Rattle.bucket_aggs.proofs.Viewed.{Scores, counting_end, counting_step, flats_from, flats_step, long_view, own_flats}
+use Rattle.std.proofs.Common.{◌≡◌, ◌+◌, ◌++◌, List, length, get_or, sym, ap, subst, ◌∙◌, arith}
+use Rattle.bucket_aggs.specs.Counts.{AreKnown}
+use Rattle.bucket_aggs.proofs.Cuts.{known_more}
+use Rattle.bucket_aggs.proofs.Viewed.{Scores, counting_end, counting_start, counting_step, flats_from, flats_step, long_view, own_flats}
 use Rattle.bucket_aggs.proofs.terms.counted.Goals as goal
 
 pub bounds-objects-at : goal.bounds-objects-at
-bounds-objects-at c = omega (arith, c.entries-test.true, long_view c.args.entries.now c.args.objects.now c.requires, ap (λ (l : List Scores). length l) c.as_slice-objects.ensures)
+bounds-objects-at c = omega (arith, c.entries-test.true, long_view c.args.entries.now c.args.objects.now c.requires.long, ap (λ (l : List Scores). length l) c.as_slice-objects.ensures)
+
+pub entries-init : goal.entries-init
+entries-init c = (
+  counting_start c.args.kind c.args.field c.args.entries.now c.args.objects.now c.new-rows.result.items c.new-rows.ensures.items,
+  subst (AreKnown c.args.entries.now c.args.objects.now) (sym c.requires.none) tt,
+)
 
 pub entries-preserved : goal.entries-preserved
 entries-preserved c =
@@ -11,12 +19,15 @@ entries-preserved c =
     let scores = c.args.objects.now in
     let e = c.index-entries-at.result in
     let s = c.index-objects-at.result in
+    let there : s ≡ get_or scores c.entries.at s = c.index-objects-at.is ∙ ap (λ (l : List Scores). get_or l c.entries.at s) c.as_slice-objects.ensures in
     let step : flats_from c.entries.at view scores ≡ own_flats c.segment.result.now c.set.result.now ++ flats_from (c.entries.at + 1) view scores =
-    flats_step c.entries.at view scores e s c.segment.result.now c.set.result.now c.requires c.entries-test.true c.index-entries-at.is
-    (c.index-objects-at.is ∙ ap (λ (l : List Scores). get_or l c.entries.at s) c.as_slice-objects.ensures) c.segment.ensures c.set.ensures in
-    counting_step c.args.kind c.args.field c.entries.at view scores (own_flats c.segment.result.now c.set.result.now) c.entries.rows.items c.add_rows.new.rows.items step c.entries.invariant c.in_ok-add_rows.ensures.counts c.in_ok-add_rows.ensures.keys
+    flats_step c.entries.at view scores e s c.segment.result.now c.set.result.now c.requires.long c.entries-test.true c.index-entries-at.is
+    there c.segment.ensures c.set.ensures in (
+      counting_step c.args.kind c.args.field c.entries.at view scores (own_flats c.segment.result.now c.set.result.now) c.entries.rows.items c.add_rows.new.rows.items step c.entries.invariant.0 c.in_ok-add_rows.ensures.counts c.in_ok-add_rows.ensures.keys,
+      known_more c.entries.at view scores e s c.segment.result.now c.set.result.now c.entries.found.items c.add_rows.new.found.items c.requires.long c.entries-test.true c.index-entries-at.is there c.segment.ensures c.set.ensures c.entries.invariant.1 c.in_ok-add_rows.ensures.found,
+    )
 
-pub returns : goal.returns
-returns c =
-    counting_end c.args.kind c.args.field c.entries.at c.args.entries.now c.args.objects.now c.entries.rows.items c.in_ok-merged.field-0.items (omega (arith, c.entries-test.false)) c.entries.invariant
+pub returns-clause-counts : goal.returns-clause-counts
+returns-clause-counts c =
+    counting_end c.args.kind c.args.field c.entries.at c.args.entries.now c.args.objects.now c.entries.rows.items c.in_ok-merged.field-0.items (omega (arith, c.entries-test.false)) c.entries.invariant.0
     c.in_ok-merged.ensures.ascend c.in_ok-merged.ensures.counts (c.in_ok-merged.ensures.keys c.args.kind)

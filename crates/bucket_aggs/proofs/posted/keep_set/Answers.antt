@@ -1,0 +1,13 @@
+use Rattle.std.proofs.Common.{◌≡◌, List, [], get_or, ap, subst, ◌∙◌}
+use Rattle.postings.specs.Postings.{ArePostings, Standing}
+use Rattle.segment_parts.specs.Lists.{postings_of}
+use Rattle.bucket_aggs.proofs.Cuts.{posted_marks}
+use Rattle.bucket_aggs.proofs.Listed.{Postings}
+use Rattle.bucket_aggs.proofs.posted.keep_set.Goals as goal
+
+pub returns-clause-count : goal.returns-clause-count
+returns-clause-count c =
+    let o = c.args.ordinal in
+    let own : c.cursor.result.postings ≡ get_or (postings_of c.args.segment.now) o [] = ap (λ (s : Standing). s.postings) c.cursor.ensures ∙ ap (λ (lists : List Postings). get_or lists o []) c.postings.ensures.postings in
+    let are : ArePostings (get_or (postings_of c.args.segment.now) o []) = subst ArePostings own c.doc-first.ensures.postings in
+    c.from-count.ensures ∙ c.count.ensures ∙ posted_marks c.args.segment.now c.args.set.now c.in_ok-documents.documents o c.in_ok-documents.ensures are
