@@ -241,11 +241,6 @@ module _ (m : Mapping) (ordinals : Ordinals) (side : Side) (c : Columns) (place 
     abbrev pub given_here : Option ℕ
     given_here = get_or (map (answer_for asked pairs) (keys_at m ordinals side c place)) root None
 
-    pub given_past : length c.roots ≤ root → None ≡ given_here
-    given_past past =
-        sym (or_past (map (answer_for asked pairs) (keys_at m ordinals side c place)) root None
-        (omega (arith, past, length-map (keys_at m ordinals side c place) (answer_for asked pairs), length-map-range_with_len (key_at m ordinals side c place) 0 (length c.roots))))
-
     given_at : root < length c.roots → given_here ≡ answer_for asked pairs (cond does would None)
     given_at below =
         map_get (answer_for asked pairs) (keys_at m ordinals side c place) root None None (omega (arith, below, length-map-range_with_len (key_at m ordinals side c place) 0 (length c.roots)))
