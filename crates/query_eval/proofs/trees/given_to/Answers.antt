@@ -1,4 +1,4 @@
-use Rattle.std.proofs.Common.{◌≡◌, sym, ◌∙◌}
+use Rattle.std.proofs.Common.{sym, ◌∙◌}
 use Rattle.query_eval.proofs.Telling.{given_none, given_off, given_untold}
 use Rattle.query_eval.proofs.trees.given_to.Goals as goal
 

@@ -1,6 +1,6 @@
-use Rattle.std.proofs.Common.{◌≡◌, ◌<◌, ◌≤◌, Bool, List, ℕ, Option, length, map, take, sym, ap, subst, ◌∙◌, arith}
+use Rattle.std.proofs.Common.{◌<◌, length, ap, ◌∙◌, arith}
 use Rattle.segment_parts.specs.declared.columns.Columns.{Columns}
-use Rattle.query_eval.specs.Sides.{AreTallies, answer_for, at_roots, keys_at, told_by}
+use Rattle.query_eval.specs.Sides.{told_by}
 use Rattle.query_eval.proofs.Entries.{all_long, entry_step}
 use Rattle.query_eval.proofs.Telling.{tell_keys, tell_relations, given_step, given_whole}
 use Rattle.query_eval.proofs.trees.joined.Goals as goal

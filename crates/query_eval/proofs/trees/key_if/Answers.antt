@@ -1,4 +1,4 @@
-use Rattle.std.proofs.Common.{◌≡◌, ◌<◌, ℕ, Option, IfSome, length, sym, ap, subst, ◌∙◌, arith}
+use Rattle.std.proofs.Common.{◌<◌, ℕ, Option, IfSome, length, sym, ap, subst, ◌∙◌, arith}
 use Rattle.query_eval.specs.Sides.{keys_at}
 use Rattle.query_eval.proofs.Hits.{key_found, no_key, root_set}
 use Rattle.query_eval.proofs.Scopes.{documents_long}

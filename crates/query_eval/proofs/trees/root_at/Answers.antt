@@ -1,5 +1,4 @@
-use Rattle.std.proofs.Common.{◌≡◌, ℕ, Some, slice_get, ap, ◌∙◌}
-use Rattle.segment.specs.Roots.{root_documents}
+use Rattle.std.proofs.Common.{ℕ, Some, ap, ◌∙◌}
 use Rattle.query_eval.proofs.Hits.{root_ranked}
 use Rattle.query_eval.proofs.trees.root_at.Goals as goal
 
