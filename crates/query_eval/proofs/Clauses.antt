@@ -1,5 +1,5 @@
 -- What the evaluation of each kind of clause gives is what the clause means.
-use Rattle.std.proofs.Common.{◌≡◌, ◌≢◌, ℕ, zero, suc, ◌+◌, ◌-◌, ◌<◌, ◌≤◌, Bool, true, false, ◌&&◌, cond, List, [], ◌∷◌, length, map, take, drop, get_or, filter_map, Option, Some, None, refl, sym, ap, subst, ◌∙◌, arith}
+use Rattle.std.proofs.Common.{◌≡◌, ◌≢◌, ℕ, suc, ◌-◌, ◌<◌, ◌≤◌, Bool, true, false, ◌&&◌, List, [], ◌∷◌, length, map, take, drop, get_or, filter_map, Option, Some, None, refl, sym, ap, subst, ◌∙◌, arith}
 use Rattle.std.specs.Prelude.{IsSome}
 use Rattle.std.specs.List.{list_all}
 use Rattle.block_join.specs.Merge.{put_together}
@@ -10,7 +10,7 @@ use Rattle.mapping.specs.Mapping.{Mapping}
 use Rattle.query_ast.specs.Clause.{Clause, Clauses, clause, no_clauses, clauses_of, clause_size, Leaf, match_all, match_none, leaf, bool, constant_score, dis_max, nested, to_child, has_child, has_parent}
 use Rattle.query_ast.specs.Clause.View.{clause_of}
 use Rattle.query_ast.specs.declared.query.Query.{Query}
-use Rattle.query_ast.specs.Hit.{hit, hit_each, scores, wanted, bool_score, boosted, children_score, parent_score}
+use Rattle.query_ast.specs.Hit.{hit, hit_each, scores, wanted, boosted, children_score, parent_score}
 use Rattle.query_ast.specs.Joined.{child_trees, parent_trees, roots}
 use Rattle.query_ast.specs.Leaf.{leaf_holds}
 use Rattle.query_ast.specs.Resolved.{IsLeaf, IsResolved}

@@ -1,8 +1,7 @@
 -- Roots are counted as the documents of scope 0, and tallies take scores one by one.
-use Rattle.std.proofs.Common.{◌≡◌, ℕ, zero, suc, ◌+◌, ◌*◌, ◌==◌, ◌<◌, ◌≤◌, ◌^◌, min, max, Bool, true, false, ◌&&◌, cond, nat_le, List, [], ◌∷◌, ◌++◌, length, map, get_or, set, sum, Option, Some, None, IfSome, refl, sym, ap, subst, ◌∙◌, inl, inr, arith, suc-mul}
-use Rattle.std.proofs.lemmas.Bool.{cases_Bool, eqb-true}
-use Rattle.query_ast.specs.Hit.{children_score, is_at_most, parent_score}
-use Rattle.score_math.specs.Running.{summary_of_more, summary_of_one, total_is_bounded}
+use Rattle.std.proofs.Common.{◌≡◌, ℕ, zero, suc, ◌+◌, ◌*◌, ◌≤◌, min, max, Bool, true, false, ◌&&◌, cond, nat_le, List, [], ◌∷◌, ◌++◌, length, Option, Some, None, refl, sym, ap, subst, ◌∙◌, arith, suc-mul}
+use Rattle.query_ast.specs.Hit.{is_at_most}
+use Rattle.score_math.specs.Running.{summary_of_more, summary_of_one}
 use Rattle.score_math.specs.Scores.{Summarizes, mode_of}
 use Rattle.score_math.specs.declared.score.ScoreMode.{ScoreMode}
 use Rattle.score_math.specs.declared.score.TheConstants.{SCORE_CAP}

@@ -1,10 +1,10 @@
 -- Scores of entries, one entry after the other.
-use Rattle.std.proofs.Common.{◌≡◌, ℕ, zero, suc, ◌+◌, ◌<◌, ◌≤◌, List, [], ◌∷◌, ◌++◌, length, map, take, get_or, Option, Some, None, refl, sym, ap, subst, ◌∙◌, arith}
+use Rattle.std.proofs.Common.{◌≡◌, ℕ, zero, suc, ◌+◌, ◌<◌, ◌≤◌, List, [], ◌∷◌, ◌++◌, length, map, take, get_or, Option, refl, sym, ap, subst, ◌∙◌, arith}
 use Rattle.flattener.specs.StandsFor.{Marked, EntryStandsFor, ViewStandsFor}
 use Rattle.mapping.specs.Mapping.{Mapping}
 use Rattle.segment.specs.Live.{EntryState}
 use Rattle.tree_joins.specs.Seen.{at_scope, seen}
-use Rattle.tree_objects.specs.Object.{Object, scope}
+use Rattle.tree_objects.specs.Object.{Object}
 use Rattle.tree_objects.specs.Tree.{Tree}
 use Rattle.query_eval.specs.Found.{AreLong, IsSeen, live_trees}
 

@@ -1,5 +1,5 @@
 -- Scores that are told from hit to hit, each to the key of the root at its document.
-use Rattle.std.proofs.Common.{◌≡◌, ℕ, zero, suc, ◌+◌, ◌-◌, ◌<◌, ◌≤◌, Bool, true, false, cond, List, [], ◌∷◌, ◌++◌, length, take, drop, get_or, All, Option, Some, None, nat_eq, refl, sym, ap, ◌∙◌, arith, length-drop}
+use Rattle.std.proofs.Common.{◌≡◌, ℕ, zero, suc, ◌+◌, ◌-◌, ◌<◌, ◌≤◌, Bool, true, false, cond, List, [], ◌∷◌, ◌++◌, length, take, drop, get_or, slice_get, Option, Some, None, nat_eq, refl, sym, ap, ◌∙◌, arith, length-drop}
 use Rattle.std.specs.List.{count_by}
 use Rattle.std.specs.Option.{is_some}
 use Rattle.std.proofs.lemmas.List.{get_or_append_left}
@@ -12,7 +12,9 @@ use Rattle.mapping.specs.Mapping.{Mapping}
 use Rattle.segment.specs.Agree.{AreColumns}
 use Rattle.segment.specs.Flat.{flat_of}
 use Rattle.segment.specs.Live.{root_of}
+use Rattle.segment.specs.Roots.{root_documents}
 use Rattle.segment_parts.specs.Parts.{root_flags}
+use Rattle.segment_parts.specs.Text.{marked_places}
 use Rattle.segment_parts.specs.declared.columns.Columns.{Columns}
 use Rattle.query_eval.specs.Folds.{scopes_in}
 use Rattle.query_eval.specs.Sides.{at_roots, key_at, keys_at, of_roots, pair_if, told}
@@ -20,7 +22,7 @@ use Rattle.query_eval.specs.declared.side.Side.{Side}
 use Rattle.query_eval.proofs.Entries.{Scores, nil_append}
 use Rattle.query_eval.proofs.Scopes.{set_is}
 use Rattle.query_eval.proofs.Telling.{key_here, pair_nothing, told_cut, told_next}
-use Rattle.query_eval.proofs.Walking.{get_drop}
+use Rattle.query_eval.proofs.Walking.{get_drop, place_counted}
 
 -- ---- keys of documents
 
@@ -120,6 +122,17 @@ pub root_set : (c : Columns) → AreColumns c → ((scope doc : ℕ) → scope <
 root_set c agree law =
     let some : 0 < length c.scopes = omega (arith, agree.parts.head.some) in
     set_is c 0 (get_or c.scopes 0 []) (agree.parts.head.long 0 [] some) (λ doc below. law 0 doc some below)
+
+pub root_places : (c : Columns) → AreColumns c → ((scope doc : ℕ) → scope < length c.scopes → doc < c.documents → get_or (get_or c.scopes scope []) doc false ≡ nat_eq (flat_of c doc).scope scope)
+    → root_documents c.scopes ≡ marked_places 0 (documents_of (scopes_in c) 0)
+unfolding root_documents
+root_places c agree law = ap (marked_places 0) (root_set c agree law)
+
+pub root_ranked : (scopes : List (List Bool)) (root doc : ℕ) → slice_get (root_documents scopes) root ≡ Some doc → root ≡ root_of (root_flags scopes) doc
+unfolding root_documents
+root_ranked scopes root doc is =
+    let all : doc - 0 ≡ doc = omega arith in
+    place_counted 0 (root_flags scopes) root doc is ∙ ap (root_of (root_flags scopes)) all
 
 pub key_found : (m : Mapping) (ordinals : Ordinals) (side : Side) (c : Columns) (place : ℕ) (flags : List Bool) (doc root : ℕ) (key : Option ℕ) → flags ≡ documents_of (scopes_in c) 0 → root_flags c.scopes ≡ documents_of (scopes_in c) 0
     → get_or flags doc false ≡ true → root ≡ root_of (root_flags c.scopes) doc → root < length c.roots → key ≡ key_at m ordinals side c place root → key ≡ get_or (at_roots flags (keys_at m ordinals side c place)) doc None

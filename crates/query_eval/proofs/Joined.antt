@@ -1,21 +1,19 @@
 -- What roots are given by their keys is what their trees are given by the trees that they are joined to.
-use Rattle.std.proofs.Common.{◌≡◌, ℕ, zero, suc, ◌+◌, ◌==◌, ◌<◌, ◌≤◌, Bool, true, false, ◌&&◌, cond, nat_le, List, [], ◌∷◌, ◌++◌, length, map, filter, filter_map, get_or, slice_get, Option, Some, None, refl, sym, ap, subst, ◌∙◌, inl, inr, arith}
+use Rattle.std.proofs.Common.{◌≡◌, ℕ, ◌==◌, Bool, true, false, ◌&&◌, cond, nat_le, List, [], ◌∷◌, map, filter, slice_get, Option, Some, None, refl, sym, ap, subst, ◌∙◌, inl, inr, arith}
 use Rattle.std.specs.Str.{bytes_eq}
 use Rattle.std.proofs.lemmas.Bool.{cases_Bool, eqb-true}
 use Rattle.std.proofs.lemmas.Slice.Eq.{bytes_eq-Decides}
-use Rattle.flattener.specs.StandsFor.{EntryStandsFor, Marked, ViewStandsFor, by_document}
-use Rattle.join_ordinals.specs.Ordinals.{AreOrdinals, IsNumbered, Ordinals}
+use Rattle.flattener.specs.StandsFor.{Marked}
+use Rattle.join_ordinals.specs.Ordinals.{IsNumbered}
 use Rattle.mapping.specs.Mapping.{Mapping, relation_at}
-use Rattle.query_ast.specs.Hit.{children_score, is_at_most, parent_score}
-use Rattle.query_ast.specs.Joined.{child_trees, has_relation, is_child, is_child_by, is_id, is_number, is_parent_by, is_parent_relation, is_root, names_parent, parent_trees, roots}
+use Rattle.query_ast.specs.Hit.{children_score, is_at_most}
+use Rattle.query_ast.specs.Joined.{child_trees, has_relation, is_child_by, is_id, is_number, is_parent_by, is_parent_relation, names_parent, parent_trees}
 use Rattle.score_math.specs.Scores.{mode_of}
 use Rattle.score_math.specs.declared.score.ScoreMode.{ScoreMode}
-use Rattle.segment.specs.Live.{EntryState}
 use Rattle.tree_objects.specs.Object.{Object, root}
 use Rattle.tree_objects.specs.Tree.{Tree}
 use Rattle.tree_objects.specs.Values.{Joined, join_of}
-use Rattle.query_eval.specs.Found.{live_in, live_trees}
-use Rattle.query_eval.specs.Sides.{answer_for, answer_of, children_by, is_on, parent_by, scores_of}
+use Rattle.query_eval.specs.Sides.{answer_for, answer_of, is_on, scores_of}
 use Rattle.query_eval.specs.declared.side.Side.{Side}
 use Rattle.query_eval.specs.declared.side.Side.TheVariants.{Parents, Children, ChildrenOf}
 use Rattle.query_eval.specs.declared.answer.Answer.{Answer}

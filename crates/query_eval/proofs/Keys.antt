@@ -1,27 +1,27 @@
 -- Keys of roots number ids, and trees are joined where their ids are.
-use Rattle.std.proofs.Common.{◌≡◌, ℕ, zero, suc, ◌+◌, ◌==◌, ◌<◌, ◌≤◌, Bool, true, false, ◌&&◌, cond, List, [], ◌∷◌, ◌++◌, length, map, filter, filter_map, get_or, slice_get, Option, Some, None, refl, sym, ap, subst, ◌∙◌, inl, inr, arith, append_assoc}
+use Rattle.std.proofs.Common.{◌≡◌, ℕ, zero, suc, ◌+◌, ◌==◌, ◌<◌, Bool, true, false, cond, List, [], ◌∷◌, ◌++◌, length, map, filter, filter_map, get_or, slice_get, Option, Some, None, refl, sym, ap, subst, ◌∙◌, inl, inr, arith}
 use Rattle.std.specs.List.{range_with_len, cons_option}
 use Rattle.std.specs.Option.{option_to_list}
 use Rattle.std.specs.Str.{bytes_eq}
-use Rattle.std.proofs.lemmas.Bool.{cases_Bool, eqb-true, true≢false}
+use Rattle.std.proofs.lemmas.Bool.{cases_Bool, eqb-true}
 use Rattle.std.proofs.lemmas.List.{length-map, map-append}
 use Rattle.std.proofs.lemmas.List.Elements.{filter-append, filter_map-append}
 use Rattle.std.proofs.lemmas.Option.{same_Some}
 use Rattle.std.proofs.lemmas.Slice.Eq.{bytes_eq-Decides}
 use Rattle.flattener.specs.Block.{join_by, kept_join, root_of_tree}
-use Rattle.flattener.specs.StandsFor.{EntryStandsFor, Marked, ViewStandsFor}
+use Rattle.flattener.specs.StandsFor.{EntryStandsFor, Marked}
 use Rattle.join_ordinals.specs.Ordinals.{AreOrdinals, IsNumbered, Ordinals, StandOnce, ordinal_at, own_id, parent_id, parent_in, relation_in}
-use Rattle.mapping.specs.Mapping.{Mapping, relation_at}
-use Rattle.query_ast.specs.Joined.{has_relation, is_child, is_child_by, is_id, is_number, is_parent_by, is_parent_relation, names_parent, roots}
-use Rattle.segment.specs.Flat.{FlatRoot, flat_root, roots_of}
+use Rattle.mapping.specs.Mapping.{Mapping}
+use Rattle.query_ast.specs.Joined.{is_id, roots}
+use Rattle.segment.specs.Flat.{FlatRoot, flat_root}
 use Rattle.segment.specs.Live.{EntryState}
 use Rattle.stored_sources.specs.Roots.{no_root, root_of}
 use Rattle.stored_sources.specs.declared.root.Join.{Join}
 use Rattle.tree_objects.specs.Object.{Object, root}
 use Rattle.tree_objects.specs.Tree.{Tree}
 use Rattle.tree_objects.specs.Values.{Joined, join_of}
-use Rattle.query_eval.specs.Found.{live_in, live_trees}
-use Rattle.query_eval.specs.Sides.{is_on, key_at, key_of, keys_at, ordinal_by, pair_if, scores_of, told}
+use Rattle.query_eval.specs.Found.{live_in}
+use Rattle.query_eval.specs.Sides.{is_on, key_at, keys_at, ordinal_by, pair_if, scores_of, told}
 use Rattle.query_eval.specs.declared.side.Side.{Side}
 use Rattle.query_eval.specs.declared.side.Side.TheVariants.{Parents, Children, ChildrenOf}
 

@@ -1,12 +1,12 @@
 -- Roots of one child relation, by their parents.
-use Rattle.std.proofs.Common.{◌≡◌, ℕ, ◌+◌, ◌==◌, Bool, true, false, ◌&&◌, cond, List, [], ◌∷◌, filter, filter_map, Option, Some, None, is_some, refl, sym, ap, ◌∙◌, inl, inr, arith}
+use Rattle.std.proofs.Common.{◌≡◌, ℕ, ◌==◌, Bool, true, false, ◌&&◌, cond, List, [], ◌∷◌, Option, Some, None, is_some, refl, sym, ap, ◌∙◌, inl, inr, arith}
 use Rattle.std.specs.List.{list_any}
 use Rattle.std.proofs.lemmas.Bool.{cases_Bool, eqb-true}
 use Rattle.join_ordinals.specs.Ordinals.{AreOrdinals, Ordinals}
 use Rattle.mapping.specs.IsMapping.{IsMapping}
 use Rattle.mapping.specs.Mapping.{Mapping, relation_at}
 use Rattle.query_ast.specs.Hit.{parent_score}
-use Rattle.query_ast.specs.Joined.{has_relation, is_child, is_child_by, is_id, is_number, is_parent_relation, names_parent, roots}
+use Rattle.query_ast.specs.Joined.{has_relation, is_child_by, is_id, is_number, is_parent_relation, names_parent}
 use Rattle.segment.specs.Live.{EntryState}
 use Rattle.tree_objects.specs.Object.{Object, root}
 use Rattle.tree_objects.specs.Tree.{Tree}
@@ -15,7 +15,7 @@ use Rattle.query_eval.specs.Found.{AreLong, IsSeen, live_trees}
 use Rattle.query_eval.specs.Sides.{by_relation, given_by, has_given_parent, is_on, told_by}
 use Rattle.query_eval.specs.declared.side.Side.TheVariants.{Parents, Children}
 use Rattle.query_eval.specs.declared.answer.Answer.TheVariants as answer
-use Rattle.query_eval.proofs.Entries.{Scores, Trees}
+use Rattle.query_eval.proofs.Entries.{Scores}
 use Rattle.query_eval.proofs.Joined.{same_bytes}
 use Rattle.query_eval.proofs.Keys.{id_on, parent_of, relation_of, scores_among, takes}
 use Rattle.query_eval.proofs.Rooted.{OneRoot, given_view, told_is, whole_view}

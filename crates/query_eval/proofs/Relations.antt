@@ -1,5 +1,5 @@
 -- A relation that a mapping doesn't have has no parent.
-use Rattle.std.proofs.Common.{◌≡◌, ℕ, ◌≤◌, length, Option, None, refl}
+use Rattle.std.proofs.Common.{◌≡◌, ℕ, ◌≤◌, length, None, refl}
 use Rattle.mapping.specs.Mapping.{Mapping, no_relation, relation_at}
 use Rattle.query_eval.proofs.Entries.{or_past}
 

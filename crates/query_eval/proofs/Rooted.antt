@@ -1,29 +1,28 @@
 -- Scores of roots as scores of documents, over the trees of entries.
-use Rattle.std.proofs.Common.{◌≡◌, ℕ, zero, suc, ◌+◌, ◌==◌, ◌<◌, ◌≤◌, Bool, true, false, cond, List, [], ◌∷◌, ◌++◌, length, map, filter, filter_map, slice_get, Option, Some, None, refl, sym, ap, subst, ◌∙◌, inl, inr, arith}
+use Rattle.std.proofs.Common.{◌≡◌, ℕ, suc, ◌+◌, Bool, true, false, List, [], ◌∷◌, ◌++◌, map, filter, filter_map, slice_get, Option, Some, None, refl, sym, ap, ◌∙◌, inl, inr, arith}
 use Rattle.std.proofs.lemmas.Bool.{cases_Bool}
 use Rattle.block_bits.specs.Blocks.{documents_of, has_scope}
-use Rattle.flattener.specs.StandsFor.{EntryStandsFor, Marked, ViewStandsFor, by_document}
+use Rattle.flattener.specs.StandsFor.{EntryStandsFor, ViewStandsFor, by_document}
 use Rattle.join_ordinals.specs.Ordinals.{AreOrdinals, Ordinals}
 use Rattle.mapping.specs.IsMapping.{IsMapping}
 use Rattle.mapping.specs.Mapping.{Mapping, relation_at}
 use Rattle.query_ast.specs.Hit.{children_score, parent_score}
-use Rattle.query_ast.specs.Joined.{child_trees, parent_trees, roots}
+use Rattle.query_ast.specs.Joined.{roots}
 use Rattle.score_math.specs.declared.score.ScoreMode.{ScoreMode}
 use Rattle.segment.specs.Live.{EntryState}
 use Rattle.tree_joins.specs.Seen.{at_scope, if_live, scope_mark, scopes_of, seen}
 use Rattle.tree_objects.specs.Enclosing.{stands_at}
-use Rattle.tree_objects.specs.Object.{Object, block_objects, root, scope}
+use Rattle.tree_objects.specs.Object.{Object, block_objects, root}
 use Rattle.tree_objects.specs.Tree.{Tree}
-use Rattle.query_eval.specs.Folds.{scopes_in}
 use Rattle.query_eval.specs.Found.{AreLong, IsSeen, live_in, live_trees}
-use Rattle.query_eval.specs.Sides.{answer_for, answer_of, at_roots, children_by, given_by, keys_at, of_roots, parent_by, roots_in, scores_of, told, told_by}
+use Rattle.query_eval.specs.Sides.{answer_for, at_roots, children_by, given_by, keys_at, of_roots, parent_by, roots_in, scores_of, told, told_by}
 use Rattle.query_eval.specs.declared.side.Side.{Side}
 use Rattle.query_eval.specs.declared.side.Side.TheVariants.{Parents, Children, ChildrenOf}
 use Rattle.query_eval.specs.declared.answer.Answer.{Answer}
 use Rattle.query_eval.specs.declared.answer.Answer.TheVariants as answer
 use Rattle.query_eval.proofs.Entries.{Scores, Trees}
 use Rattle.query_eval.proofs.Joined.{Speaks, answers_are, children_of, no_children_of, no_children, no_parents_of, parents_of}
-use Rattle.query_eval.proofs.Keys.{Number, among_append, entry_numbers, id_on, root_score, scores_among, scores_append, side_id, takes, told_among}
+use Rattle.query_eval.proofs.Keys.{among_append, entry_numbers, root_score, scores_among, scores_append, takes, told_among}
 use Rattle.query_eval.proofs.Scopes.{scopes_are}
 
 abbrev pub OneRoot : Type 0

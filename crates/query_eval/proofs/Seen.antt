@@ -1,5 +1,5 @@
 -- Scores of the documents of trees, put together and changed one by one.
-use Rattle.std.proofs.Common.{◌≡◌, ℕ, suc, ◌==◌, Bool, true, false, ◌&&◌, cond, List, [], ◌∷◌, ◌++◌, length, map, Option, Some, None, is_none, refl, sym, ap, ◌∙◌, subst, arith}
+use Rattle.std.proofs.Common.{◌≡◌, ℕ, suc, ◌==◌, Bool, true, false, ◌&&◌, cond, List, [], ◌∷◌, ◌++◌, length, map, Option, Some, None, is_none, refl, sym, ap, ◌∙◌, subst}
 use Rattle.std.specs.Prelude.{IsSome}
 use Rattle.std.specs.List.{list_all}
 use Rattle.std.proofs.lemmas.Bool.{and_parts, eqb-true}
@@ -7,7 +7,7 @@ use Rattle.block_join.specs.Merge.{paired, put_together}
 use Rattle.block_join.specs.Scores.{filled}
 use Rattle.block_join.specs.declared.rule.Rule.{Rule}
 use Rattle.block_join.specs.declared.rule.Rule.TheVariants.{Both, Kept, Without, Plus, Either, Greatest, Counted, AtLeast}
-use Rattle.flattener.specs.StandsFor.{EntryStandsFor, Marked, ViewStandsFor, by_document}
+use Rattle.flattener.specs.StandsFor.{EntryStandsFor, by_document}
 use Rattle.leaf_search.specs.Found.{Finds, found}
 use Rattle.mapping.specs.Mapping.{Mapping}
 use Rattle.query_ast.specs.Clause.{Leaf}
@@ -18,7 +18,7 @@ use Rattle.segment_parts.specs.declared.columns.Columns.{Columns}
 use Rattle.tree_joins.specs.Seen.{at_scope, if_live, seen}
 use Rattle.tree_objects.specs.Object.{Object, block_objects, scope}
 use Rattle.tree_objects.specs.Tree.{Tree}
-use Rattle.query_eval.specs.Folds.{have_none, leaf_score, paired_by}
+use Rattle.query_eval.specs.Folds.{have_none, leaf_score}
 use Rattle.query_eval.specs.Found.{IsSeen, live_trees}
 use Rattle.query_eval.proofs.Entries.{Scores, Trees}
 

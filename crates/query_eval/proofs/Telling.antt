@@ -1,8 +1,6 @@
 -- Scores that are told key by key, and the entries that tell them one after the other.
-use Rattle.std.proofs.Common.{◌≡◌, ◌≢◌, ℕ, zero, suc, ◌+◌, ◌==◌, ◌<◌, ◌≤◌, min, Bool, true, false, cond, List, [], ◌∷◌, ◌++◌, length, map, take, get_or, set, slice_get, All, Option, Some, None, IfSome, refl, sym, ap, subst, ◌∙◌, inl, inr, arith, append_assoc}
+use Rattle.std.proofs.Common.{◌≡◌, ℕ, zero, suc, ◌+◌, ◌<◌, ◌≤◌, min, Bool, true, false, cond, List, [], ◌∷◌, ◌++◌, length, map, take, get_or, slice_get, Option, Some, None, IfSome, refl, sym, ap, subst, ◌∙◌, arith, append_assoc}
 use Rattle.std.specs.List.{range_with_len}
-use Rattle.std.proofs.lemmas.Bool.{cases_Bool, eqb-true}
-use Rattle.std.proofs.lemmas.List.{length-map}
 use Rattle.std.proofs.lemmas.List.FromFn.{get_or-map-range_with_len, length-map-range_with_len, map-range_with_len_more}
 use Rattle.stored_sources.specs.Roots.{root_of}
 use Rattle.join_ordinals.specs.Ordinals.{AreOrdinals, IsNumbered, Ordinals, ordinal_at, own_id, own_relation, parent_id, parent_in, relation_in}
@@ -12,12 +10,12 @@ use Rattle.block_bits.specs.Blocks.{documents_of}
 use Rattle.segment.specs.Live.{EntryState}
 use Rattle.segment_parts.specs.declared.columns.Columns.{Columns}
 use Rattle.query_eval.specs.Folds.{scopes_in}
-use Rattle.query_eval.specs.Sides.{AreTallies, HaveRelations, HaveTallies, TallyOf, answer_for, answer_of, at_roots, given_by, is_on, key_at, keys_at, of_roots, ordinal_by, pair_if, roots_in, scores_of, told, told_by}
+use Rattle.query_eval.specs.Sides.{AreTallies, HaveRelations, HaveTallies, answer_for, answer_of, at_roots, given_by, is_on, key_at, keys_at, of_roots, ordinal_by, pair_if, roots_in, scores_of, told, told_by}
 use Rattle.query_eval.specs.declared.side.Side.{Side}
 use Rattle.query_eval.specs.declared.side.Side.TheVariants.{Parents, Children, ChildrenOf}
 use Rattle.query_eval.specs.declared.answer.Answer.{Answer}
 use Rattle.query_eval.specs.declared.tally.Tallies.{Tallies}
-use Rattle.query_eval.proofs.Entries.{Scores, map_get, nil_append, or_past, take_more, take_whole}
+use Rattle.query_eval.proofs.Entries.{Scores, map_get, nil_append, take_more, take_whole}
 use Rattle.query_eval.proofs.Joined.{nothing_given}
 
 -- ---- pairs
@@ -240,11 +238,6 @@ module _ (m : Mapping) (ordinals : Ordinals) (side : Side) (c : Columns) (place 
   module _ (asked : Answer) (pairs : List (ℕ × ℕ)) where
     abbrev pub given_here : Option ℕ
     given_here = get_or (map (answer_for asked pairs) (keys_at m ordinals side c place)) root None
-
-    pub given_past : length c.roots ≤ root → None ≡ given_here
-    given_past past =
-        sym (or_past (map (answer_for asked pairs) (keys_at m ordinals side c place)) root None
-        (omega (arith, past, length-map (keys_at m ordinals side c place) (answer_for asked pairs), length-map-range_with_len (key_at m ordinals side c place) 0 (length c.roots))))
 
     given_at : root < length c.roots → given_here ≡ answer_for asked pairs (cond does would None)
     given_at below =

@@ -1,5 +1,5 @@
 -- Scores that are put together clause by clause.
-use Rattle.std.specs.Prelude.{◌≡◌, ℕ, Bool, true, false, ◌&&◌, not, if◌then◌else◌, List, [], ◌∷◌, ◌+◌, length, map, sum, nat_le, Option, Some, None, is_none}
+use Rattle.std.specs.Prelude.{ℕ, Bool, true, false, ◌&&◌, not, if◌then◌else◌, List, [], ◌∷◌, ◌+◌, length, map, sum, nat_le, Option, Some, None, is_none}
 use Rattle.std.specs.List.{list_all}
 use Rattle.block_join.specs.Merge.{put_together}
 use Rattle.block_join.specs.declared.rule.Rule.{Rule}

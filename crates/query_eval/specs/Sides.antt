@@ -1,5 +1,5 @@
 -- Joins of trees by the ordinals of ids: which roots take part, by which id, and what they are given.
-use Rattle.std.specs.Prelude.{◌≡◌, ℕ, zero, suc, ◌+◌, ◌==◌, ◌<◌, ◌≤◌, Bool, true, false, cond, if◌then◌else◌, List, [], ◌∷◌, ◌++◌, length, map, filter_map, get_or, Option, Some, None, is_some, ◌&&◌, IfSome, ⊤}
+use Rattle.std.specs.Prelude.{◌≡◌, ℕ, zero, suc, ◌+◌, ◌==◌, ◌<◌, Bool, true, false, if◌then◌else◌, List, [], ◌∷◌, ◌++◌, length, map, filter_map, get_or, Option, Some, None, is_some, ◌&&◌, IfSome}
 use Rattle.std.specs.List.{list_any, range_with_len}
 use Rattle.join_ordinals.specs.Ordinals.{Ordinals, ordinal_at, relation_in}
 use Rattle.mapping.specs.Mapping.{Mapping, relation_at}

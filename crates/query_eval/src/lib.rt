@@ -14,6 +14,7 @@ mod leaves;
 mod merges;
 mod nests;
 mod no_memory;
+mod ranks;
 mod side;
 mod tallies;
 mod tally;

@@ -8,12 +8,15 @@ ghost use Rattle.query_eval.specs.Folds.{scopes_in};
 ghost use Rattle.query_eval.specs.Found.{AreLong, IsSeen};
 ghost use Rattle.query_eval.specs.Sides.{AreTallies, HaveRelations, HaveTallies, answer_for, at_roots, by_relation, children_by, given_by, keys_at, of_roots, pair_if, parent_by, told, told_by};
 ghost use Rattle.score_math.specs.declared.score.TheConstants.{SCORE_CAP};
+ghost use Rattle.segment.specs.Live.{root_of};
+ghost use Rattle.segment_parts.specs.Parts.{root_flags};
 ghost use Rattle.tree_objects.specs.Object.{Object};
 ghost use Rattle.tree_objects.specs.Tree.{Tree};
 
 use crate::NoMemory;
 use crate::answer::{Answer, answer_of};
 use crate::nests::scope_set;
+use crate::ranks::Ranks;
 use crate::side::{Side, is_kept_on, kept_key, ordinal_by};
 use crate::tally::Tallies;
 use block_bits::{BitSet, places_are_nearest};
@@ -151,10 +154,7 @@ fn joined(
     let mut made = Vec::with_capacity(alloc, entries.len())?;
     'entries: for place in 0..entries.len() {
         let segment = entries[place].segment();
-        let roots = scope_set(alloc, segment, 0)?;
-        let scores = given(
-            alloc, mapping, joins, segment, place, &roots, to, &tallies, answer,
-        )?;
+        let scores = given(alloc, mapping, joins, segment, place, to, &tallies, answer)?;
         made.push(scores)?;
     }
     Ok(Matches::of(made))
@@ -214,10 +214,12 @@ fn tell(
 {
     places_are_nearest::<Option<u64>>();
     let _documents = hits.len();
+    let mut ranks = Ranks::over(roots);
     let mut left = hits.cursor();
     'documents: while let Some(doc) = left.peek() {
         let score = take_at(&mut left, doc);
-        let key = key_if(mapping, joins, segment, place, roots, doc, side);
+        let rank = ranks.before(doc);
+        let key = key_if(mapping, joins, segment, place, roots, doc, rank, side);
         tell_one(tallies, key, score)?;
     }
     Ok(())
@@ -237,7 +239,7 @@ fn take_at(left: &mut Cursor, doc: u32) -> Option<u64>
     left.next_before(doc + 1)
 }
 
-/// The key of the root at a document, if it takes part; none where the document is no root's.
+/// The key of the root at a document, if it takes part; none where the document is no root's. The rank is a guess.
 fn key_if(
     mapping: &Mapping,
     joins: &JoinOrdinals,
@@ -245,6 +247,7 @@ fn key_if(
     place: usize,
     roots: &BitSet,
     doc: u32,
+    rank: u32,
     side: Side,
 ) -> Option<u32>
     requires document { doc < length roots.now }
@@ -258,7 +261,19 @@ fn key_if(
     }
     scopes_are_of_documents(segment);
     let _documents = segment.docs();
-    kept_key(mapping, joins, place, segment.root_of_doc(doc), side)
+    kept_key(mapping, joins, place, root_at(segment, doc, rank), side)
+}
+
+/// The root at a document: that of the rank, if the rank is the document's.
+fn root_at(segment: &Segment, doc: u32, rank: u32) -> u32
+    requires { doc < segment.now.documents }
+    ensures root { result ≡ root_of (root_flags segment.now.scopes) doc }
+    ensures within { result < length segment.now.roots }
+{
+    if rank < segment.roots() && segment.root_doc(rank) == doc {
+        return rank;
+    }
+    segment.root_of_doc(doc)
 }
 
 /// Adds a score to the tally of its key, where there are both.
@@ -278,55 +293,52 @@ fn tell_one(tallies: &mut Tallies, key: Option<u32>, score: Option<u64>) -> Resu
     Ok(())
 }
 
-/// What the roots of an entry are given.
+/// What the roots of an entry are given. The documents are looked up of those roots alone that are given something.
 fn given(
     alloc: Global,
     mapping: &Mapping,
     joins: &JoinOrdinals,
     segment: &Segment,
     place: usize,
-    roots: &BitSet,
     side: Side,
     tallies: &Tallies,
     answer: Answer,
 ) -> Result<Scored, NoMemory>
     requires keys { HaveTallies joins.now side place (length tallies.now.slots.items) }
     requires relations { HaveRelations joins.now side segment.now place }
-    ensures scores { (pairs : List (ℕ × ℕ)) → AreTallies pairs tallies.now → IfOk result (λ scores. scores ≡ at_roots roots.now (map (answer_for answer pairs) (keys_at mapping.now joins.now side segment.now place))) }
-    ensures long { IfOk result (λ scores. length scores ≡ length roots.now) }
+    ensures scores { (pairs : List (ℕ × ℕ)) → AreTallies pairs tallies.now → IfOk result (λ scores. scores ≡ at_roots (documents_of (scopes_in segment.now) 0) (map (answer_for answer pairs) (keys_at mapping.now joins.now side segment.now place))) }
+    ensures long { IfOk result (λ scores. length scores ≡ segment.now.documents) }
 {
-    let mut hits = Builder::empty(alloc, roots.len())?;
-    let mut from = 0;
-    let mut root = 0;
-    'documents: while let Some(doc) = roots.next_set(from) {
-        let score = given_to(mapping, joins, segment, place, root, side, tallies, answer);
-        hits.put(doc, score)?;
-        root += 1;
-        from = doc + 1;
+    scopes_are_of_documents(segment);
+    let documents = segment.docs();
+    let count = segment.roots();
+    let mut hits = Builder::empty(alloc, documents)?;
+    'roots: for root in 0..count {
+        if let Some(score) = given_to(mapping, joins, segment, place, root, side, tallies, answer) {
+            hits.push(segment.root_doc(root), score)?;
+        }
     }
     Ok(hits.finish())
 }
 
 /// What a root is given. Its relation is looked at only where its ordinal has scores.
-#[tactic(auto, using(crate::proofs::Telling::given_past, crate::proofs::Telling::given_none, crate::proofs::Telling::given_nothing, crate::proofs::Telling::given_untold, crate::proofs::Telling::given_off, crate::proofs::Telling::given_some))]
+#[tactic(auto, using(crate::proofs::Telling::given_none, crate::proofs::Telling::given_nothing, crate::proofs::Telling::given_untold, crate::proofs::Telling::given_off, crate::proofs::Telling::given_some))]
 fn given_to(
     mapping: &Mapping,
     joins: &JoinOrdinals,
-    segment: &Segment,
+    _segment: &Segment,
     place: usize,
     root: u32,
     side: Side,
     tallies: &Tallies,
     answer: Answer,
 ) -> Option<u64>
+    requires root { root < length _segment.now.roots }
     requires keys { HaveTallies joins.now side place (length tallies.now.slots.items) }
-    requires relations { HaveRelations joins.now side segment.now place }
-    ensures given { (pairs : List (ℕ × ℕ)) → AreTallies pairs tallies.now → result ≡ get_or (map (answer_for answer pairs) (keys_at mapping.now joins.now side segment.now place)) root None }
+    requires relations { HaveRelations joins.now side _segment.now place }
+    ensures given { (pairs : List (ℕ × ℕ)) → AreTallies pairs tallies.now → result ≡ get_or (map (answer_for answer pairs) (keys_at mapping.now joins.now side _segment.now place)) root None }
     ensures capped { IfSome result (λ score. score ≤ SCORE_CAP) }
 {
-    if root >= segment.roots() {
-        return None;
-    }
     let Some(ordinal) = ordinal_by(joins, place, root, side) else {
         return None;
     };

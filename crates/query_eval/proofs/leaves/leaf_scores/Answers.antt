@@ -1,5 +1,4 @@
-use Rattle.std.proofs.Common.{◌≡◌, length, Option, None, Some, sym, ap, ◌∙◌}
-use Rattle.block_join.specs.Scores.{filled}
+use Rattle.std.proofs.Common.{length, ap, ◌∙◌}
 use Rattle.query_eval.proofs.Seen.{leaf_known, leaf_long, leaf_seen}
 use Rattle.query_eval.proofs.leaves.leaf_scores.Goals as goal
 

@@ -1,4 +1,4 @@
-use Rattle.std.proofs.Common.{◌<◌, ◌≤◌, [], length, get_or, arith}
+use Rattle.std.proofs.Common.{◌<◌, [], length, get_or, arith}
 use Rattle.query_eval.specs.Folds.{leaf_score, whatever}
 use Rattle.query_eval.proofs.Entries.{entry_step, done_step, all_long, all_seen}
 use Rattle.query_eval.proofs.leaves.leaves.Goals as goal

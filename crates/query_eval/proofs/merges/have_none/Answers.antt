@@ -1,4 +1,4 @@
-use Rattle.std.proofs.Common.{◌≡◌, List, Bool, is_none, sym, ap, ◌∙◌}
+use Rattle.std.proofs.Common.{List, Bool, is_none, sym, ap, ◌∙◌}
 use Rattle.block_bits.specs.Flags.{is_marked}
 use Rattle.block_bits.specs.Places.{next_place}
 use Rattle.query_eval.proofs.Sets.{none_marked}

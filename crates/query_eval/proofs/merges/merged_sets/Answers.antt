@@ -1,4 +1,4 @@
-use Rattle.std.proofs.Common.{◌≡◌, ℕ, ◌+◌, Some, sym, ap, ◌∙◌}
+use Rattle.std.proofs.Common.{ℕ, ◌+◌, Some, sym, ap, ◌∙◌}
 use Rattle.block_join.specs.Merge.{paired, put_together}
 use Rattle.block_join.specs.Scores.{filled}
 use Rattle.block_join.specs.declared.rule.Rule.{Rule}

@@ -1,4 +1,4 @@
-use Rattle.std.proofs.Common.{◌<◌, ◌≤◌, List, [], length, get_or, sym, ap, ◌∙◌, arith}
+use Rattle.std.proofs.Common.{◌<◌, List, [], length, get_or, ap, ◌∙◌, arith}
 use Rattle.block_join.specs.Merge.{paired, put_together}
 use Rattle.query_eval.specs.Folds.{paired_by}
 use Rattle.query_eval.specs.Found.{live_trees}

@@ -1,4 +1,4 @@
-use Rattle.std.proofs.Common.{◌≡◌, ℕ, List, Option, take}
+use Rattle.std.proofs.Common.{ℕ, List, Option, take}
 use Rattle.mapping.specs.Mapping.{Mapping}
 use Rattle.tree_objects.specs.Object.{Object}
 use Rattle.tree_objects.specs.Tree.{Tree}

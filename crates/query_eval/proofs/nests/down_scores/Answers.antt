@@ -1,4 +1,4 @@
-use Rattle.std.proofs.Common.{◌≡◌, ◌≢◌, arith}
+use Rattle.std.proofs.Common.{◌≢◌, arith}
 use Rattle.query_eval.proofs.Scopes.{down_is}
 use Rattle.query_eval.proofs.nests.down_scores.Goals as goal
 

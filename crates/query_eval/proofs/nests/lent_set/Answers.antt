@@ -1,4 +1,4 @@
-use Rattle.std.proofs.Common.{◌≡◌, ◌<◌, ◌≤◌, ℕ, Bool, List, [], length, refl, ap, ◌∙◌, arith}
+use Rattle.std.proofs.Common.{◌<◌, Bool, List, [], length, refl, ap, ◌∙◌, arith}
 use Rattle.query_eval.proofs.Scopes.{set_at}
 use Rattle.query_eval.proofs.nests.lent_set.Goals as goal
 

@@ -1,4 +1,4 @@
-use Rattle.std.proofs.Common.{◌≡◌, ◌<◌, ◌≤◌, List, [], length, get_or, sym, ap, subst, ◌∙◌, arith}
+use Rattle.std.proofs.Common.{◌<◌, List, [], length, get_or, sym, ap, subst, ◌∙◌, arith}
 use Rattle.score_math.specs.Scores.{mode_of}
 use Rattle.segment_parts.specs.declared.columns.Columns.{Columns}
 use Rattle.flattener.specs.StandsFor.{EntryStandsFor}

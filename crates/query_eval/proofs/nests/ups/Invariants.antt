@@ -1,4 +1,4 @@
-use Rattle.std.proofs.Common.{◌≡◌, ℕ, List, Option, take}
+use Rattle.std.proofs.Common.{ℕ, List, Option, take}
 use Rattle.mapping.specs.Mapping.{Mapping, IsAbove}
 use Rattle.score_math.specs.Scores.{mode_of}
 use Rattle.tree_objects.specs.Object.{Object}

@@ -1,4 +1,4 @@
-use Rattle.std.proofs.Common.{◌≡◌, ◌<◌, ◌≤◌, ◌++◌, Bool, List, ℕ, Option, get_or, length, take, sym, ap, subst, ◌∙◌, arith}
+use Rattle.std.proofs.Common.{◌<◌, ◌++◌, Bool, List, ℕ, get_or, length, take, sym, ap, subst, ◌∙◌, arith}
 use Rattle.segment_parts.specs.declared.columns.Columns.{Columns}
 use Rattle.query_eval.specs.Sides.{AreTallies, keys_at, of_roots, told, told_by}
 use Rattle.query_eval.proofs.Entries.{Scores, long_count, own_long}

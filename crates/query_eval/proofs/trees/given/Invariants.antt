@@ -1,16 +1,14 @@
-use Rattle.std.proofs.Common.{◌≡◌, ◌-◌, ◌≤◌, ℕ, List, length, map}
+use Rattle.std.proofs.Common.{◌≡◌, ◌≤◌, ℕ, List, Some, length, map, slice_get}
+use Rattle.block_bits.specs.Blocks.{documents_of}
+use Rattle.segment.specs.Roots.{root_documents}
+use Rattle.query_eval.specs.Folds.{scopes_in}
 use Rattle.query_eval.specs.Sides.{AreTallies, answer_for, keys_at}
 use Rattle.query_eval.proofs.Walking.{Giving}
 use Rattle.query_eval.proofs.trees.given.Given as goal
 
-abbrev pub invariant-documents : goal.invariant-documents
-invariant-documents l =
-    (l.hits.len ≡ length l.roots)
-    × (length l.hits.done ≤ l.from)
-    × (l.root ≤ l.from)
-    × (l.from ≤ length l.roots)
+abbrev pub invariant-roots : goal.invariant-roots
+invariant-roots l =
+    (l.hits.len ≡ l.segment.documents)
+    × ((root doc : ℕ) → l.root ≤ root → slice_get (root_documents l.segment.scopes) root ≡ Some doc → length l.hits.done ≤ doc)
     × ((pairs : List (ℕ × ℕ)) → AreTallies pairs l.tallies
-    → Giving l.roots (map (answer_for l.answer pairs) (keys_at l.mapping l.joins l.side l.segment l.place)) l.hits.done l.from l.root)
-
-abbrev pub decreases-documents : goal.decreases-documents
-decreases-documents l = length l.roots - l.from
+    → Giving (documents_of (scopes_in l.segment) 0) (map (answer_for l.answer pairs) (keys_at l.mapping l.joins l.side l.segment l.place)) l.hits.done l.root)

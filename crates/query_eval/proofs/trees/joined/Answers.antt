@@ -1,6 +1,6 @@
-use Rattle.std.proofs.Common.{◌≡◌, ◌<◌, ◌≤◌, Bool, List, ℕ, Option, length, map, take, sym, ap, subst, ◌∙◌, arith}
+use Rattle.std.proofs.Common.{◌<◌, length, ap, ◌∙◌, arith}
 use Rattle.segment_parts.specs.declared.columns.Columns.{Columns}
-use Rattle.query_eval.specs.Sides.{AreTallies, answer_for, at_roots, keys_at, told_by}
+use Rattle.query_eval.specs.Sides.{told_by}
 use Rattle.query_eval.proofs.Entries.{all_long, entry_step}
 use Rattle.query_eval.proofs.Telling.{tell_keys, tell_relations, given_step, given_whole}
 use Rattle.query_eval.proofs.trees.joined.Goals as goal
@@ -22,11 +22,10 @@ entries-preserved c =
     let below : c.entries.place < length c.args.entries.now = omega (arith, c.entries-test.true) in
     let pairs = told_by c.args.mapping.now c.args.joins.now c.args.from 0 c.args.entries.now c.args.hits.now in (
       entry_step c.args.entries.now c.entries.place c.index-entries-place.result c.entries.made.items c.push.new.self.items c.in_ok-scores.scores c.index-entries-place.is below c.entries.invariant.0
-          (c.in_ok-scores.ensures.long ∙ c.in_ok-roots.ensures.long ∙ ap (λ (x : Columns). x.documents) c.segment-segment.ensures) c.in_ok-push.ensures.items,
+          (c.in_ok-scores.ensures.long ∙ ap (λ (x : Columns). x.documents) c.segment-segment.ensures) c.in_ok-push.ensures.items,
       given_step c.args.mapping.now c.args.joins.now c.args.to c.args.entries.now c.entries.place c.index-entries-place.result c.segment-segment.result.now below c.index-entries-place.is c.segment-segment.ensures
           c.args.answer pairs c.entries.made.items c.push.new.self.items c.in_ok-scores.scores c.entries.invariant.1
-          (c.in_ok-scores.ensures.scores pairs c.in_ok-tallies.ensures.tallies
-          ∙ ap (λ (flags : List Bool). at_roots flags (map (answer_for c.args.answer pairs) (keys_at c.args.mapping.now c.args.joins.now c.args.to c.segment-segment.result.now c.entries.place))) c.in_ok-roots.ensures.set)
+          (c.in_ok-scores.ensures.scores pairs c.in_ok-tallies.ensures.tallies)
           c.in_ok-push.ensures.items,
     )
 

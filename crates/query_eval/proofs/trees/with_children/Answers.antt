@@ -1,4 +1,4 @@
-use Rattle.std.proofs.Common.{◌≡◌, ◌∙◌, sym}
+use Rattle.std.proofs.Common.{◌∙◌, sym}
 use Rattle.query_eval.proofs.Rooted.{seen_children}
 use Rattle.query_eval.proofs.trees.with_children.Goals as goal
 

@@ -1,4 +1,3 @@
-use Rattle.std.proofs.Common.{◌≡◌, ◌∙◌, sym}
 use Rattle.query_eval.proofs.Rooted.{seen_parents}
 use Rattle.query_eval.proofs.trees.with_parent.Goals as goal
 

@@ -1,4 +1,4 @@
-use Rattle.std.proofs.Common.{◌≡◌, ◌∙◌, sym}
+use Rattle.std.proofs.Common.{◌∙◌, sym}
 use Rattle.query_eval.proofs.Related.{seen_by_relation}
 use Rattle.query_eval.proofs.trees.with_parent_by.Goals as goal
 
