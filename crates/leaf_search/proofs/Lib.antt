@@ -9,6 +9,7 @@ pub mod Unions
 pub mod Shown
 pub mod TermShown
 pub mod Going
+pub mod Halving
 pub mod Phrasing
 pub mod Phrased
 pub mod Queries
