@@ -1,4 +1,5 @@
 pub mod Tests
+pub mod Once
 pub mod Named
 pub mod Listing
 pub mod Gaining
