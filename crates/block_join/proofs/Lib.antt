@@ -13,3 +13,4 @@ pub mod Sets
 pub mod Adding
 pub mod Reaching
 pub mod Holding
+pub mod Counting

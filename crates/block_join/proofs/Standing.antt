@@ -1,17 +1,15 @@
 -- A cursor over scores, by the walk that it keeps.
-use Rattle.std.proofs.Common.{◌≡◌, ℕ, zero, suc, subst, ◌+◌, ◌-◌, ◌<◌, ◌≤◌, Bool, true, false, cond, List, [], ◌∷◌, ◌++◌, length, take, drop, max, Option, Some, None, IfSome, IfNone, is_some, refl, sym, ap, ◌∙◌, inl, inr, arith, take-append-drop, drop-drop, length-drop, zero-add}
+use Rattle.std.proofs.Common.{◌≡◌, ℕ, suc, subst, ◌+◌, ◌-◌, ◌<◌, ◌≤◌, Bool, List, [], ◌∷◌, length, take, drop, max, Option, Some, None, IfSome, IfNone, is_some, sym, ap, ◌∙◌, arith, drop-drop, length-drop, zero-add}
 use Rattle.std.specs.List.{position_from, flat_map}
 use Rattle.std.specs.Option.{option_to_list}
 use Rattle.block_bits.specs.Flags.{is_marked}
 use Rattle.block_bits.specs.Places.{next_place}
 use Rattle.block_bits.specs.Walks.{Walking}
-use Rattle.score_math.specs.declared.score.TheConstants.{SCORE_CAP}
 use Rattle.block_join.specs.declared.scores.Scores.{Scores}
-use Rattle.block_join.specs.declared.scores.Scores.TheVariants.{Same, Each}
 use Rattle.block_join.specs.Kept.{shown, score_of, marks, IsLong, IsPlaced, AreScores, IsStanding}
 use Rattle.block_join.specs.Scores.{Standing, between}
-use Rattle.block_join.proofs.Firsts.{NoneIn, FirstAt, FoundAt, first_at, none_at, none_before, passed_over, first_within}
-use Rattle.block_join.proofs.Shown.{length_shown, shown_next, shown_drop, marks_add, marks_parts, marks_le, marks_none, marks_first, none_between, first_between}
+use Rattle.block_join.proofs.Firsts.{NoneIn, first_at, none_at, none_before, passed_over, first_within}
+use Rattle.block_join.proofs.Shown.{length_shown, shown_next, shown_drop, marks_add, marks_parts, marks_none, marks_first, none_between, first_between}
 
 -- the documents from `from` on
 pub shown_from : (f : ℕ → ℕ) (flags : List Bool) (from : ℕ) → drop from (shown f 0 flags) ≡ shown f (marks (take from flags)) (drop from flags)
@@ -61,10 +59,11 @@ pub place_known : (scores : Scores) (at k : ℕ) (flags : List Bool) → IsPlace
     → (n : ℕ) × (count : ℕ) × IsPlaced scores at n × IsLong scores count × (n < count)
 place_known scores at k flags placed are h = (k, marks flags, placed, are.long, h)
 
-pub stands_behind : (old new : Walking) (ahead : Option ℕ) (scores : Scores) (from doc at : ℕ) → Read old.documents scores from doc → AreScores old.documents scores
+pub stands_behind : (set : List Bool) (old new : Walking) (ahead : Option ℕ) (scores : Scores) (from doc at : ℕ) → Read old.documents scores from doc → old.documents ≡ set → AreScores old.documents scores
     → new.documents ≡ old.documents → ahead ≡ next_place is_marked (doc + 1) old.documents → IfSome ahead (λ next. new.from ≡ next + 1)
-    → IsPlaced scores at (marks (take from old.documents) + 1) → IsStanding new ahead scores (doc + 1) at
-stands_behind old new ahead scores from doc at read are same next behind placed = record {
+    → IsPlaced scores at (marks (take from old.documents) + 1) → IsStanding set new ahead scores (doc + 1) at
+stands_behind set old new ahead scores from doc at read own are same next behind placed = record {
+  own = same ∙ own;
   scores_are = rw same are;
   within = rw same (omega (arith, read.within));
   next = rw same next;
@@ -100,9 +99,10 @@ passes_some flags scores from end doc h e late =
     let found = first_at is_marked from (drop from flags) doc e in
     passes flags scores from end h (none_before is_marked (end - from) found.ahead (drop from flags) found.first (omega (arith, found.place)))
 
-pub stands_at : (walk : Walking) (ahead : Option ℕ) (scores : Scores) (from end at : ℕ) → IsStanding walk ahead scores from at → end ≤ length walk.documents
-    → Passed walk.documents scores from end → IsStanding walk ahead scores end at
-stands_at walk ahead scores from end at it within passed = record {
+pub stands_at : (set : List Bool) (walk : Walking) (ahead : Option ℕ) (scores : Scores) (from end at : ℕ) → IsStanding set walk ahead scores from at → end ≤ length walk.documents
+    → Passed walk.documents scores from end → IsStanding set walk ahead scores end at
+stands_at set walk ahead scores from end at it within passed = record {
+  own = it.own;
   scores_are = it.scores_are;
   within = within;
   next = it.next ∙ sym passed.next;
@@ -135,20 +135,21 @@ view_long flags scores from view e = subst (λ (it : Standing). length it.scores
 pub view_from : (flags : List Bool) (scores : Scores) (from : ℕ) (view : Standing) → record { scores = shown (score_of scores) 0 flags; from = from } ≡ view → from ≡ view.from
 view_from flags scores from view e = ap (λ (it : Standing). it.from) e
 
--- ---- where no score is counted, what lies before the end may be left out
+-- ---- what lies before the end passed over
 
-pub leaps_to : (old skipped new : Walking) (ahead : Option ℕ) (scores : Scores) (score end at : ℕ) → scores ≡ Same score → AreScores old.documents scores → end ≤ length old.documents → old.from ≤ end
+pub leaps_to : (set : List Bool) (old skipped new : Walking) (ahead : Option ℕ) (scores : Scores) (end at : ℕ) → old.documents ≡ set → AreScores old.documents scores → end ≤ length old.documents → old.from ≤ end
     → skipped ≡ record { documents = old.documents; from = max old.from end } → ahead ≡ next_place is_marked skipped.from skipped.documents
     → IfSome ahead (λ at. new ≡ record { documents = skipped.documents; from = at + 1 }) → IfNone ahead (new ≡ record { documents = skipped.documents; from = length skipped.documents })
-    → IsStanding new ahead scores end at
-leaps_to old skipped new ahead scores score end at same are within low skip next found ended =
+    → IsPlaced scores at (marks (take end set)) → IsStanding set new ahead scores end at
+leaps_to set old skipped new ahead scores end at own are within low skip next found ended placed =
     let documents : skipped.documents ≡ old.documents = ap (λ (w : Walking). w.documents) skip in
     let from : skipped.from ≡ end = omega (arith, ap (λ (w : Walking). w.from) skip, low) in
     let new_documents : new.documents ≡ old.documents = walk_documents skipped new ahead found ended ∙ documents in
     record {
+      own = new_documents ∙ own;
       scores_are = rw new_documents are;
       within = rw new_documents within;
       next = rw new_documents (next ∙ ap (λ n. next_place is_marked n skipped.documents) from ∙ ap (λ (flags : List Bool). next_place is_marked end flags) documents);
       behind = walk_behind skipped new ahead found;
-      placed = rw same tt;
+      placed = rw (new_documents ∙ own) placed;
     }

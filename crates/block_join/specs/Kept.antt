@@ -43,7 +43,8 @@ pub record AreScores (flags : List Bool) (scores : Scores) : Type 0 where
   pub capped : (k : ℕ) → k < marks flags → score_of scores k ≤ SCORE_CAP
 
 -- a walk over the set, that stands behind the next document from `from` on, and the place of that document's score
-pub record IsStanding (walk : Walking) (ahead : Option ℕ) (scores : Scores) (from at : ℕ) : Type 0 where
+pub record IsStanding (set : List Bool) (walk : Walking) (ahead : Option ℕ) (scores : Scores) (from at : ℕ) : Type 0 where
+  pub own : walk.documents ≡ set
   pub scores_are : AreScores walk.documents scores
   pub within : from ≤ length walk.documents
   pub next : ahead ≡ next_place is_marked from walk.documents

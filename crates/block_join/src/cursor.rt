@@ -18,6 +18,7 @@ use std::marker::Model;
 /// It keeps the next document that hits in hand, so that a look ahead costs nothing.
 #[derive(Drop)]
 pub struct Cursor<'a> {
+    set: &'a BitSet,
     walk: Walk<'a>,
     ahead: Option<u32>,
     scores: &'a Scores,
@@ -33,7 +34,7 @@ impl<'a> Model for Cursor<'a> {
 
     ghost view = { λ it. record { scores = shown (score_of it.scores.now) 0 it.walk.documents; from = it.from } };
 
-    ghost invariant = { λ it. IsStanding it.walk it.ahead it.scores.now it.from it.at };
+    ghost invariant = { λ it. IsStanding it.set.now it.walk it.ahead it.scores.now it.from it.at };
 }
 
 impl<'a> Cursor<'a> {
@@ -45,6 +46,7 @@ impl<'a> Cursor<'a> {
         let mut walk = set.walk();
         let ahead = walk.next();
         Cursor {
+            set,
             walk,
             ahead,
             scores,
@@ -95,32 +97,20 @@ impl<'a> Cursor<'a> {
         }
     }
 
-    /// Goes on at `end`. Where all documents share one score, those that are passed over cost nothing.
+    /// Goes on at `end`. Documents that are passed over are counted 64 at a time, and not at all where they share one score.
     pub fn skip(&mut self, end: u32)
         requires ordered { self.old.from ≤ end }
         requires within { end ≤ length self.old.scores }
         ensures { self.new ≡ record { scores = self.old.scores; from = end } }
     {
-        self.leap(end);
-        'scores: while self.next_before(end).is_some() {}
-    }
-
-    /// Goes on at `end` where all documents share one score and some are passed over, or stays.
-    fn leap(&mut self, end: u32)
-        requires ordered { self.old.from ≤ end }
-        requires within { end ≤ length self.old.scores }
-        ensures scores { self.new.scores ≡ self.old.scores }
-        ensures later { self.old.from ≤ self.new.from }
-        ensures up_to { self.new.from ≤ end }
-    {
-        if let Scores::Same(_) = self.scores {
-            if let Some(doc) = self.ahead {
-                if doc < end {
-                    self.walk.skip_to(end);
-                    self.ahead = self.walk.next();
-                    self.from = end;
-                }
+        match self.ahead {
+            Some(doc) if doc < end => {
+                self.at = self.scores.place_at(self.set, self.at, doc, end);
+                self.walk.skip_to(end);
+                self.ahead = self.walk.next();
+                self.from = end;
             }
+            _ => self.from = end,
         }
     }
 

@@ -7,6 +7,7 @@
 #![tactic(auto)]
 
 mod builder;
+mod count;
 mod cursor;
 mod down;
 mod matches;

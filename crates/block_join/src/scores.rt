@@ -1,9 +1,11 @@
 //! The scores of a set's documents, in their order.
 
-ghost use Rattle.std.specs.Prelude.{◌≡◌, ℕ, ◌+◌, ◌<◌, List, [], ◌∷◌, ◌++◌, replicate, IfOk, OnOk, OnErr};
-ghost use Rattle.block_join.specs.Kept.{score_of, IsLong, IsPlaced};
+ghost use Rattle.std.specs.Prelude.{◌≡◌, ℕ, ◌+◌, ◌<◌, ◌≤◌, List, [], ◌∷◌, ◌++◌, length, replicate, take, IfOk, OnOk, OnErr};
+ghost use Rattle.block_join.specs.Kept.{marks, score_of, IsLong, IsPlaced};
 
 use crate::NoMemory;
+use crate::count::count_between;
+use block_bits::BitSet;
 use std::alloc::Global;
 
 /// The scores of a set's documents.
@@ -25,6 +27,19 @@ impl Scores {
         match self {
             Scores::Same(score) => (*score, at),
             Scores::Each(scores) => (scores[at], at + 1),
+        }
+    }
+
+    /// The place of the next score from document `end` of the set on, where `at` is that from `from` on.
+    pub(crate) fn place_at(&self, set: &BitSet, at: usize, from: u32, end: u32) -> usize
+        requires ordered { from ≤ end }
+        requires within { end ≤ length set.now }
+        requires placed { IsPlaced self.now at (marks (take from set.now)) }
+        ensures { IsPlaced self.now result (marks (take end set.now)) }
+    {
+        match self {
+            Scores::Same(_) => at,
+            Scores::Each(_) => at + count_between(set, from, end) as usize,
         }
     }
 

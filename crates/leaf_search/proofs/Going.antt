@@ -18,7 +18,7 @@ use Rattle.leaf_search.proofs.Tests.{and_false}
 
 -- ---- documents in order
 
-rises : (xs : List ℕ) → IsStrictlyIncreasing xs → (i j : ℕ) → i + j + 1 < length xs → get_or xs i 0 < get_or xs (i + j + 1) 0
+pub rises : (xs : List ℕ) → IsStrictlyIncreasing xs → (i j : ℕ) → i + j + 1 < length xs → get_or xs i 0 < get_or xs (i + j + 1) 0
 rises xs increasing i zero below = subst (λ (k : ℕ). get_or xs i 0 < get_or xs k 0) (omega arith) (increasing i (omega (arith, below)))
 rises xs increasing i (suc j) below =
     let before = rises xs increasing i j (omega (arith, below)) in

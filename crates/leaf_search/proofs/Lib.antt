@@ -1,4 +1,5 @@
 pub mod Tests
+pub mod Once
 pub mod Named
 pub mod Listing
 pub mod Gaining
@@ -9,6 +10,7 @@ pub mod Unions
 pub mod Shown
 pub mod TermShown
 pub mod Going
+pub mod Halving
 pub mod Phrasing
 pub mod Phrased
 pub mod Queries

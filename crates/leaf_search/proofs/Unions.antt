@@ -1,12 +1,13 @@
 -- Sets that are joined and met.
 use Rattle.std.proofs.Common.{◌≡◌, ◌≢◌, ℕ, zero, suc, ◌+◌, ◌<◌, ◌≤◌, Bool, true, false, ◌&&◌, ◌||◌, List, [], ◌∷◌, length, map, get_or, take, replicate, All, Some, refl, sym, ap, subst, ◌∙◌, inl, inr, arith, nat_eq}
-use Rattle.std.specs.List.{list_any, list_all}
+use Rattle.std.specs.List.{list_all}
 use Rattle.std.specs.Str.{bytes_eq}
 use Rattle.std.proofs.lemmas.Bool.{cases_Bool}
-use Rattle.std.proofs.lemmas.List.{get_or-replicate, length-replicate, get_or_read, take_all}
+use Rattle.std.proofs.lemmas.List.{get_or_default, get_or-replicate, length-replicate, get_or_read, take_all}
 use Rattle.std.proofs.lemmas.List.Elements.{All-head, All-tail}
-use Rattle.std.proofs.lemmas.List.Folds.{list_any_more, list_all_more, list_all-map}
+use Rattle.std.proofs.lemmas.List.Folds.{list_all_more, list_all-map}
 use Rattle.std.proofs.lemmas.List.FromFn.{length-map-range_with_len}
+use denote.Ref.{Bor}
 use Rattle.analysis.specs.declared.token_list.Token.{Token}
 use Rattle.block_bits.specs.Flags.{cleared, intersection, union}
 use Rattle.segment.specs.Agree.{AreColumns}
@@ -19,8 +20,8 @@ use Rattle.leaf_search.specs.Sets.{Gains, cut}
 use Rattle.segment.specs.Shows.{has_term, has_text, column_flag}
 use Rattle.leaf_search.specs.Words.{folded_words, shows_some, shows_all, shows_words}
 use Rattle.leaf_search.proofs.Cutting.{cut_sets, cut_none, scope_set, cleared_all, all_flats}
-use Rattle.leaf_search.proofs.Gaining.{Has, gained, gains_same, gains_both, has_all}
-use Rattle.leaf_search.proofs.Tests.{any-map}
+use Rattle.leaf_search.proofs.Once.{lent_words}
+use Rattle.leaf_search.proofs.Gaining.{Has, has_all}
 
 -- ---- pairs of flags
 
@@ -89,25 +90,14 @@ kept_none c n marks lives past law long live =
 
 -- ---- words
 
-pub some_more : (c : Columns) (f : ℕ) (tokens : List Token) (at : ℕ) (token : Token) (old now new : List Bool) → at < length tokens → token ≡ get_or tokens at token
-    → Gains c (shows_some f (folded_words (take at tokens))) old now → Gains c (has_term f (bytes_eq token.folded)) now new → Gains c (shows_some f (folded_words (take (at + 1) tokens))) old new
-some_more c f tokens at token old now new inside is was own =
-    gains_same c (λ d. shows_some f (folded_words (take at tokens)) d || has_bytes f d token.folded) (shows_some f (folded_words (take (at + 1) tokens))) old new
-    (λ d.
-    let test : Token → Bool = λ (t : Token). has_bytes f d t.folded in
-    ap (λ (b : Bool). b || test token) (any-map (has_bytes f d) (λ (t : Token). t.folded) (take at tokens))
-    ∙ sym (list_any_more test tokens at token inside ∙ ap (λ (t : Token). list_any test (take at tokens) || test t) (sym is))
-    ∙ sym (any-map (has_bytes f d) (λ (t : Token). t.folded) (take (at + 1) tokens)))
-    (gains_both c (shows_some f (folded_words (take at tokens))) (λ d. has_bytes f d token.folded) old now new was own)
-
 pub has_full : (c : Columns) (f : ℕ) → Has c (shows_all f []) (replicate c.documents true)
 has_full c f = record {
   long = length-replicate c.documents true;
   marked = λ doc below. get_or-replicate c.documents doc true false below;
 }
 
-pub all_more : (c : Columns) (f : ℕ) (tokens : List Token) (at : ℕ) (token : Token) (now own : List Bool) → at < length tokens → token ≡ get_or tokens at token
-    → Has c (shows_all f (folded_words (take at tokens))) now → Gains c (has_term f (bytes_eq token.folded)) (replicate c.documents false) own → Has c (shows_all f (folded_words (take (at + 1) tokens))) (intersection now own)
+pub all_more : (c : Columns) (f : ℕ) (tokens : List (Bor (List ℕ))) (at : ℕ) (token : Bor (List ℕ)) (now own : List Bool) → at < length tokens → token ≡ get_or tokens at token
+    → Has c (shows_all f (lent_words (take at tokens))) now → Gains c (has_term f (bytes_eq token.now)) (replicate c.documents false) own → Has c (shows_all f (lent_words (take (at + 1) tokens))) (intersection now own)
 all_more c f tokens at token now own inside is was gains =
     let long : length own ≡ c.documents = gains.long ∙ length-replicate c.documents false in
     let same : length now ≡ length own = was.long ∙ sym long in
@@ -115,29 +105,26 @@ all_more c f tokens at token now own inside is was gains =
       long = length_meet now own same ∙ was.long;
       marked = λ doc below.
           let d : FlatDocument = flat_of c doc in
-          let test : Token → Bool = λ (t : Token). has_bytes f d t.folded in
+          let test : Bor (List ℕ) → Bool = λ (t : Bor (List ℕ)). has_bytes f d t.now in
           let one : get_or own doc false ≡ test token = gains.marked doc (omega (arith, length-replicate c.documents false)) ∙ ap (λ (b : Bool). b || test token) (get_or-replicate c.documents doc false false below) in
           meet_at now own doc (omega (arith, was.long)) same
-          ∙ ap (λ (b : Bool). b && get_or own doc false) (was.marked doc below ∙ list_all-map (has_bytes f d) (λ (t : Token). t.folded) (take at tokens))
+          ∙ ap (λ (b : Bool). b && get_or own doc false) (was.marked doc below ∙ list_all-map (has_bytes f d) (λ (t : Bor (List ℕ)). t.now) (take at tokens))
           ∙ ap (λ (b : Bool). list_all test (take at tokens) && b) one
-          ∙ sym (list_all_more test tokens at token inside ∙ ap (λ (t : Token). list_all test (take at tokens) && test t) (sym is))
-          ∙ sym (list_all-map (has_bytes f d) (λ (t : Token). t.folded) (take (at + 1) tokens));
+          ∙ sym (list_all_more test tokens at token inside ∙ ap (λ (t : Bor (List ℕ)). list_all test (take at tokens) && test t) (sym is))
+          ∙ sym (list_all-map (has_bytes f d) (λ (t : Bor (List ℕ)). t.now) (take (at + 1) tokens));
     }
 
-pub some_all : (c : Columns) (f : ℕ) (tokens : List Token) (at : ℕ) (set : List Bool) → length tokens ≤ at → Gains c (shows_some f (folded_words (take at tokens))) (replicate c.documents false) set → set ≡ map (shows_some f (folded_words tokens)) (flats_of c)
-some_all c f tokens at set past gains =
-    gained c (shows_some f (folded_words tokens)) set (subst (λ (ts : List Token). Gains c (shows_some f (folded_words ts)) (replicate c.documents false) set) (take_all at tokens past) gains)
-
-pub all_all : (c : Columns) (f : ℕ) (tokens : List Token) (at : ℕ) (set : List Bool) → length tokens ≤ at → Has c (shows_all f (folded_words (take at tokens))) set → set ≡ map (shows_all f (folded_words tokens)) (flats_of c)
+pub all_all : (c : Columns) (f : ℕ) (tokens : List (Bor (List ℕ))) (at : ℕ) (set : List Bool) → length tokens ≤ at → Has c (shows_all f (lent_words (take at tokens))) set → set ≡ map (shows_all f (lent_words tokens)) (flats_of c)
 all_all c f tokens at set past has =
-    has_all c (shows_all f (folded_words tokens)) set (subst (λ (ts : List Token). Has c (shows_all f (folded_words ts)) set) (take_all at tokens past) has)
+    has_all c (shows_all f (lent_words tokens)) set (subst (λ (ts : List (Bor (List ℕ))). Has c (shows_all f (lent_words ts)) set) (take_all at tokens past) has)
 
-pub all_step : (c : Columns) (f : ℕ) (tokens : List Token) (at : ℕ) (token : Token) (now : List Bool) (documents : ℕ) (empty own new : List Bool) → at < length tokens → token ≡ get_or tokens at token
-    → Has c (shows_all f (folded_words (take at tokens))) now → documents ≡ c.documents → empty ≡ replicate documents false → Gains c (has_term f (bytes_eq token.folded)) empty own → new ≡ intersection now own
-    → Has c (shows_all f (folded_words (take (at + 1) tokens))) new
-all_step c f tokens at token now documents empty own new inside is was many none gains met =
-    subst (Has c (shows_all f (folded_words (take (at + 1) tokens)))) (sym met)
-    (all_more c f tokens at token now own inside is was (subst (λ (old : List Bool). Gains c (has_term f (bytes_eq token.folded)) old own) (none ∙ ap (λ (k : ℕ). replicate k false) many) gains))
+pub all_step : (c : Columns) (f : ℕ) (tokens : List (Bor (List ℕ))) (at : ℕ) (d : Bor (List ℕ)) (now : List Bool) (documents : ℕ) (empty own new : List Bool) → at < length tokens
+    → Has c (shows_all f (lent_words (take at tokens))) now → documents ≡ c.documents → empty ≡ replicate documents false → Gains c (has_term f (bytes_eq (get_or tokens at d).now)) empty own → new ≡ intersection now own
+    → Has c (shows_all f (lent_words (take (at + 1) tokens))) new
+all_step c f tokens at d now documents empty own new inside was many none gains met =
+    let token : Bor (List ℕ) = get_or tokens at d in
+    subst (Has c (shows_all f (lent_words (take (at + 1) tokens)))) (sym met)
+    (all_more c f tokens at token now own inside (sym (get_or_default tokens at token d inside)) was (subst (λ (old : List Bool). Gains c (has_term f (bytes_eq token.now)) old own) (none ∙ ap (λ (k : ℕ). replicate k false) many) gains))
 
 -- which of the two loops answers
 pub some_asked : (c : Columns) (all : Bool) (f : ℕ) (tokens : List Token) → all ≡ false → map (shows_some f (folded_words tokens)) (flats_of c) ≡ map (shows_words all f (folded_words tokens)) (flats_of c)

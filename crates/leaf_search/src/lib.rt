@@ -5,6 +5,7 @@
 //! objects of a scope at which the leaf holds. Begin with `leaf`, then `terms`, and for the meaning with `specs/Found`.
 #![tactic(auto)]
 
+mod distinct;
 mod exists;
 mod ids;
 mod key;

@@ -233,14 +233,24 @@ fn stands(cursor: &Cursor, doc: u32, position: u64) -> bool
     }
 }
 
-/// Whether a cursor's term stands at a position in the cursor's document.
+/// Whether a cursor's term stands at a position in the cursor's document. Positions ascend, so that it looks at few of them.
 fn has_position(cursor: &Cursor, position: u64) -> bool
     requires { IsSome (present cursor.now) }
     ensures { result ≡ list_any (λ p. p == position) (present_positions cursor.now) }
 {
-    'positions: for i in 0..cursor.positions() {
-        if cursor.position(i) as u64 == position {
+    let _document = cursor.doc();
+    let mut first = 0;
+    let mut end = cursor.positions();
+    'halves: while first < end {
+        let middle = first + (end - first) / 2;
+        let own = cursor.position(middle) as u64;
+        if own == position {
             return true;
+        }
+        if own < position {
+            first = middle + 1;
+        } else {
+            end = middle;
         }
     }
     false

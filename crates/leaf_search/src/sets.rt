@@ -60,7 +60,7 @@ pub(crate) fn values_set(
     ensures fit { IfOk result (λ set. All FitsKey values.now) }
 {
     let mut set = BitSet::empty(alloc, segment.docs())?;
-    mark_values(segment, field, values, &mut set);
+    mark_values(alloc, segment, field, values, &mut set)?;
     keep_live(&mut set, segment, live, scope);
     Ok(set)
 }

@@ -1,19 +1,24 @@
 //! The documents that have terms of a field.
 
-ghost use Rattle.std.specs.Prelude.{◌≡◌, ℕ, ◌<◌, ◌≤◌, ◌||◌, false, length, slice_index_or, drop, take};
+ghost use Rattle.std.specs.Prelude.{◌≡◌, ℕ, ◌<◌, ◌≤◌, ◌||◌, false, Bool, List, length, slice_index_or, drop, map, take, IfOk, OnOk};
 ghost use Rattle.std.specs.List.{All, list_any};
 ghost use Rattle.std.specs.Str.{bytes_eq};
 ghost use Rattle.postings.specs.Marks.{has_document};
 ghost use Rattle.segment.specs.Lists.{terms_of, postings_of};
 ghost use Rattle.term_table.specs.Ranges.{IsRange};
 ghost use Rattle.leaf_search.specs.Keys.{FitsKey, EndFits, key_of, is_term, is_within, lies_within, begins, has_one_of};
+ghost use Rattle.leaf_search.specs.Kept.{bytes_of};
 ghost use Rattle.leaf_search.specs.Sets.{Gains};
 ghost use Rattle.segment.specs.Shows.{has_term};
+ghost use Rattle.leaf_search.specs.Words.{shows_some};
 
+use crate::NoMemory;
+use crate::distinct::distinct;
 use crate::key::{Key, edge};
 use block_bits::BitSet;
 use query_ast::RangeEnd;
 use segment::{Segment, terms_are_of_documents};
+use std::alloc::Global;
 use term_table::{Edge, TermTable};
 use tree_objects::FieldValue;
 
@@ -76,6 +81,16 @@ pub(crate) fn mark_term(segment: &Segment, field: u32, bytes: &[u8], set: &mut B
     mark_lists(segment, first, end, set);
 }
 
+/// Adds the documents that have one of some terms.
+pub(crate) fn mark_terms(segment: &Segment, field: u32, terms: &[&[u8]], set: &mut BitSet)
+    requires { length set.old ≡ segment.now.documents }
+    ensures { Gains segment.now (shows_some field (map (λ term. term.now) terms.now)) set.old set.new }
+{
+    'terms: for term in terms {
+        mark_term(segment, field, term, set);
+    }
+}
+
 /// Adds the documents that have the term that a value stands for.
 pub(crate) fn mark_value(segment: &Segment, field: u32, value: &FieldValue, set: &mut BitSet)
     requires { length set.old ≡ segment.now.documents }
@@ -86,15 +101,45 @@ pub(crate) fn mark_value(segment: &Segment, field: u32, value: &FieldValue, set:
     mark_term(segment, field, key.as_slice(), set);
 }
 
-/// Adds the documents that have a term that one of some values stands for.
-pub(crate) fn mark_values(segment: &Segment, field: u32, values: &[FieldValue], set: &mut BitSet)
+/// Adds the documents that have a term that one of some values stands for. The postings of each term are read once.
+pub(crate) fn mark_values(
+    alloc: Global,
+    segment: &Segment,
+    field: u32,
+    values: &[FieldValue],
+    set: &mut BitSet,
+) -> Result<(), NoMemory>
     requires { length set.old ≡ segment.now.documents }
-    ensures gains { Gains segment.now (has_one_of field values.now) set.old set.new }
-    ensures fit { All FitsKey values.now }
+    ensures gains { OnOk result (Gains segment.now (has_one_of field values.now) set.old set.new) }
+    ensures fit { OnOk result (All FitsKey values.now) }
 {
+    let keys = keys_of(alloc, values)?;
+    let terms = distinct_keys(alloc, keys.as_slice())?;
+    mark_terms(segment, field, terms.as_slice(), set);
+    Ok(())
+}
+
+/// The keys of some values.
+fn keys_of<'a>(alloc: Global, values: &'a [FieldValue]) -> Result<Vec<Key<'a>>, NoMemory>
+    ensures keys { IfOk result (λ keys. map bytes_of keys.items ≡ map key_of values.now) }
+    ensures fit { IfOk result (λ keys. All FitsKey values.now) }
+{
+    let mut keys = Vec::with_capacity(alloc, values.len())?;
     'values: for value in values {
-        mark_value(segment, field, value, set);
+        keys.push(Key::of(value))?;
     }
+    Ok(keys)
+}
+
+/// Each of some keys once.
+fn distinct_keys<'a>(alloc: Global, keys: &'a [Key<'_>]) -> Result<Vec<&'a [u8]>, NoMemory>
+    ensures { IfOk result (λ found. (test : List ℕ → Bool) → list_any test (map (λ term. term.now) found.items) ≡ list_any test (map bytes_of keys.now)) }
+{
+    let mut lent = Vec::with_capacity(alloc, keys.len())?;
+    'keys: for key in keys {
+        lent.push(key.as_slice())?;
+    }
+    Ok(distinct(lent))
 }
 
 /// Adds the documents that have a term between the ends of a range.

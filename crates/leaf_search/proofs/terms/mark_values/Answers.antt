@@ -1,11 +1,11 @@
-use Rattle.std.proofs.Common.{sym, subst}
-use Rattle.std.proofs.lemmas.List.Elements.{All-more}
-use Rattle.leaf_search.specs.Keys.{FitsKey, has_value_of}
-use Rattle.leaf_search.proofs.Gaining.{gains_more}
+use Rattle.std.proofs.Common.{ℕ, List, ap, map, ◌∙◌}
+use Rattle.std.specs.List.{list_any}
+use denote.Ref.{Bor}
+use Rattle.leaf_search.specs.Kept.{bytes_of}
+use Rattle.leaf_search.proofs.Once.{lent_words, values_gain}
 use Rattle.leaf_search.proofs.terms.mark_values.Goals as goal
 
-pub values-preserved : goal.values-preserved
-values-preserved c = (
-  gains_more c.args.segment.now (has_value_of c.args.field) c.args.values.now c.values.value-index c.value-item.result c.args.set.now c.values.set c.mark_value.new.set c.values-test.true (sym c.value-item.is) c.values.invariant.0 c.mark_value.ensures.gains,
-  All-more FitsKey c.args.values.now c.values.value-index c.value-item.result c.values-test.true c.values.invariant.1 (subst FitsKey c.value-item.is c.mark_value.ensures.fits),
-)
+pub returns-clause-gains : goal.returns-clause-gains
+returns-clause-gains c =
+    values_gain c.args.segment.now c.args.field c.as_slice-2.result.now (map bytes_of c.as_slice.result.now) c.args.values.now c.args.set.now c.mark_terms.new.set
+    (λ test. ap (λ (ts : List (Bor (List ℕ))). list_any test (lent_words ts)) c.as_slice-2.ensures.value ∙ c.in_ok-terms.ensures test) (ap (map bytes_of) c.as_slice.ensures.value ∙ c.in_ok-keys.ensures.keys) c.mark_terms.ensures

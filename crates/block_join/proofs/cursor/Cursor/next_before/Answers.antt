@@ -1,4 +1,4 @@
-use Rattle.std.proofs.Common.{◌≡◌, ℕ, ◌+◌, ◌<◌, ◌≤◌, ◌-◌, List, [], ◌∷◌, length, take, Some, is_some, refl, sym, ap, subst, ◌∙◌, arith}
+use Rattle.std.proofs.Common.{◌≡◌, ◌+◌, ◌≤◌, ◌-◌, [], ◌∷◌, take, Some, is_some, refl, sym, ap, subst, ◌∙◌, arith}
 use Rattle.block_bits.specs.Flags.{is_marked}
 use Rattle.block_bits.specs.Places.{next_place}
 use Rattle.block_join.specs.Kept.{shown, score_of, marks}
@@ -20,8 +20,8 @@ invariant_of-self c =
     let next : c.next-self-inside.result ≡ next_place is_marked (c.in-Some.doc + 1) c.self.inside.walk.documents =
     subst (λ n. c.next-self-inside.result ≡ next_place is_marked n c.self.inside.walk.documents) behind c.next-self-inside.ensures.value in
     rw from
-    (stands_behind c.self.inside.walk c.next-self-inside.new.self c.next-self-inside.result c.self.inside.scores.now c.self.inside.from c.in-Some.doc c.read-score.result.1
-    read c.self.invariant.scores_are
+    (stands_behind c.self.inside.set.now c.self.inside.walk c.next-self-inside.new.self c.next-self-inside.result c.self.inside.scores.now c.self.inside.from c.in-Some.doc c.read-score.result.1
+    read c.self.invariant.own c.self.invariant.scores_are
     (walk_documents c.self.inside.walk c.next-self-inside.new.self c.next-self-inside.result c.next-self-inside.ensures.found c.next-self-inside.ensures.ended)
     next
     (walk_behind c.self.inside.walk c.next-self-inside.new.self c.next-self-inside.result c.next-self-inside.ensures.found)
@@ -34,7 +34,7 @@ invariant_of-self-in_default c =
       | in_default-via-in-Some+else-doc-end w ↦ passes_some c.self.inside.walk.documents c.self.inside.scores.now c.self.inside.from c.args.end w.in-Some.doc ordered (sym c.self.invariant.next ∙ w.in-Some.is) (omega (arith, w.if-doc-end.false))
       | in_default-via-in_default w ↦ passes_all c.self.inside.walk.documents c.self.inside.scores.now c.self.inside.from c.args.end ordered (sym c.self.invariant.next ∙ w.in_default.is)
     ] in
-    stands_at c.self.inside.walk c.self.inside.ahead c.self.inside.scores.now c.self.inside.from c.args.end c.self.inside.at c.self.invariant
+    stands_at c.self.inside.set.now c.self.inside.walk c.self.inside.ahead c.self.inside.scores.now c.self.inside.from c.args.end c.self.inside.at c.self.invariant
     (omega (arith, c.requires.within, view_long c.self.inside.walk.documents c.self.inside.scores.now c.self.inside.from c.args.self.now c.self.view_is)) passed
 
 pub returns-in-Some-clause-score : goal.returns-in-Some-clause-score
