@@ -13,7 +13,7 @@ ghost use Rattle.segment_parts.specs.declared.columns.Columns.{Columns};
 use crate::NoMemory;
 use crate::law::{merged_columns_agree, merged_segments_are_live_blocks};
 use block_bits::words_are_of_one_set;
-use segment::{Segment, SegmentRefusal};
+use segment::Segment;
 use segment_view::Entry;
 use std::alloc::Global;
 use stored_sources::Bytes;
@@ -32,12 +32,7 @@ pub(crate) fn segment_of(
     words_are_of_one_set();
     merged_columns_agree(entries);
     let _length = bytes.len();
-    match Segment::of_bytes(alloc, Bytes::of(bytes)) {
-        Ok(segment) => {
-            merged_segments_are_live_blocks(entries, &segment);
-            Ok(segment)
-        }
-        Err(SegmentRefusal::NoMemory) => Err(NoMemory),
-        Err(SegmentRefusal::NotASegment) => unreachable!(),
-    }
+    let segment = Segment::of_text(alloc, Bytes::of(bytes))?;
+    merged_segments_are_live_blocks(entries, &segment);
+    Ok(segment)
 }
