@@ -9,6 +9,7 @@ use crate::inside::scope_documents;
 use crate::modes::is_of_one;
 use crate::near::Reach;
 use crate::reached::NumberClause;
+use crate::sample::count_about;
 use block_bits::BitSet;
 use block_join::Scored;
 use postings::PostingsTable;
@@ -19,9 +20,6 @@ use term_table::{Edge, TermTable, number_key, number_of};
 
 /// A limit is looked for among so many times fewer documents than there are hits.
 const SHARE: u32 = 4;
-
-/// Hits are counted among about so many documents, spread evenly: among all where there are fewer.
-const SAMPLE: u32 = 65_536;
 
 /// What a page of so many rows can show, where the first clause is on the least or the greatest number of each hit, what has
 /// none stands last, and few numbers have to be looked at.
@@ -147,20 +145,6 @@ fn limit_in(
         found = found.saturating_add(hits_of_term(&postings, ordinal, &way, hits));
     }
     None
-}
-
-/// About how many documents a set has, by a sample of its words: to count them all is to read the whole set.
-fn count_about(set: &BitSet) -> u32 {
-    let stride = set.len() / SAMPLE + 1;
-    let apart = stride as usize;
-    let words = set.words();
-    let mut count = 0u32;
-    'sample: for step in 0..words.len() / apart {
-        if let Some(word) = words.get(step.saturating_mul(apart)) {
-            count = count.saturating_add(word.count_ones());
-        }
-    }
-    count.saturating_mul(stride)
 }
 
 /// The terms of a field behind that of a number, if it is named: the ordinal of the first, and the one past the last.
