@@ -18,6 +18,7 @@ mod numbers;
 mod reached;
 mod row_guess;
 mod rows;
+mod sample;
 mod texts;
 
 pub use hits::next_hit;

@@ -9,6 +9,7 @@ use crate::inside::scope_documents;
 use crate::modes::is_of_one;
 use crate::near::Reach;
 use crate::reached::NumberClause;
+use crate::sample::count_about;
 use block_bits::BitSet;
 use block_join::Scored;
 use postings::PostingsTable;
@@ -17,8 +18,8 @@ use segment::Segment;
 use segment_view::Entry;
 use term_table::{Edge, TermTable, number_key, number_of};
 
-/// A limit is looked for among so many times fewer documents than there are hits.
-const SHARE: u32 = 4;
+/// A set of so many documents is marked and passed over in about the time in which the number of one hit is read.
+const PASSED: u32 = 8192;
 
 /// What a page of so many rows can show, where the first clause is on the least or the greatest number of each hit, what has
 /// none stands last, and few numbers have to be looked at.
@@ -129,7 +130,7 @@ fn limit_in(
     let terms = segment.terms();
     let postings = segment.postings();
     let (first, end) = terms_behind(&terms, asked.field, descending, after);
-    let mut room = hits.count() / SHARE;
+    let mut room = count_about(hits).saturating_sub(hits.len() / PASSED);
     let mut found = 0;
     'terms: for step in 0..end - first {
         let ordinal = if descending {

@@ -24,6 +24,7 @@ use crate::limit::reach_of;
 use crate::near::{Reach, within_reach};
 use crate::numbers::key_in;
 use crate::row_guess::RowGuess;
+use crate::sample::count_about;
 use block_join::{Matches, Scored};
 use doc_values::NumberColumn;
 use hit_order::{FirstKeys, pages_are_of_rows_within_reach};
@@ -33,6 +34,9 @@ use segment::Segment;
 use segment_view::Entry;
 use std::alloc::Global;
 use view_objects::Hit;
+
+/// Fewer hits than one of so many documents are few.
+const FEW: u32 = 1024;
 
 /// A first clause whose keys are numbers or null.
 #[derive(Drop)]
@@ -255,7 +259,7 @@ fn add_candidates(
     let column = column_of(segment, clause);
     let end = found.len();
     let mut left = found.cursor();
-    let mut guess = guess_of(segment, column.as_ref(), clause);
+    let mut guess = guess_of(segment, found, column.as_ref(), clause);
     'found: while let Some(hit) = next_hit(&mut left, place, end) {
         let key = first_key(segment, column.as_ref(), hit, clause, &mut guess, values)?;
         offer(hit, key, keys, kept)?;
@@ -273,15 +277,22 @@ fn column_of<'a>(segment: &'a Segment, clause: &NumberClause<'_>) -> Option<Numb
     }
 }
 
-/// Where the rows of those numbers are likely to stand.
+/// Where the rows of those numbers are likely to stand. Ranks among all documents aren't counted for a few hits.
 fn guess_of<'a>(
     segment: &'a Segment,
+    found: &Scored,
     column: Option<&NumberColumn<'_>>,
     clause: &NumberClause<'_>,
 ) -> RowGuess<'a> {
     match (clause, column) {
         (NumberClause::Field(asked), Some(column)) => {
-            RowGuess::over(column, scope_documents(segment, asked.inner_scope()))
+            let few = count_about(found.set()) < segment.docs() / FEW;
+            let documents = if few {
+                None
+            } else {
+                scope_documents(segment, asked.inner_scope())
+            };
+            RowGuess::over(column, documents)
         }
         _ => RowGuess::first(),
     }
