@@ -85,6 +85,19 @@ IsChangedAt-clear words at word h e =
       others = λ other within apart. bit_at_clear_other w64 word (at % 64) (omega arith) other within apart ∙ ap (λ w. bit_at w other) read;
     }
 
+-- ---- a word written
+
+-- a document of word `place` goes by the word that was written there, and every other is as it was
+pub is_set-written : (words : List ℕ) (place new at : ℕ) → place < length words → at / 64 ≡ place → is_set (set words place new) at ≡ eqb (bit_at new (at % 64)) 1
+unfolding is_set
+is_set-written words place new at h here =
+    ap (λ word. eqb (bit_at word (at % 64)) 1) (ap (λ k. get_or (set words place new) k 0) here ∙ get_or-set_same words place new 0 h)
+
+pub is_set-kept : (words : List ℕ) (place new at : ℕ) → at / 64 ≢ place → is_set (set words place new) at ≡ is_set words at
+unfolding is_set
+is_set-kept words place new at apart =
+    ap (λ word. eqb (bit_at word (at % 64)) 1) (get_or-set_other words place (at / 64) new 0 apart)
+
 -- ---- a set of `value`, by its words
 
 pub len_is : (words : List ℕ) (len : ℕ) (value : List Bool) → flags words len ≡ value → len ≡ length value

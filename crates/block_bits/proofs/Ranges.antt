@@ -1,12 +1,12 @@
 -- Sets written by whole words: all documents, and a range of them taken out.
-use Rattle.std.proofs.Common.{◌≡◌, ◌≢◌, inl, inr, ℕ, zero, suc, ◌+◌, ◌-◌, ◌*◌, ◌/◌, ◌%◌, ◌^◌, ◌<◌, ◌≤◌, Bool, true, false, cond, ◌&&◌, not, List, [], ◌∷◌, ◌++◌, length, get_or, set, take, drop, replicate, min, eqb, ltb, bit_and, refl, sym, ap, ap₂, ◌∙◌, arith, length-append, length-drop}
+use Rattle.std.proofs.Common.{◌≡◌, inl, inr, ℕ, zero, suc, ◌+◌, ◌-◌, ◌*◌, ◌/◌, ◌%◌, ◌^◌, ◌<◌, ◌≤◌, Bool, true, false, cond, ◌&&◌, not, List, [], ◌∷◌, ◌++◌, length, get_or, set, take, drop, replicate, min, eqb, ltb, bit_and, refl, sym, ap, ap₂, ◌∙◌, arith, length-append, length-drop}
 use Rattle.std.specs.Int.{bit_at, w64, bit_not}
-use Rattle.std.proofs.lemmas.List.{same_lists, length-set, length-replicate, get_or-replicate, get_or-take, get_or-drop, get_or_append_left, get_or-append_right, get_or-set_same, get_or-set_other, get_or_read, get_or_past}
+use Rattle.std.proofs.lemmas.List.{same_lists, length-set, length-replicate, get_or-replicate, get_or-take, get_or-drop, get_or_append_left, get_or-append_right, get_or_read, get_or_past}
 use Rattle.std.proofs.lemmas.Nat.Bits.{bit_at-zero, bit_at_and, bit_at_not, bit_at-lt}
 use Rattle.std.proofs.lemmas.Bool.{cases_eq, cases_lt, lt-ltb, le-ltb}
 use Rattle.std.proofs.lemmas.Bool.Decides.{nat_tests}
 use Rattle.block_bits.specs.Flags.{is_set, flags, is_between, cleared, IsTight}
-use Rattle.block_bits.proofs.Marks.{length-flags, get_or-flags, len_is}
+use Rattle.block_bits.proofs.Marks.{length-flags, get_or-flags, len_is, is_set-written, is_set-kept}
 use Rattle.block_bits.proofs.Combined.{Follows-and_not}
 
 -- ---- the flags cleared from `from` up to `end`
@@ -46,17 +46,6 @@ flags_are words len value long each =
     (λ k d below.
     let inside : k < len = omega (arith, below, length-flags words len) in
     get_or-flags words len k d inside ∙ each k d inside)
-
--- a document of word `place` goes by the word that was written there, and every other is as it was
-pub is_set-written : (words : List ℕ) (place new at : ℕ) → place < length words → at / 64 ≡ place → is_set (set words place new) at ≡ eqb (bit_at new (at % 64)) 1
-unfolding is_set
-is_set-written words place new at h here =
-    ap (λ word. eqb (bit_at word (at % 64)) 1) (ap (λ k. get_or (set words place new) k 0) here ∙ get_or-set_same words place new 0 h)
-
-pub is_set-kept : (words : List ℕ) (place new at : ℕ) → at / 64 ≢ place → is_set (set words place new) at ≡ is_set words at
-unfolding is_set
-is_set-kept words place new at apart =
-    ap (λ word. eqb (bit_at word (at % 64)) 1) (get_or-set_other words place (at / 64) new 0 apart)
 
 pub is_set-in : (words : List ℕ) (place word at : ℕ) → place < length words → at / 64 ≡ place → word ≡ get_or words place word → is_set words at ≡ eqb (bit_at word (at % 64)) 1
 unfolding is_set

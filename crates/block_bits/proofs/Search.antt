@@ -1,8 +1,8 @@
 -- The search for a set bit, word by word.
-use Rattle.std.proofs.Common.{◌≡◌, ◌≢◌, ℕ, zero, suc, refl, ◌+◌, ◌-◌, ◌*◌, ◌/◌, ◌%◌, ◌^◌, ◌<◌, ◌≤◌, Bool, true, false, List, length, get_or, take, Some, None, min, sym, ap, subst, ◌∙◌, inl, inr, arith, eqb, bit_and}
+use Rattle.std.proofs.Common.{◌≡◌, ◌≢◌, ℕ, zero, suc, refl, ◌+◌, ◌-◌, ◌*◌, ◌/◌, ◌%◌, ◌^◌, ◌<◌, ◌≤◌, Bool, true, false, List, length, get_or, take, Some, None, min, sym, ap, subst, ◌∙◌, inl, inr, arith, eqb, bit_and, bit_or}
 use Rattle.std.specs.Int.{bit_at, w64, bit_not, trailing_zeros, leading_zeros}
 use Rattle.std.proofs.lemmas.List.{get_or-take, get_or_past, length-take}
-use Rattle.std.proofs.lemmas.Nat.{and_le_l, leading_top, shr_below, le-div, pow_pos}
+use Rattle.std.proofs.lemmas.Nat.{and_le_l, le_or_l, le_or_r, leading_top, shr_below, le-div, pow_pos}
 use Rattle.std.proofs.lemmas.Nat.Bits.{bit_at_and, bit_at-zero, bit_at-lt, ones_shl, ones_shr, bit_at_mask_inside, bit_at_mask_below, bit_at_ones, bit_at_ones_above, bit_at-trailing_zeros, bit_at_above, bit_at_clear_same, bit_at_clear_other}
 use Rattle.std.proofs.lemmas.Bool.{cases_eq, cases_lt}
 use Rattle.block_bits.specs.Flags.{is_marked, is_set, flags}
@@ -65,6 +65,46 @@ search_goes_on words from place word fits read searched = record {
   bits = λ i h later. ap (λ w. bit_at w i) read;
   under = λ i h earlier. absurd (omega (arith, searched.low));
   before = none_in_word words from place searched;
+}
+
+-- ---- words of no document
+
+pub none_more : (words : List ℕ) (first place all : ℕ) → (all ≡ 0 → (k : ℕ) → first ≤ k → k < first + place → get_or words k 0 ≡ 0)
+    → bit_or all (get_or words (first + place) 0) ≡ 0 → (k : ℕ) → first ≤ k → k < first + (place + 1) → get_or words k 0 ≡ 0
+none_more words first place all so_far none k low high = elim (cases_eq k (first + place)) [
+  | inl here ↦
+      let last : get_or words (first + place) 0 ≡ 0 = omega (arith, none, le_or_r all (get_or words (first + place) 0)) in
+      ap (λ j. get_or words j 0) here ∙ last
+  | inr apart ↦ so_far (omega (arith, none, le_or_l all (get_or words (first + place) 0))) k low (omega (arith, high, apart))
+]
+
+pub none_further : (words : List ℕ) (at far : ℕ) → ((k : ℕ) → at < k → k ≤ far → get_or words k 0 ≡ 0) → ((k : ℕ) → far + 1 ≤ k → k < far + 1 + 8 → get_or words k 0 ≡ 0)
+    → (k : ℕ) → at < k → k ≤ far + 8 → get_or words k 0 ≡ 0
+none_further words at far so_far run k low high = elim (cases_lt far k) [
+  | inl behind ↦ run k (omega (arith, behind)) (omega (arith, high))
+  | inr before ↦ so_far k low before
+]
+
+is_set-none : (words : List ℕ) (at : ℕ) → get_or words (at / 64) 0 ≡ 0 → is_set words at ≡ false
+unfolding is_set
+is_set-none words at none = ap (λ w. eqb (bit_at w (at % 64)) 1) none ∙ ap (λ b. eqb b 1) (bit_at-zero (at % 64))
+
+-- the search goes on behind them
+pub search_passes : (words : List ℕ) (from place far : ℕ) → place ≤ far → ((k : ℕ) → place < k → k ≤ far → get_or words k 0 ≡ 0) → IsSearched words from place 0 → IsSearched words from far 0
+search_passes words from place far behind none searched = record {
+  low = omega (arith, searched.low);
+  fits = searched.fits;
+  bits = λ i h later. elim (cases_lt place far) [
+    | inl past ↦ ap (λ w. bit_at w i) (sym (none far past (omega arith)))
+    | inr same ↦
+        let here : place ≡ far = omega (arith, same) in
+        searched.bits i h (omega (arith, later, here)) ∙ ap (λ j. bit_at (get_or words j 0) i) here
+  ];
+  under = λ i h earlier. bit_at-zero i;
+  before = λ k later within. elim (cases_lt k (64 * (place + 1))) [
+    | inl here ↦ none_in_word words from place searched k later here
+    | inr past ↦ is_set-none words k (none (k / 64) (omega (arith, past)) (omega (arith, within)))
+  ];
 }
 
 -- the least document at or after `from` that is set

@@ -7,7 +7,8 @@ ghost use Rattle.block_bits.specs.Places.{next_place, previous_place};
 ghost use Rattle.block_bits.specs.Words.{words_of};
 
 use crate::words::{
-    WORD, full_word, has_past, next_document, range_word, word_from, words_fit, zero_words,
+    WORD, and_both_words, and_not_words, and_words, full_word, has_past, next_document, or_words,
+    range_word, word_from, words_fit, zero_words,
 };
 use crate::{NoMemory, Walk};
 use std::alloc::Global;
@@ -189,9 +190,20 @@ impl BitSet {
         requires { length self.old ≡ length other.now }
         ensures { self.new ≡ intersection self.old other.now }
     {
-        'words: for place in 0..self.words.len() {
-            self.words[place] &= other.words[place];
-        }
+        and_words(self.words.as_mut_slice(), other.words.as_slice());
+    }
+
+    /// Keeps the documents that are in `one` and in `other` too, in one pass over the three.
+    pub fn and_both(&mut self, one: &BitSet, other: &BitSet)
+        requires one { length self.old ≡ length one.now }
+        requires other { length self.old ≡ length other.now }
+        ensures { self.new ≡ intersection (intersection self.old one.now) other.now }
+    {
+        and_both_words(
+            self.words.as_mut_slice(),
+            one.words.as_slice(),
+            other.words.as_slice(),
+        );
     }
 
     /// Adds the documents of `other`.
@@ -199,9 +211,7 @@ impl BitSet {
         requires { length self.old ≡ length other.now }
         ensures { self.new ≡ union self.old other.now }
     {
-        'words: for place in 0..self.words.len() {
-            self.words[place] |= other.words[place];
-        }
+        or_words(self.words.as_mut_slice(), other.words.as_slice());
     }
 
     /// Takes out the documents of `other`.
@@ -209,10 +219,7 @@ impl BitSet {
         requires { length self.old ≡ length other.now }
         ensures { self.new ≡ difference self.old other.now }
     {
-        'words: for place in 0..self.words.len() {
-            let taken = other.words[place];
-            self.words[place] &= !taken;
-        }
+        and_not_words(self.words.as_mut_slice(), other.words.as_slice());
     }
 
     /// How many documents are in the set.

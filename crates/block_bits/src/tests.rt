@@ -104,6 +104,26 @@ fn sets_of_several_words(rt: HostRuntime) -> Result<(), Fail> {
     assert!(rt; rest.len() == set.len());
     rest.and_not(&set);
     assert_eq!(rt; rest.count(), 127);
+    let mut common = other.copy(rt.alloc())?;
+    assert!(rt; common.len() == set.len());
+    assert!(rt; common.len() == rest.len());
+    assert!(rt; 0 < rest.len());
+    rest.set(0);
+    common.and_both(&set, &rest);
+    assert_eq!(rt; (common.next_set(0), common.count()), (Some(0), 1));
+    Ok(())
+}
+
+#[test]
+fn words_of_no_document_are_passed_over(rt: HostRuntime) -> Result<(), Fail> {
+    let set = set_of(&rt, rt.alloc(), 3000, &[5, 700, 2300, 2999])?;
+    let mut walk = set.walk();
+    'found: for found in [Some(5), Some(700), Some(2300), Some(2999), None] {
+        assert_eq!(rt; walk.next(), found);
+    }
+    assert_eq!(rt; set.next_set(701), Some(2300));
+    assert!(rt; 2300 <= set.len());
+    assert_eq!(rt; set.next_set_before(6, 700), None);
     Ok(())
 }
 

@@ -1,7 +1,8 @@
-use Rattle.std.proofs.Common.{rules, refl, ◌+◌, get_or}
-use Rattle.block_bits.proofs.Search.{search_goes_on}
+use Rattle.block_bits.proofs.Search.{search_passes}
 use Rattle.block_bits.proofs.words.next_word.Goals as goal
 
-pub words-preserved : goal.words-preserved
-words-preserved c = λ from before.
-    search_goes_on c.args.words.now from c.words.at (get_or c.args.words.now (c.words.at + 1) 0) (search rules) refl (rw c.words-test.true at c.words.invariant from before)
+pub returns-clause-searched : goal.returns-clause-searched
+returns-clause-searched c = λ from before.
+    c.next_word_singly.ensures.searched from
+    (search_passes c.args.words.now from c.next_word_singly-at.result.0 c.past_empty-far.result c.past_empty-far.ensures.behind c.past_empty-far.ensures.none
+    (rw c.if-left-ne0.false at c.next_word_singly-at.ensures.searched from before))

@@ -1,33 +1,23 @@
-use Rattle.std.proofs.Common.{◌<◌, length, refl, arith, ◌&&◌}
-use Rattle.block_bits.proofs.Combined.{same_words, combined_none, step, value-combined, tight-combined, Follows-and}
+use Rattle.std.proofs.Common.{◌&&◌, ◌≡◌, length, refl, sym, ap, ◌∙◌, arith}
+use Rattle.std.proofs.lemmas.List.{with_items_is}
+use Rattle.block_bits.proofs.Combined.{same_words, value-combined, tight-combined}
 use Rattle.block_bits.proofs.bit_set.BitSet.and.Goals as goal
 
-pub words-init : goal.words-init
-words-init c = record {
-  so_far = combined_none (λ a b. a && b) c.self.inside.words.items c.other.inside.words.items;
-  same_len = refl;
-  alike = record { view = c.self.view_is; other_view = c.other.view_is; tight = c.self.invariant; other_tight = c.other.invariant; same = c.requires };
-}
-
-pub index-requires : goal.index-requires
-index-requires c = omega (arith, same_words c.words.invariant.alike, c.self.inside.words.ok.0, c.other.inside.words.ok.0)
-
-pub words-preserved : goal.words-preserved
-words-preserved c =
-    let here : c.words.place < length c.words.self-inside.words.items = omega (arith, c.words.invariant.so_far.long, c.self.inside.words.ok.0) in
-    let there : c.words.place < length c.other.inside.words.items = omega (arith, same_words c.words.invariant.alike, c.self.inside.words.ok.0) in
-    record {
-      so_far = step (λ a b. a && b) _ _ _ _ _ _ _ here there c.words.invariant.so_far c.index_mut.ensures.value c.index.ensures (Follows-and _ _);
-      same_len = c.words.invariant.same_len;
-      alike = c.words.invariant.alike;
-    }
+pub and_words-requires : goal.and_words-requires
+and_words-requires c =
+    ap length c.as_mut_slice.ensures.value ∙ same_words _ _ _ _ _ _ c.self.view_is c.other.view_is c.requires c.self.invariant c.other.invariant ∙ sym (ap length c.as_slice.ensures.value)
 
 pub invariant_of-self : goal.invariant_of-self
 invariant_of-self c =
-    rw c.words.invariant.same_len
-    (tight-combined (λ a b. a && b) refl c.words.invariant.alike (omega (arith, c.self.inside.words.ok.0)) c.words.invariant.so_far)
+    let long : length c.and_words.new.words ≡ c.self.inside.words.len = omega (arith, c.and_words.ensures.long, c.as_mut_slice.ensures.len) in
+    rw (with_items_is c.self.inside.words c.and_words.new.words long)
+    (tight-combined (λ a b. a && b) refl c.self.inside.words.items c.other.inside.words.items c.and_words.new.words _ _ _ _ c.self.view_is c.other.view_is c.requires c.self.invariant c.other.invariant
+    (c.and_words.ensures.long ∙ ap length c.as_mut_slice.ensures.value)
+    (rw (c.as_mut_slice.ensures.value, c.as_slice.ensures.value) at c.and_words.ensures.each))
 
 pub returns : goal.returns
 returns c =
-    rw c.words.invariant.same_len
-    (value-combined (λ a b. a && b) c.words.invariant.alike (omega (arith, c.self.inside.words.ok.0)) c.words.invariant.so_far)
+    let long : length c.and_words.new.words ≡ c.self.inside.words.len = omega (arith, c.and_words.ensures.long, c.as_mut_slice.ensures.len) in
+    rw (with_items_is c.self.inside.words c.and_words.new.words long)
+    (value-combined (λ a b. a && b) c.self.inside.words.items c.other.inside.words.items c.and_words.new.words _ _ _ _ c.self.view_is c.other.view_is c.requires
+    (rw (c.as_mut_slice.ensures.value, c.as_slice.ensures.value) at c.and_words.ensures.each))
