@@ -12,7 +12,7 @@ use std::alloc::Global;
 pub(crate) const WORD: u32 = 64;
 
 /// Words that a search looks at one by one before it passes over runs of them.
-const NEAR: u32 = 4;
+const NEAR: u32 = 8;
 
 /// Words that a search passes over at once.
 const RUN: u32 = 8;
