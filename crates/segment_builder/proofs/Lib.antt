@@ -1,5 +1,6 @@
 pub mod Keys
 pub mod InOrder
+pub mod Inserted
 pub mod Merged
 pub mod Orders
 pub mod Sorted

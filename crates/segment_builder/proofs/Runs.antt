@@ -1,5 +1,5 @@
 -- The runs of entries whose keys rise: they are groups of the entries, and the first of them ends with its key.
-use Rattle.std.proofs.Common.{◌≡◌, ℕ, suc, ◌<◌, true, false, List, [], ◌∷◌, ◌++◌, length, take, drop, refl, sym, ap, ◌∙◌, arith}
+use Rattle.std.proofs.Common.{◌≡◌, ℕ, suc, ◌+◌, ◌<◌, true, false, List, [], ◌∷◌, ◌++◌, length, take, drop, refl, sym, ap, ◌∙◌, arith}
 use Rattle.std.specs.Cmp.{IsTotalOrder}
 use Rattle.std.specs.List.{AllByRecursion}
 use Rattle.std.specs.List.Sorted.{IsStrictlySortedBy}
@@ -104,6 +104,14 @@ module _ {K P : Type 0} (cmp : K → K → Ordering) (o : IsTotalOrder cmp) wher
 
   first_same : (entry : K × P) (entries : List (K × P)) → run_length cmp entry.0 (entry ∷ entries) ≡ suc (run_length cmp entry.0 entries)
   first_same entry entries = rw ((eq_by_cmp_equiv o).refl entry.0) refl
+
+  -- a run that isn't empty goes on behind its first entry
+  pub run_behind : (key : K) (entries : List (K × P)) → 0 < run_length cmp key entries → (0 < length entries) × (1 + run_length cmp key (drop 1 entries) ≡ run_length cmp key entries)
+  run_behind key [] some = absurd (omega (arith, some))
+  run_behind key (entry ∷ entries) some =
+      split (eq_by_cmp cmp key entry.0)
+      (λ is. (omega arith, rw is (omega arith)))
+      (λ isnt. absurd (let none : 0 < 0 = rw isnt at some in omega (arith, none)))
 
   pub first_run : (entries : List (K × P)) (first : K × P) (behind : List (K × P)) (n : ℕ) → entries ≡ first ∷ behind → n ≡ run_length cmp first.0 entries
       → (0 < n) × (runs cmp entries ≡ (first.0, members (take n entries)) ∷ runs cmp (drop n entries))

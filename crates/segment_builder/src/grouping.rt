@@ -1,6 +1,6 @@
 //! Entries put together by key.
 
-ghost use Rattle.std.specs.Prelude.{◌≡◌, ◌≤◌, ◌++◌, ◌∷◌, [], false, length, IfOk, OnOk};
+ghost use Rattle.std.specs.Prelude.{◌≡◌, ◌<◌, ◌≤◌, ◌++◌, ◌∷◌, [], false, length, IfOk, OnOk};
 ghost use Rattle.std.specs.List.{AllByRecursion};
 ghost use Rattle.std.specs.Ordering.{is_gt};
 ghost use Rattle.std.specs.declared.cmp.Ordering.TheVariants.{Less};
@@ -29,12 +29,13 @@ fn sort<K: Ord, P>(entries: &mut Vec<(K, P)>) -> Result<(), NoMemory>
     Ok(())
 }
 
-/// How many entries in front have a key.
+/// How many entries in front have a key. The first of them has it.
 pub(crate) fn run_len<K: Ord, P>(key: &K, entries: &[(K, P)]) -> usize
+    requires { 0 < run_length K.cmp key.now entries.now }
     ensures run { result ≡ run_length K.cmp key.now entries.now }
     ensures within { result ≤ length entries.now }
 {
-    'entries: for at in 0..entries.len() {
+    'entries: for at in 1..entries.len() {
         if *key != entries[at].0 {
             return at;
         }

@@ -1,12 +1,14 @@
 //! Blocks as a segment: the documents of trees, put together by field and by term.
 //!
 //! It stands on `flattener` for blocks and on `segment` for columns (Lucene's `IndexingChain`, package `org.apache.lucene.index`).
-//! What documents carry is put together by key with a stable sort, part by part, and each part is written straight from what
-//! the blocks lend. What others use is that `built` gives a segment whose documents and roots are those of its blocks, and that
-//! a segment stands for the trees of its blocks. Begin reading with `specs/Blocks.antt` and `assemble`, then `grouping`.
+//! What documents carry is put together by field, terms with a stable sort, part by part, and each part is written straight
+//! from what the blocks lend. What others use is that `built` gives a segment whose documents and roots are those of its
+//! blocks, and that a segment stands for the trees of its blocks. Begin reading with `specs/Blocks.antt` and `assemble`, then
+//! `by_field`.
 #![tactic(auto)]
 
 mod assemble;
+mod by_field;
 mod entries;
 mod find;
 mod fit;
@@ -22,6 +24,7 @@ mod scopes;
 mod terms;
 
 pub use assemble::built;
+pub use by_field::grouped_by_field;
 pub use grouping::grouped;
 pub use law::{
     blocks_are_whole, blocks_carry_what_documents_carry, blocks_stand_for_trees,

@@ -14,7 +14,7 @@ ghost use Rattle.segment_builder.specs.Groups.{AreGroups};
 ghost use Rattle.segment_builder.specs.Taken.{AreValueEntries};
 
 use crate::NoMemory;
-use crate::grouping::grouped;
+use crate::by_field::grouped_by_field;
 use part_text::{put_i64, put_u32};
 use std::alloc::Global;
 
@@ -28,7 +28,7 @@ pub(crate) fn put_numbers(
     ensures { OnOk result ((columns : List (ℕ × List (ℕ × List ℤ))) × AreGroups nat_cmp (numbers_lent numbers.entry.items) columns
         × (into.new.items ≡ into.old.items ++ numbers_text columns)) }
 {
-    let groups = grouped(alloc, numbers)?;
+    let groups = grouped_by_field(alloc, numbers)?;
     put_u32(into, groups.len() as u32)?;
     put_columns(groups.as_slice(), into)?;
     Ok(())

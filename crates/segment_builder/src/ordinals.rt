@@ -14,8 +14,8 @@ ghost use Rattle.segment_builder.specs.Groups.{AreGroups};
 ghost use Rattle.segment_builder.specs.Taken.{AreValueEntries};
 
 use crate::NoMemory;
+use crate::by_field::grouped_by_field;
 use crate::find::find;
-use crate::grouping::grouped;
 use part_text::{put_u32, put_u64};
 use std::alloc::Global;
 
@@ -32,7 +32,7 @@ pub(crate) fn put_ordinals(
         × (map (column_terms (terms_lent terms.now)) (map (ordinal_column (terms_lent terms.now)) groups) ≡ map named_group groups)
         × (into.new.items ≡ into.old.items ++ ordinals_text (map (ordinal_column (terms_lent terms.now)) groups))) }
 {
-    let groups = grouped(alloc, keywords)?;
+    let groups = grouped_by_field(alloc, keywords)?;
     put_u32(into, groups.len() as u32)?;
     put_columns(terms, groups.as_slice(), into)?;
     Ok(())

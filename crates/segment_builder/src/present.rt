@@ -11,7 +11,7 @@ ghost use Rattle.segment_builder.specs.Made.{marked_groups};
 ghost use Rattle.segment_builder.specs.Taken.{AreTextEntries};
 
 use crate::NoMemory;
-use crate::grouping::grouped;
+use crate::by_field::grouped_by_field;
 use block_bits::BitSet;
 use part_text::put_u32;
 use std::alloc::Global;
@@ -27,7 +27,7 @@ pub(crate) fn put_texts(
     ensures { OnOk result ((groups : List (ℕ × List ℕ)) × AreGroups nat_cmp texts.items groups
         × (into.new.items ≡ into.old.items ++ present_text (marked_groups documents groups))) }
 {
-    let groups = grouped(alloc, texts)?;
+    let groups = grouped_by_field(alloc, texts)?;
     put_u32(into, groups.len() as u32)?;
     put_fields(alloc, documents, groups.as_slice(), into)?;
     Ok(())

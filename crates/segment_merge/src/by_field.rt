@@ -10,7 +10,7 @@ ghost use Rattle.segment_merge.specs.ByField.{group_text, total};
 use crate::NoMemory;
 use crate::counts::{count_of, sum_of};
 use part_text::put_u32;
-use segment_builder::grouped;
+use segment_builder::grouped_by_field;
 use std::alloc::Global;
 
 /// What a part has of a field, written item by item.
@@ -37,7 +37,7 @@ pub(crate) fn put_by_field<P: PartItems>(
     ensures { OnOk result ((groups : List (ℕ × List P)) × AreGroups nat_cmp parts.items groups
         × (into.new.items ≡ into.old.items ++ counted_text u32_text (group_text P.count P.text) groups)) }
 {
-    let groups = grouped(alloc, parts)?;
+    let groups = grouped_by_field(alloc, parts)?;
     put_u32(into, count_of(groups.len())?)?;
     put_groups(groups.as_slice(), into)?;
     Ok(())

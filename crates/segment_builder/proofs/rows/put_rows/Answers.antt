@@ -1,10 +1,13 @@
-use Rattle.std.proofs.Common.{◌+◌, drop, length, ap, subst, arith, length-drop}
+use Rattle.std.proofs.Common.{◌+◌, drop, length, refl, ap, subst, arith, length-drop}
 use Rattle.std.specs.List.{AllByRecursion}
 use Rattle.term_table.specs.Part.{row_text, IsRow}
 use Rattle.segment_builder.specs.Terms.{rows_in}
 use Rattle.segment_builder.proofs.Lent.{row_at}
 use Rattle.segment_builder.proofs.Listed.{put_one}
 use Rattle.segment_builder.proofs.rows.put_rows.Goals as goal
+
+pub run_len-count-requires : goal.run_len-count-requires
+run_len-count-requires c = (row_at c.args.entries.now c.split_at.result.1.now c.rows.at _ _ c.rows-test.true c.split_at.ensures.back refl).0
 
 pub put_row-requires : goal.put_row-requires
 put_row-requires c =

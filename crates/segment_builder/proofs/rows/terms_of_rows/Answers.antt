@@ -1,10 +1,13 @@
-use Rattle.std.proofs.Common.{◌+◌, drop, length, ap, ◌∙◌, arith, length-drop}
+use Rattle.std.proofs.Common.{◌+◌, drop, length, refl, ap, ◌∙◌, arith, length-drop}
 use Rattle.std.proofs.lemmas.List.{map-append}
 use Rattle.segment_builder.specs.Columns.{terms_in, terms_lent}
 use Rattle.segment_builder.specs.Terms.{rows_in}
 use Rattle.segment_builder.proofs.Among.{goes_on}
 use Rattle.segment_builder.proofs.Lent.{row_at}
 use Rattle.segment_builder.proofs.rows.terms_of_rows.Goals as goal
+
+pub run_len-at-requires : goal.run_len-at-requires
+run_len-at-requires c = (row_at c.args.entries.now c.split_at.result.1.now c.rows.at _ _ c.rows-test.true c.split_at.ensures.back refl).0
 
 pub rows-smaller : goal.rows-smaller
 rows-smaller c =
