@@ -1,2 +1,3 @@
-pub mod Tokens
+-- To be believed: the words of a text, and where their tokens stand in it.
 pub mod Words
+pub mod Tokens

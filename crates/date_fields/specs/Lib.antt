@@ -1,1 +1,2 @@
+-- To be believed: the moment that a date names.
 pub mod Moment

@@ -1,2 +1,3 @@
 pub mod Numbering
-pub mod Meeting
+pub mod Grouping
+pub mod Renumbering

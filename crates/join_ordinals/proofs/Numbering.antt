@@ -1,12 +1,12 @@
 -- Ids that get ordinals, root by root and entry by entry.
-use Rattle.std.proofs.Common.{◌≡◌, ℕ, zero, suc, ◌+◌, ◌<◌, ◌≤◌, Bool, true, false, List, [], ◌∷◌, ◌++◌, length, map, get_or, take, slice_get, Option, Some, None, refl, sym, ap, subst, ◌∙◌, inl, inr, arith, length-append}
+use Rattle.std.proofs.Common.{◌≡◌, ℕ, zero, suc, ◌+◌, ◌<◌, ◌≤◌, false, List, [], ◌∷◌, ◌++◌, length, map, get_or, take, slice_get, Option, Some, None, refl, sym, ap, subst, ◌∙◌, inl, inr, arith, length-append}
 use Rattle.std.specs.Prelude.{Vec}
 use Rattle.std.proofs.lemmas.Bool.{cases_lt}
 use Rattle.segment.specs.Live.{EntryState, IsLiveOver}
 use Rattle.segment_view.specs.Views.{is_live_root}
 use Rattle.std.specs.List.{range_with_len}
 use Rattle.std.proofs.lemmas.List.FromFn.{length-map-range_with_len, get_or-map-range_with_len}
-use Rattle.join_ordinals.specs.Ordinals.{AreRelations, AreRows, IsNumbered, StandOnce, flat, ordinal_at, ordinal_in, own_id, own_relation, parent_id}
+use Rattle.join_ordinals.specs.Ordinals.{AreRelations, AreRows, IsNumbered, flat, ordinal_at, ordinal_in, own_relation}
 use Rattle.join_ordinals.specs.Rows.{IsRow, Keep, id_by, rows_seen}
 use Rattle.join_ordinals.specs.declared.rows.Whose.{Whose}
 use Rattle.join_ordinals.specs.declared.rows.Whose.TheVariants.{Own, Parent}
@@ -54,6 +54,9 @@ seen_more (r ∷ rows) row = ap (λ (l : List (List (Option ℕ))). r.items ∷ 
 
 pub keep_same : (ids : List (List ℕ)) → Keep ids ids
 keep_same ids = λ n id is. is
+
+pub keep_more : (old new : List (List ℕ)) (id : List ℕ) → new ≡ old ++ id ∷ [] → Keep old new
+keep_more old new id is = λ n one here. ap (λ (ids : List (List ℕ)). slice_get ids n) is ∙ get_left old (id ∷ []) n (get_within old n one here) ∙ here
 
 pub keep_on : (old mid new : List (List ℕ)) → Keep old mid → Keep mid new → Keep old new
 keep_on old mid new one two = λ n id is. two n id (one n id is)

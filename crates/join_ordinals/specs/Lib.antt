@@ -1,4 +1,5 @@
 -- To believe.
 pub mod Ordinals
--- For proofs alone: what rows and ids are while they are made.
+-- For proofs alone: what rows, ids and numbers are while they are made.
 pub mod Rows
+pub mod Numbers

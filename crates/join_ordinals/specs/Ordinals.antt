@@ -1,5 +1,5 @@
 -- Which ids the live roots of a view have, and what it is to number them.
-use Rattle.std.specs.Prelude.{ℕ, ◌≡◌, ⊤, Bool, List, length, if◌then◌else◌, slice_get, Option, Some, None}
+use Rattle.std.specs.Prelude.{ℕ, ◌≡◌, ⊤, List, length, if◌then◌else◌, slice_get, Option, Some, None}
 use Rattle.segment.specs.Live.{EntryState}
 use Rattle.segment_view.specs.Views.{is_live_root}
 use Rattle.stored_sources.specs.Roots.{root_of}

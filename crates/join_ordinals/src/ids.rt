@@ -1,18 +1,16 @@
-//! The ids that were met, each with its ordinal: its index among them.
+//! The ids of roots and of their parents, as they are met.
 
-ghost use Rattle.std.specs.Prelude.{◌≡◌, [], length, Some, slice_get, IfOk, OnOk};
-ghost use Rattle.join_ordinals.specs.Ordinals.{StandOnce};
+ghost use Rattle.std.specs.Prelude.{◌≡◌, [], length, map, Some, slice_get, IfOk, OnOk};
 ghost use Rattle.join_ordinals.specs.Rows.{Keep};
 
 use crate::NoMemory;
-use indexmap::IndexSet;
 use std::alloc::Global;
 use std::marker::Model;
 
-/// The ids that were met, none of them twice, in the order in which they were.
+/// The ids that were met, in the order in which they were, each as often as it was.
 #[derive(Drop)]
 pub(crate) struct Ids<'a> {
-    met: IndexSet<&'a [u8]>,
+    met: Vec<&'a [u8]>,
 }
 
 impl<'a> Model for Ids<'a> {
@@ -20,7 +18,7 @@ impl<'a> Model for Ids<'a> {
 
     ghost Value = { List (List ℕ) };
 
-    ghost view = { λ ids. map (λ id. id.now) ids.met.keys };
+    ghost view = { λ ids. map (λ id. id.now) ids.met.items };
 }
 
 impl<'a> Ids<'a> {
@@ -29,36 +27,26 @@ impl<'a> Ids<'a> {
         ensures { result ≡ [] }
     {
         Ids {
-            met: IndexSet::new(alloc),
+            met: Vec::new(alloc),
         }
     }
 
-    /// The ordinal of an id, which is met for the first time or again.
-    pub(crate) fn ordinal(&mut self, id: &'a [u8]) -> Result<u32, NoMemory>
-        ensures there { IfOk result (λ ordinal. slice_get self.new ordinal ≡ Some id.now) }
+    /// Adds an id; its place is how many were met before it.
+    pub(crate) fn meet(&mut self, id: &'a [u8]) -> Result<u32, NoMemory>
+        ensures there { IfOk result (λ place. slice_get self.new place ≡ Some id.now) }
         ensures keep { OnOk result (Keep self.old self.new) }
     {
-        let index = self.meet(id)?;
-        let Ok(ordinal) = u32::try_from(index) else {
+        let Ok(place) = u32::try_from(self.met.len()) else {
             return Err(NoMemory);
         };
-        Ok(ordinal)
+        self.met.push(id)?;
+        Ok(place)
     }
 
-    /// The index of an id, which is met for the first time or again.
-    fn meet(&mut self, id: &'a [u8]) -> Result<usize, NoMemory>
-        ensures there { IfOk result (λ index. slice_get self.new index ≡ Some id.now) }
-        ensures keep { OnOk result (Keep self.old self.new) }
+    /// The ids in order.
+    pub(crate) fn as_slice(&self) -> &[&'a [u8]]
+        ensures { map (λ id. id.now) result.now ≡ self.now }
     {
-        let (index, _) = self.met.insert_full(id)?;
-        Ok(index)
-    }
-
-    /// How many there are.
-    pub(crate) fn count(&self) -> usize
-        ensures count { result ≡ length self.now }
-        ensures once { StandOnce self.now }
-    {
-        self.met.len()
+        self.met.as_slice()
     }
 }

@@ -8,13 +8,14 @@
 #![tactic(auto)]
 
 mod ids;
+mod numbers;
 mod ordinals;
 mod rows;
 
 pub use ordinals::JoinOrdinals;
 use std::alloc::{AllocError, AllocFailed};
 
-/// Memory ran out, or there are 2^32 ids.
+/// Memory ran out, or there are 2^32 ids, those of roots and those of their parents.
 #[derive(Clone, Copy, Debug, PartialEq, Eq)]
 pub struct NoMemory;
 

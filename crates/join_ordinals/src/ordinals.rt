@@ -6,7 +6,8 @@ ghost use Rattle.join_ordinals.specs.Rows.{rows_seen};
 
 use crate::NoMemory;
 use crate::ids::Ids;
-use crate::rows::{Whose, relations_of, rows_of};
+use crate::numbers::numbers_of;
+use crate::rows::{Whose, relations_of, renumber, rows_of};
 use segment_view::View;
 use std::alloc::Global;
 use std::marker::Model;
@@ -31,18 +32,20 @@ impl Model for JoinOrdinals {
 }
 
 impl JoinOrdinals {
-    /// The ordinals of a view. It costs one look-up of an id for each live root, and one for its parent; its join value is read
-    /// here, so that no search reads it again.
+    /// The ordinals of a view, in the order in which their ids are first met. It costs a sort of the ids of the live roots and of
+    /// their parents; their join values are read here, so that no search reads them again.
     pub fn over(alloc: Global, view: &View) -> Result<JoinOrdinals, NoMemory>
         ensures { IfOk result (AreOrdinals view.now) }
     {
         let mut ids = Ids::none(alloc);
-        let own = rows_of(alloc, view.entries(), Whose::Own, &mut ids)?;
-        let parents = rows_of(alloc, view.entries(), Whose::Parent, &mut ids)?;
+        let mut own = rows_of(alloc, view.entries(), Whose::Own, &mut ids)?;
+        let mut parents = rows_of(alloc, view.entries(), Whose::Parent, &mut ids)?;
         let relations = relations_of(alloc, view.entries())?;
-        let count = ids.count();
+        let made = numbers_of(alloc, &ids)?;
+        renumber(&mut own, made.numbers.as_slice());
+        renumber(&mut parents, made.numbers.as_slice());
         Ok(JoinOrdinals {
-            count,
+            count: made.count,
             own,
             parents,
             relations,

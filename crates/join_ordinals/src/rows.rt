@@ -1,11 +1,11 @@
-//! The ordinals of the roots of each entry.
+//! The ids of the roots of each entry: first the place at which each was met, then its number; and the roots' relations.
 
 ghost use Rattle.std.specs.Prelude.{◌≡◌, ◌<◌, length, map, IfOk, OnOk};
 ghost use Rattle.std.specs.List.{range_with_len};
 ghost use Rattle.std.specs.Option.{option_map};
 ghost use Rattle.stored_sources.specs.Roots.{lent_join};
 ghost use Rattle.join_ordinals.specs.Ordinals.{AreRelations, AreRows, IsNumbered, own_relation, parent_in, relation_in};
-ghost use Rattle.join_ordinals.specs.Rows.{Keep, IsRow, id_by, rows_seen};
+ghost use Rattle.join_ordinals.specs.Rows.{Keep, IsRow, id_by, renumbered, rows_seen};
 
 use crate::NoMemory;
 use crate::ids::Ids;
@@ -13,14 +13,14 @@ use segment::JoinValue;
 use segment_view::Entry;
 use std::alloc::Global;
 
-/// Whose id is numbered: the root's own, or its parent's.
+/// Whose id is met: the root's own, or its parent's.
 #[derive(Clone, Copy, Debug, PartialEq, Eq)]
 pub(crate) enum Whose {
     Own,
     Parent,
 }
 
-/// The id that is numbered of a root.
+/// The id that is met at a root.
 fn id_of(entry: &Entry, whose: Whose, root: u32) -> Option<&[u8]>
     requires { root < length entry.now.columns.roots }
     ensures { option_map (λ id. id.now) result ≡ id_by whose entry.now root }
@@ -46,18 +46,18 @@ fn parent_in(join: JoinValue<'_>) -> Option<&[u8]>
     }
 }
 
-/// The ordinal of an id, if there is one.
-fn number_of<'a>(ids: &mut Ids<'a>, id: Option<&'a [u8]>) -> Result<Option<u32>, NoMemory>
-    ensures numbered { IfOk result (λ ordinal. IsNumbered ids.new (option_map (λ id. id.now) id.entry) ordinal) }
+/// The place of an id, if there is one.
+fn place_of<'a>(ids: &mut Ids<'a>, id: Option<&'a [u8]>) -> Result<Option<u32>, NoMemory>
+    ensures numbered { IfOk result (λ place. IsNumbered ids.new (option_map (λ id. id.now) id.entry) place) }
     ensures keep { OnOk result (Keep ids.old ids.new) }
 {
     match id {
-        Some(id) => Ok(Some(ids.ordinal(id)?)),
+        Some(id) => Ok(Some(ids.meet(id)?)),
         None => Ok(None),
     }
 }
 
-/// The ordinals of an entry's roots.
+/// The places of the ids of an entry's roots.
 #[tactic(auto, using(crate::proofs::Numbering::row_start, crate::proofs::Numbering::row_more, crate::proofs::Numbering::keep_same, crate::proofs::Numbering::keep_on))]
 fn row_of<'a>(
     alloc: Global,
@@ -72,13 +72,13 @@ fn row_of<'a>(
     let count = entry.segment().roots();
     let mut row = Vec::with_capacity(alloc, count as usize)?;
     'roots: for root in 0..count {
-        let ordinal = number_of(ids, id_of(entry, whose, root))?;
-        row.push(ordinal)?;
+        let place = place_of(ids, id_of(entry, whose, root))?;
+        row.push(place)?;
     }
     Ok(row)
 }
 
-/// The ordinals of the roots of each entry.
+/// The places of the ids of the roots of each entry.
 pub(crate) fn rows_of<'a>(
     alloc: Global,
     entries: &'a [Entry],
@@ -95,6 +95,37 @@ pub(crate) fn rows_of<'a>(
         rows.push(row)?;
     }
     Ok(rows)
+}
+
+/// Puts its number in place of each id's place.
+pub(crate) fn renumber(rows: &mut Vec<Vec<Option<u32>>>, numbers: &[u32])
+    ensures { rows_seen rows.new.items ≡ map (map (renumbered numbers.now)) (rows_seen rows.old.items) }
+{
+    'rows: for row in rows.iter_mut() {
+        renumber_row(row, numbers);
+    }
+}
+
+/// The same for an entry's roots.
+fn renumber_row(row: &mut Vec<Option<u32>>, numbers: &[u32])
+    ensures { row.new.items ≡ map (renumbered numbers.now) row.old.items }
+{
+    'places: for place in row.iter_mut() {
+        *place = number_of(*place, numbers);
+    }
+}
+
+/// The number at a place, if there is one.
+fn number_of(place: Option<u32>, numbers: &[u32]) -> Option<u32>
+    ensures { result ≡ renumbered numbers.now place }
+{
+    match place {
+        Some(place) => match numbers.get(place as usize) {
+            Some(number) => Some(*number),
+            None => None,
+        },
+        None => None,
+    }
 }
 
 /// The relation that a join value names.

@@ -61,6 +61,7 @@ impl Mapping {
     pub fn read(alloc: Global, body: &Json) -> Result<Mapping, MappingRefusal>
         ensures mapping { IfOk result (λ m. m ≡ mapping_of (view body.now ∷ []) false) }
         ensures is_mapping { IfOk result IsMapping }
+        ensures is_body { IfOk result (λ _. is_body (view body.now) ≡ true) }
         ensures bad_request { IsErrOf result MappingRefusal.BadRequest → is_body (view body.now) ≡ false }
         ensures no_conflict { (path : List ℕ) → IsErrOf result (MappingRefusal.Conflict path) → ⊥ }
         ensures too_much { (limit : Limit) → IsErrOf result (MappingRefusal.TooMuch limit) → (is_body (view body.now) ≡ true) × (exceeded (view body.now ∷ []) ≡ Some limit) }

@@ -1,5 +1,5 @@
 -- The pieces of answers as they are written make the objects that they are.
-use Rattle.std.proofs.Common.{◌≡◌, ℕ, ◌+◌, ◌*◌, ◌<◌, List, [], ◌∷◌, ◌++◌, length, get_or, map, zero, suc, codes, decimal, false, Option, arith, refl, ap, ◌∙◌, append_assoc}
+use Rattle.std.proofs.Common.{◌≡◌, ℕ, ◌+◌, ◌*◌, ◌<◌, List, [], ◌∷◌, ◌++◌, length, get_or, map, zero, suc, codes, decimal, false, IfSome, None, Option, Some, arith, refl, ap, ◌∙◌, append_assoc}
 use Rattle.std.proofs.lemmas.List.Elements.{at_from_Contains}
 use Rattle.std.proofs.lemmas.Grind.{common_steps}
 use Rattle.json.specs.Print.{escape_byte}
@@ -45,6 +45,13 @@ listed_answers (answer ∷ answers) = ap (λ (more : List Entry). answer_entry a
 pub closest-append : (last : Option (List ℕ)) (found : Option Entry) (xs ys : List Entry) → closest last found (xs ++ ys) ≡ closest last (closest last found xs) ys
 closest-append last found [] ys = refl
 closest-append last found (x ∷ xs) ys = closest-append last (closer last found x) xs ys
+
+-- what stands besides answers is none of them
+pub heads_within : (answers : List AggReply) (found : Option Slot) → IfSome found (IsWithin []) → IfSome found (IsWithin answers)
+heads_within answers None within = tt
+heads_within answers (Some (Count n)) within = tt
+heads_within answers (Some (Key key)) within = tt
+heads_within answers (Some (Answer answer)) within = absurd (omega (arith, within.1))
 
 -- ---- sizes
 

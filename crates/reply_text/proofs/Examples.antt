@@ -5,8 +5,8 @@ use Rattle.std.specs.Fmt.{digits}
 use Rattle.json.specs.Print.{escape_byte}
 use Rattle.tree_json.specs.Text.{quoted}
 use Rattle.tree_objects.specs.declared.field_value.FieldValue.TheVariants as field
-use Rattle.query_ast.specs.Pages.{InnerHead, Pages, no_pages, with_page, Hits, no_hits, with_hit, PagePart}
-use Rattle.query_ast.specs.Replies.{ReplyPart, ReplyValue, Replies, no_replies, with_reply, single, several, metric, Buckets, no_buckets, with_bucket}
+use Rattle.query_ast.specs.Pages.{InnerHead, no_pages, with_page, Hits, no_hits, with_hit, PagePart}
+use Rattle.query_ast.specs.Replies.{ReplyPart, ReplyValue, Replies, no_replies, with_reply, single, several, metric, no_buckets, with_bucket}
 use Rattle.query_ast.specs.declared.hit.Hit.{Hit}
 use Rattle.query_ast.specs.declared.hit.Level.{Level}
 use Rattle.query_ast.specs.declared.sort.Key.{Key}

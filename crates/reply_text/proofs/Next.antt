@@ -1,12 +1,15 @@
 -- The next entry of an object is the closest above the last name.
-use Rattle.std.proofs.Common.{◌≡◌, ℕ, List, [], ◌∷◌, refl, sym, ap, subst, ◌∙◌, arith, Bool, true, false, Option, Some, None, Ordering, Less, Equal, Greater, nat_cmp, is_lt}
+use Rattle.std.proofs.Common.{◌≡◌, ◌<◌, ◌≤◌, ◌+◌, ◌&&◌, ℕ, zero, suc, List, [], ◌∷◌, refl, sym, ap, subst, ◌∙◌, arith, inl, inr, Bool, true, false, if◌then◌else◌, Option, Some, None, Ordering, Less, Equal, Greater, nat_cmp, is_lt, length, map, drop, get_or}
+use Rattle.std.proofs.lemmas.Bool.{cases_lt}
 use Rattle.std.proofs.lemmas.Bool.Decides.{nat_tests}
+use Rattle.std.proofs.lemmas.List.{get_or-map}
 use Rattle.std.proofs.lemmas.Cmp.{nat_list_cmp_total, tied_itself}
 use Rattle.std.proofs.lemmas.Grind.{common_steps}
 use Rattle.std.specs.Cmp.Lexicographic.{slice_cmp}
 use Rattle.std.specs.Ordering.{ordering_reverse}
 use Rattle.reply_text.specs.Object.{Entry, by_order, placed, placed_all, in_order}
-use Rattle.reply_text.specs.Next.{is_less, is_above, closer, closest, above, IsNext}
+use Rattle.std.proofs.Math.Seq.{drop-cons}
+use Rattle.reply_text.specs.Next.{is_less, is_above, nearer, closer, closest, above, rise, ArePassed, IsNext}
 
 -- ---- names
 
@@ -169,3 +172,104 @@ above_none (e ∷ es) = refl
 pub next_from : (last : Option (List ℕ)) (es : List Entry) (next : Option Entry) → next ≡ closest last None es → IsNext last es next
 next_from last es None h = next_none last es (sym h)
 next_from last es (Some e) h = next_some last e es (sym h)
+
+-- ---- names that rise as they stand
+
+pub both : (a b : Bool) → (a && b) ≡ true → (a ≡ true) × (b ≡ true)
+both true b h = (refl, h)
+both false b h = absurd (let no : ⊥ = cc in no)
+
+rise_begins : (e : Entry) (es : List Entry) → rise (Some e.0) es ≡ true → Begins e es
+rise_begins e [] h = tt
+rise_begins e (f ∷ es) h = (both (is_less e.0 f.0) (rise (Some f.0) es) h).0
+
+rise_ascends : (last : Option (List ℕ)) (es : List Entry) → rise last es ≡ true → Ascends es
+rise_ascends last [] h = tt
+rise_ascends last (e ∷ es) h =
+    let rest : rise (Some e.0) es ≡ true = (both (is_above last e.0) (rise (Some e.0) es) h).1 in
+    (rise_begins e es rest, rise_ascends (Some e.0) es rest)
+
+not_less : (e f x : Entry) → is_less e.0 f.0 ≡ true → is_less e.0 x.0 ≡ false → is_less f.0 x.0 ≡ false
+not_less e f x up none = by_cases (is_less f.0 x.0) refl
+  where
+    by_cases : (b : Bool) → is_less f.0 x.0 ≡ b → b ≡ false
+    by_cases true h = let yes : is_less e.0 x.0 ≡ true = less_trans e.0 f.0 x.0 up h in cc
+    by_cases false h = refl
+
+closer_same : (last : Option (List ℕ)) (x f : Entry) → is_less f.0 x.0 ≡ false → closer last (Some x) f ≡ Some x
+closer_same last x f none = by_cases (is_above last f.0)
+  where
+    by_cases : (b : Bool) → (if b then nearer f (Some x) else Some x) ≡ Some x
+    by_cases true = rw none refl
+    by_cases false = refl
+
+-- what is found stays, where nothing behind it is less
+stays : (last : Option (List ℕ)) (e x : Entry) (es : List Entry) → Begins e es → Ascends es → is_less e.0 x.0 ≡ false → closest last (Some x) es ≡ Some x
+stays last e x [] begins up none = refl
+stays last e x (f ∷ es) begins up none =
+    let less : is_less f.0 x.0 ≡ false = not_less e f x begins none in
+    ap (λ (found : Option Entry). closest last found es) (closer_same last x f less) ∙ stays last f x es up.0 up.1 less
+
+rest_after : (last : Option (List ℕ)) (found : Option Entry) (e : Entry) (es : List Entry) → Ascends (e ∷ es) → is_above last e.0 ≡ true → closest last (closer last found e) es ≡ closer last found e
+rest_after last found e es up here = rw here (by_found found)
+  where
+    by_less : (g : Entry) (b : Bool) → is_less e.0 g.0 ≡ b → closest last (if b then Some e else Some g) es ≡ (if b then Some e else Some g)
+    by_less g true h = stays last e e es up.0 up.1 (not_itself e.0)
+    by_less g false h = stays last e g es up.0 up.1 h
+
+    by_found : (found : Option Entry) → closest last (nearer e found) es ≡ nearer e found
+    by_found None = stays last e e es up.0 up.1 (not_itself e.0)
+    by_found (Some g) = by_less g (is_less e.0 g.0) refl
+
+module _ {X : Type 0} (f : X → Entry) where
+  ascends_drop : (k : ℕ) (xs : List X) → Ascends (map f xs) → Ascends (map f (drop k xs))
+  ascends_drop zero xs up = up
+  ascends_drop (suc k) [] up = tt
+  ascends_drop (suc k) (x ∷ xs) up = ascends_drop k xs up.1
+
+  -- the first that is left of things whose names rise is the next one
+  pub first_next : (xs : List X) (k : ℕ) (x d : X) (last : Option (List ℕ)) (found next : Option Entry) → rise None (map f xs) ≡ true → k < length xs → x ≡ get_or xs k d → is_above last (f x).0 ≡ true
+      → closest last found (map f (drop k xs)) ≡ next → closer last found (f x) ≡ next
+  first_next xs k x d last found next up below is here was =
+      let parts : map f (drop k xs) ≡ f x ∷ map f (drop (suc k) xs) = ap (map f) (drop-cons xs k d below) ∙ ap (λ (y : X). f y ∷ map f (drop (suc k) xs)) (sym is) in
+      let ascends : Ascends (f x ∷ map f (drop (suc k) xs)) = subst Ascends parts (ascends_drop k xs (rise_ascends None (map f xs) up)) in
+      sym (rest_after last found (f x) (map f (drop (suc k) xs)) ascends here) ∙ ap (closest last found) (sym parts) ∙ was
+
+  -- where none is left, what is found is the next one
+  pub none_left : (xs : List X) (k : ℕ) (last : Option (List ℕ)) (found next : Option Entry) → length xs ≤ k → closest last found (map f (drop k xs)) ≡ next → found ≡ next
+  none_left [] zero last found next past was = was
+  none_left [] (suc k) last found next past was = was
+  none_left (x ∷ xs) zero last found next past was = absurd (omega (arith, past))
+  none_left (x ∷ xs) (suc k) last found next past was = none_left xs k last found next (omega (arith, past)) was
+
+-- ---- what is passed
+
+-- what is passed needn't be looked at
+pub skip : (last : Option (List ℕ)) (found : Option Entry) (es : List Entry) (at : ℕ) → ArePassed last es at → closest last found (drop at es) ≡ closest last found es
+skip last found es zero passed = refl
+skip last found [] (suc at) passed = refl
+skip last found (e ∷ es) (suc at) passed =
+    let first : is_above last e.0 ≡ false = passed zero e (omega arith) (omega arith) in
+    rw first (skip last found es at (λ k d below inside. passed (suc k) d (omega (arith, below)) (omega (arith, inside))))
+
+pub drop_map : {X : Type 0} (f : X → Entry) (xs : List X) (k : ℕ) → map f (drop k xs) ≡ drop k (map f xs)
+drop_map f xs zero = refl
+drop_map f [] (suc k) = refl
+drop_map f (x ∷ xs) (suc k) = drop_map f xs k
+
+-- it is passed behind the next name too
+pub passed_on : (last : Option (List ℕ)) (all es : List Entry) (at : ℕ) (e : Entry) → IsNext last all (Some e) → ArePassed last es at → ArePassed (Some e.0) es at
+passed_on last all es at e next passed =
+    λ k d below inside. not_below last e.0 (get_or es k d).0 (passed k d below inside) (head_is_above last e (in_order all) (above (Some e.0) (in_order all)) next)
+
+pub passed_none : (last : Option (List ℕ)) (es : List Entry) → ArePassed last es 0
+passed_none last es = λ k d below inside. absurd (omega (arith, below))
+
+-- one more is passed
+pub passed_more : {X : Type 0} (f : X → Entry) (last : Option (List ℕ)) (xs : List X) (at : ℕ) (x d : X) → ArePassed last (map f xs) at → at < length xs → x ≡ get_or xs at d → is_above last (f x).0 ≡ false → ArePassed last (map f xs) (at + 1)
+passed_more {X = X} f last xs at x d was below is none k e up inside = elim (cases_lt k at) [
+  | inl less ↦ was k e less inside
+  | inr past ↦
+      let here : k ≡ at = omega (arith, up, past) in
+      ap (λ (n : ℕ). is_above last (get_or (map f xs) n e).0) here ∙ ap (λ (y : Entry). is_above last y.0) (get_or-map f xs at d e below) ∙ ap (λ (y : X). is_above last (f y).0) (sym is) ∙ none
+]

@@ -1,5 +1,5 @@
 -- Which entry of an object comes next, in the words of the look-up that finds it.
-use Rattle.std.specs.Prelude.{◌≡◌, ℕ, List, [], ◌∷◌, Bool, true, Option, Some, None, if◌then◌else◌}
+use Rattle.std.specs.Prelude.{◌≡◌, ◌<◌, ◌&&◌, ℕ, List, [], ◌∷◌, Bool, true, false, Option, Some, None, if◌then◌else◌, length, slice_index_or}
 use Rattle.std.specs.Ordering.{nat_cmp, is_lt}
 use Rattle.std.specs.Cmp.Lexicographic.{slice_cmp}
 use Rattle.reply_text.specs.Object.{Entry, in_order}
@@ -34,3 +34,12 @@ above last (e ∷ es) = if is_above last e.0 then e ∷ es else above last es
 abbrev pub IsNext : Option (List ℕ) → List Entry → Option Entry → Type 0
 IsNext last es None = above last (in_order es) ≡ []
 IsNext last es (Some e) = above last (in_order es) ≡ e ∷ above (Some e.0) (in_order es)
+
+-- do names rise, from the last one on?
+abbrev pub rise : Option (List ℕ) → List Entry → Bool
+rise last [] = true
+rise last (e ∷ es) = is_above last e.0 && rise (Some e.0) es
+
+-- none of the first so many comes after the last name
+abbrev pub ArePassed : Option (List ℕ) → List Entry → ℕ → Type 0
+ArePassed last es at = (k : ℕ) (d : Entry) → k < at → k < length es → is_above last (slice_index_or es k d).0 ≡ false

@@ -1,5 +1,5 @@
 //! What buckets answer: an object of answers, each under its name, among which a count and a key may stand.
-ghost use Rattle.std.specs.Prelude.{◌≡◌, ◌-◌, ◌≤◌, ◌^◌, ◌++◌, ◌+◌, [], min, length, map, false, None, IfSome};
+ghost use Rattle.std.specs.Prelude.{◌≡◌, ◌-◌, ◌≤◌, ◌^◌, ◌++◌, ◌+◌, [], min, length, map, false, None, Some, IfSome};
 ghost use Rattle.std.specs.Option.{option_copied, option_map};
 ghost use Rattle.tree_json.specs.Output.{room_of};
 ghost use Rattle.tree_json.specs.Text.{comma_if};
@@ -8,9 +8,9 @@ ghost use Rattle.query_ast.specs.Replies.View.{bucket_part};
 ghost use Rattle.reply_text.specs.Object.{elements_text, object_text};
 ghost use Rattle.reply_text.specs.BucketTexts.{value_text, bucket_texts};
 ghost use Rattle.reply_text.specs.BucketParts.{answer_entry, slot_entry, slot_line, keyed_line, answer_line, bucket_text, head_entries, IsWithin};
-ghost use Rattle.reply_text.specs.Next.{IsNext, closest};
+ghost use Rattle.reply_text.specs.Next.{ArePassed, IsNext, closest, rise};
 
-use crate::order::{Named, closer};
+use crate::order::{Named, closer, is_first, passed, rise};
 use crate::write::put_comma;
 use query_ast::{AggReply, AggValue, Bucket, BucketList};
 use tree_json::{OutText, count_len, put_count, put_quoted, put_whole, quoted_len, whole_len};
@@ -64,14 +64,58 @@ fn next_of_head<'a>(head: Head<'a>, last: Option<&[u8]>) -> Option<Slot<'a>>
     }
 }
 
-// The thing that comes next after the last name.
-fn next_slot<'a>(head: Head<'a>, answers: &'a [AggReply], last: Option<&[u8]>) -> Option<Slot<'a>>
+impl Named for AggReply {
+    ghost use Rattle.reply_text.specs.BucketParts.{answer_entry};
+
+    ghost entry = { answer_entry };
+
+    fn name(&self) -> &[u8] {
+        self.name.as_slice()
+    }
+}
+
+// The thing that comes next after the last name, where so many answers at the front are passed; then these are passed
+// behind its name.
+fn next_slot<'a>(
+    head: Head<'a>,
+    answers: &'a [AggReply],
+    at: &mut usize,
+    rising: bool,
+    last: Option<&[u8]>,
+) -> Option<Slot<'a>>
+    requires rising { rising ≡ rise None (map answer_entry answers.now) }
+    requires passed { ArePassed (option_copied last) (map answer_entry answers.now) at.old }
+    ensures next { IsNext (option_copied last.entry) (head_entries head.entry ++ map answer_entry answers.now) (option_map slot_entry result) }
+    ensures within { IfSome result (IsWithin answers.now) }
+    ensures passed { IfSome result (λ slot. ArePassed (Some (slot_entry slot).0) (map answer_entry answers.now) at.new) }
+{
+    let found = slot_from(head, answers, *at, rising, last);
+    if let Some(slot) = found {
+        *at = passed(answers, *at, name_of(slot));
+    }
+    found
+}
+
+// The same, where those that are passed stay.
+fn slot_from<'a>(
+    head: Head<'a>,
+    answers: &'a [AggReply],
+    at: usize,
+    rising: bool,
+    last: Option<&[u8]>,
+) -> Option<Slot<'a>>
+    requires rising { rising ≡ rise None (map answer_entry answers.now) }
+    requires passed { ArePassed (option_copied last) (map answer_entry answers.now) at }
     ensures next { IsNext (option_copied last.entry) (head_entries head.entry ++ map answer_entry answers.now) (option_map slot_entry result) }
     ensures within { IfSome result (IsWithin answers.now) }
 {
     let mut found = next_of_head(head, last);
-    'answers: for answer in answers {
+    'answers: for index in at..answers.len() {
+        let answer = &answers[index];
         found = closer(found, last, Slot::Answer(answer));
+        if is_first(rising, last, answer.name.as_slice()) {
+            return found;
+        }
     }
     found
 }
@@ -94,8 +138,10 @@ pub(crate) fn answers_len(head: Head, answers: &[AggReply]) -> u64
     ensures { result ≡ min (length (object_text (head_entries head.entry ++ map answer_entry answers.now))) (2 ^ 64 - 1) }
 {
     let mut total: u64 = 0;
+    let rising = rise(answers);
+    let mut at = 0;
     let mut last: Option<&[u8]> = None;
-    'slots: while let Some(slot) = next_slot(head, answers, last) {
+    'slots: while let Some(slot) = next_slot(head, answers, &mut at, rising, last) {
         total = total
             .saturating_add(last.is_some() as u64)
             .saturating_add(slot_len(slot));
@@ -196,8 +242,10 @@ pub(crate) fn put_answers(head: Head, answers: &[AggReply], into: &mut OutText)
     ensures room { room_of into.old ≤ room_of into.new }
 {
     into.push_spare(b"{");
+    let rising = rise(answers);
+    let mut at = 0;
     let mut last: Option<&[u8]> = None;
-    'slots: while let Some(slot) = next_slot(head, answers, last) {
+    'slots: while let Some(slot) = next_slot(head, answers, &mut at, rising, last) {
         put_slot(last.is_some(), slot, into);
         last = Some(name_of(slot));
     }

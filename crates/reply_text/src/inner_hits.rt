@@ -1,5 +1,5 @@
 //! Pages of inner hits, and the places of nested hits.
-ghost use Rattle.std.specs.Prelude.{◌≡◌, ◌-◌, ◌≤◌, ◌^◌, ◌++◌, ◌+◌, ◌∷◌, [], min, length, map, true, false, Contains, IfSome};
+ghost use Rattle.std.specs.Prelude.{◌≡◌, ◌-◌, ◌≤◌, ◌^◌, ◌++◌, ◌+◌, ◌∷◌, [], min, length, map, true, false, Contains, IfSome, None, Some};
 ghost use Rattle.std.specs.Option.{option_copied, option_map};
 ghost use Rattle.tree_json.specs.Output.{room_of};
 ghost use Rattle.tree_json.specs.Text.{comma_if};
@@ -8,10 +8,10 @@ ghost use Rattle.query_ast.specs.Pages.View.{page_part, hit_part};
 ghost use Rattle.reply_text.specs.Object.{elements_text, entry_text, object_text};
 ghost use Rattle.reply_text.specs.HitTexts.{hits_text, inner_hit_text, inner_hit_texts, page_entries};
 ghost use Rattle.reply_text.specs.HitParts.{inner_part, head_part, level_text, place_text, place_part, page_entry, page_line, inner_hit_line};
-ghost use Rattle.reply_text.specs.Next.{IsNext};
+ghost use Rattle.reply_text.specs.Next.{ArePassed, IsNext, rise};
 
 use crate::hits::{put_source, source_len};
-use crate::order::{Named, closer};
+use crate::order::{Named, closer, is_first, passed, rise};
 use crate::write::put_comma;
 use query_ast::{InnerHit, InnerPage, InnerPageList, Level};
 use tree_json::{OutText, count_len, put_count, put_quoted, quoted_len};
@@ -128,14 +128,56 @@ impl Named for NamedPage<'_> {
     }
 }
 
-// The page that comes next after the last name.
-fn next_page<'a>(pages: &'a [InnerPage], last: Option<&[u8]>) -> Option<NamedPage<'a>>
+impl Named for InnerPage {
+    ghost use Rattle.reply_text.specs.HitParts.{page_entry};
+
+    ghost entry = { page_entry };
+
+    fn name(&self) -> &[u8] {
+        self.name.as_slice()
+    }
+}
+
+// The page that comes next after the last name, where so many at the front are passed; then these are passed behind its
+// name.
+fn next_page<'a>(
+    pages: &'a [InnerPage],
+    at: &mut usize,
+    rising: bool,
+    last: Option<&[u8]>,
+) -> Option<NamedPage<'a>>
+    requires rising { rising ≡ rise None (map page_entry pages.now) }
+    requires passed { ArePassed (option_copied last) (map page_entry pages.now) at.old }
+    ensures next { IsNext (option_copied last.entry) (map page_entry pages.now) (option_map (λ named. page_entry named.0.now) result) }
+    ensures within { IfSome result (λ named. Contains pages.now named.0.now) }
+    ensures passed { IfSome result (λ named. ArePassed (Some named.0.now.name) (map page_entry pages.now) at.new) }
+{
+    let found = page_from(pages, *at, rising, last);
+    if let Some(named) = found {
+        *at = passed(pages, *at, named.0.name.as_slice());
+    }
+    found
+}
+
+// The same, where those that are passed stay.
+fn page_from<'a>(
+    pages: &'a [InnerPage],
+    at: usize,
+    rising: bool,
+    last: Option<&[u8]>,
+) -> Option<NamedPage<'a>>
+    requires rising { rising ≡ rise None (map page_entry pages.now) }
+    requires passed { ArePassed (option_copied last) (map page_entry pages.now) at }
     ensures next { IsNext (option_copied last.entry) (map page_entry pages.now) (option_map (λ named. page_entry named.0.now) result) }
     ensures within { IfSome result (λ named. Contains pages.now named.0.now) }
 {
     let mut found: Option<NamedPage<'a>> = None;
-    'pages: for page in pages {
+    'pages: for index in at..pages.len() {
+        let page = &pages[index];
         found = closer(found, last, NamedPage(page));
+        if is_first(rising, last, page.name.as_slice()) {
+            return found;
+        }
     }
     found
 }
@@ -162,8 +204,10 @@ fn pages_len(pages: &[InnerPage]) -> u64
     ensures { result ≡ min (length (object_text (map page_entry pages.now))) (2 ^ 64 - 1) }
 {
     let mut total: u64 = 0;
+    let rising = rise(pages);
+    let mut at = 0;
     let mut last: Option<&[u8]> = None;
-    'pages: while let Some(named) = next_page(pages, last) {
+    'pages: while let Some(named) = next_page(pages, &mut at, rising, last) {
         total = total
             .saturating_add(last.is_some() as u64)
             .saturating_add(page_len(named.0));
@@ -239,8 +283,10 @@ fn put_pages(pages: &[InnerPage], into: &mut OutText)
     ensures room { room_of into.old ≤ room_of into.new }
 {
     into.push_spare(b"{");
+    let rising = rise(pages);
+    let mut at = 0;
     let mut last: Option<&[u8]> = None;
-    'pages: while let Some(named) = next_page(pages, last) {
+    'pages: while let Some(named) = next_page(pages, &mut at, rising, last) {
         put_page(last.is_some(), named.0, into);
         last = Some(named.0.name.as_slice());
     }

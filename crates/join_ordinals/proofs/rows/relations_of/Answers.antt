@@ -1,4 +1,4 @@
-use Rattle.std.proofs.Common.{◌≡◌, ◌+◌, ◌++◌, ◌∷◌, [], List, take, sym, subst, ap, ◌∙◌}
+use Rattle.std.proofs.Common.{◌++◌, ◌∷◌, [], List, take, sym, subst, ap, ◌∙◌}
 use Rattle.segment.specs.Live.{EntryState}
 use Rattle.join_ordinals.specs.Ordinals.{AreRelations}
 use Rattle.join_ordinals.specs.Rows.{rows_seen}

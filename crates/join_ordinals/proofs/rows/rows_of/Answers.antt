@@ -1,4 +1,4 @@
-use Rattle.std.proofs.Common.{◌≡◌, ◌+◌, ◌++◌, ◌∷◌, [], List, Option, ℕ, take, sym, subst, ap, ◌∙◌}
+use Rattle.std.proofs.Common.{◌++◌, ◌∷◌, [], List, take, sym, subst, ap, ◌∙◌}
 use Rattle.segment.specs.Live.{EntryState}
 use Rattle.join_ordinals.specs.Ordinals.{AreRows}
 use Rattle.join_ordinals.specs.Rows.{id_by, rows_seen}

@@ -1,10 +1,10 @@
-use Rattle.std.proofs.Common.{◌≡◌, ◌+◌, ◌*◌, ◌-◌, ◌<◌, ◌^◌, ◌++◌, min, length, drop, map, false, is_some}
+use Rattle.std.proofs.Common.{◌≡◌, None, ◌+◌, ◌*◌, ◌-◌, ◌<◌, ◌^◌, ◌++◌, min, length, drop, map, false, is_some}
 use Rattle.std.specs.Option.{option_copied}
 use Rattle.query_ast.specs.Replies.{replies_of, replies_size, value_size, buckets_of, buckets_size}
 use Rattle.query_ast.specs.Replies.View.{value_of, reply_part, bucket_part}
 use Rattle.reply_text.specs.BucketParts.{answer_entry, head_entries, slot_size}
 use Rattle.reply_text.specs.BucketTexts.{bucket_texts}
-use Rattle.reply_text.specs.Next.{above}
+use Rattle.reply_text.specs.Next.{above, rise, ArePassed}
 use Rattle.reply_text.specs.Object.{elements_text, entries_text, in_order}
 use Rattle.reply_text.proofs.buckets.+answers_len.Given as goal
 
@@ -32,6 +32,8 @@ invariant-answers_len-slots l =
     (l.total < 2 ^ 64)
     × (min (l.total + length (entries_text (is_some l.last) (above (option_copied l.last) (in_order (head_entries l.head ++ map answer_entry l.answers))))) (2 ^ 64 - 1)
     ≡ min (length (entries_text false (in_order (head_entries l.head ++ map answer_entry l.answers)))) (2 ^ 64 - 1))
+    × (l.rising ≡ rise None (map answer_entry l.answers))
+    × ArePassed (option_copied l.last) (map answer_entry l.answers) l.at
 
 abbrev pub invariant-buckets_len-buckets : goal.invariant-buckets_len-buckets
 invariant-buckets_len-buckets l =

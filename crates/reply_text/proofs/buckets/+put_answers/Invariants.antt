@@ -1,10 +1,10 @@
-use Rattle.std.proofs.Common.{◌≡◌, ◌+◌, ◌*◌, ◌≤◌, ◌++◌, length, drop, map, codes, false, is_some}
+use Rattle.std.proofs.Common.{◌≡◌, None, ◌+◌, ◌*◌, ◌≤◌, ◌++◌, length, drop, map, codes, false, is_some}
 use Rattle.std.specs.Option.{option_copied}
 use Rattle.query_ast.specs.Replies.{replies_of, replies_size, value_size, buckets_of, buckets_size}
 use Rattle.query_ast.specs.Replies.View.{value_of, reply_part, bucket_part}
 use Rattle.reply_text.specs.BucketParts.{answer_entry, head_entries, slot_size}
 use Rattle.reply_text.specs.BucketTexts.{bucket_texts}
-use Rattle.reply_text.specs.Next.{above}
+use Rattle.reply_text.specs.Next.{above, rise, ArePassed}
 use Rattle.reply_text.specs.Object.{elements_text, entries_text, in_order}
 use Rattle.reply_text.proofs.buckets.+put_answers.Given as goal
 
@@ -36,6 +36,8 @@ invariant-put_answers-slots l =
     ≡ (l.fn.into.bytes ++ codes "{") ++ entries_text false (in_order (head_entries l.head ++ map answer_entry l.answers)))
     × (l.fn.into.spare + length (entries_text (is_some l.last) (above (option_copied l.last) (in_order (head_entries l.head ++ map answer_entry l.answers))))
     ≤ 1 + (l.into.spare + length (entries_text false (in_order (head_entries l.head ++ map answer_entry l.answers)))))
+    × (l.rising ≡ rise None (map answer_entry l.answers))
+    × ArePassed (option_copied l.last) (map answer_entry l.answers) l.at
 
 -- what is written and what is left make the whole, and there is room for what is left
 abbrev pub invariant-put_buckets-buckets : goal.invariant-put_buckets-buckets

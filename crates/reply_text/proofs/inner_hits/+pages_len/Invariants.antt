@@ -1,10 +1,10 @@
-use Rattle.std.proofs.Common.{◌≡◌, ◌+◌, ◌*◌, ◌-◌, ◌<◌, ◌^◌, min, length, drop, map, false, is_some}
+use Rattle.std.proofs.Common.{◌≡◌, None, ◌+◌, ◌*◌, ◌-◌, ◌<◌, ◌^◌, min, length, drop, map, false, is_some}
 use Rattle.std.specs.Option.{option_copied}
 use Rattle.query_ast.specs.Pages.{pages_of, pages_size, hits_of, hits_size}
 use Rattle.query_ast.specs.Pages.View.{page_part, hit_part}
 use Rattle.reply_text.specs.HitParts.{page_entry}
 use Rattle.reply_text.specs.HitTexts.{inner_hit_texts}
-use Rattle.reply_text.specs.Next.{above}
+use Rattle.reply_text.specs.Next.{above, rise, ArePassed}
 use Rattle.reply_text.specs.Object.{elements_text, entries_text, in_order}
 use Rattle.reply_text.proofs.inner_hits.+pages_len.Given as goal
 
@@ -32,6 +32,8 @@ invariant-pages_len-pages l =
     (l.total < 2 ^ 64)
     × (min (l.total + length (entries_text (is_some l.last) (above (option_copied l.last) (in_order (map page_entry l.pages))))) (2 ^ 64 - 1)
     ≡ min (length (entries_text false (in_order (map page_entry l.pages)))) (2 ^ 64 - 1))
+    × (l.rising ≡ rise None (map page_entry l.pages))
+    × ArePassed (option_copied l.last) (map page_entry l.pages) l.at
 
 abbrev pub invariant-inner_hits_len-hits : goal.invariant-inner_hits_len-hits
 invariant-inner_hits_len-hits l =

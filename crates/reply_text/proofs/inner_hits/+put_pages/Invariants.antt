@@ -1,10 +1,10 @@
-use Rattle.std.proofs.Common.{◌≡◌, ◌+◌, ◌*◌, ◌≤◌, ◌++◌, length, drop, map, codes, false, is_some}
+use Rattle.std.proofs.Common.{◌≡◌, None, ◌+◌, ◌*◌, ◌≤◌, ◌++◌, length, drop, map, codes, false, is_some}
 use Rattle.std.specs.Option.{option_copied}
 use Rattle.query_ast.specs.Pages.{pages_of, pages_size, hits_of, hits_size}
 use Rattle.query_ast.specs.Pages.View.{page_part, hit_part}
 use Rattle.reply_text.specs.HitParts.{page_entry}
 use Rattle.reply_text.specs.HitTexts.{inner_hit_texts}
-use Rattle.reply_text.specs.Next.{above}
+use Rattle.reply_text.specs.Next.{above, rise, ArePassed}
 use Rattle.reply_text.specs.Object.{elements_text, entries_text, in_order}
 use Rattle.reply_text.proofs.inner_hits.+put_pages.Given as goal
 
@@ -39,6 +39,8 @@ invariant-put_pages-pages l =
     ≡ (l.fn.into.bytes ++ codes "{") ++ entries_text false (in_order (map page_entry l.pages)))
     × (l.fn.into.spare + length (entries_text (is_some l.last) (above (option_copied l.last) (in_order (map page_entry l.pages))))
     ≤ 1 + (l.into.spare + length (entries_text false (in_order (map page_entry l.pages)))))
+    × (l.rising ≡ rise None (map page_entry l.pages))
+    × ArePassed (option_copied l.last) (map page_entry l.pages) l.at
 
 -- what is written and what is left make the whole, and there is room for what is left
 abbrev pub invariant-put_inner_hits-hits : goal.invariant-put_inner_hits-hits
