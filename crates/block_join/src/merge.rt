@@ -13,6 +13,9 @@ use crate::{Builder, Cursor, NoMemory, Rule, Scored};
 use block_bits::BitSet;
 use std::alloc::Global;
 
+/// Lists with fewer documents than one in so many are put together document by document, since a set costs all its words.
+const FEW: u32 = 512;
+
 /// The scores of one list and another, put together document by document.
 ///
 /// It costs the documents that have one of the two; where a rule asks for both, those of the one that has fewer. Sums of
@@ -28,7 +31,7 @@ pub fn merged(alloc: Global, one: &Scored, other: &Scored, rule: Rule) -> Result
     }
 }
 
-/// The same as a sum of parts, where there are so many documents that it costs less.
+/// The same as a sum of parts, where there are so many documents and so few parts that it costs less.
 #[tactic(auto, using(crate::proofs::Totals::counted_sets))]
 fn merged_parts(
     alloc: Global,
@@ -75,7 +78,7 @@ fn added(alloc: Global, one: &Scored, set: &BitSet, score: u64) -> Result<Option
     if have_none(one) {
         return Ok(Some(Scored::same(set.copy(alloc)?, score)));
     }
-    if are_few(one.set()) && are_few(set) {
+    if one.has_many_parts() || (are_few(one.set()) && are_few(set)) {
         return Ok(None);
     }
     Ok(one.plus(alloc, set, score)?)
@@ -92,7 +95,7 @@ fn added_inside(
     requires capped { score ≤ SCORE_CAP }
     ensures { IfOk result (λ made. IfSome made (λ made. made ≡ paired (put_together Rule.Plus) one.now (filled (Some score) set.now))) }
 {
-    if are_few(one.set()) {
+    if one.has_many_parts() || are_few(one.set()) {
         return Ok(None);
     }
     let mut inside = set.copy(alloc)?;
@@ -110,9 +113,9 @@ fn have_none(scores: &Scored) -> bool
     }
 }
 
-/// Whether a set has fewer documents than one in 64.
+/// Whether a set has fewer documents than one in `FEW`.
 fn are_few(set: &BitSet) -> bool {
-    set.count() < set.len() / 64
+    set.count() < set.len() / FEW
 }
 
 /// The same from document to document.

@@ -16,6 +16,9 @@ use score_math::SCORE_CAP;
 use std::alloc::Global;
 use std::marker::Model;
 
+/// A sum of so many parts gets no further one: a part costs a copy of its set at each step, and a look into it at each score.
+const MANY_PARTS: usize = 16;
+
 /// The documents that hit, each with a score of at most `SCORE_CAP`, seen as one optional score a document.
 ///
 /// A score that all of them share takes no memory.
@@ -108,6 +111,15 @@ impl Scored {
             set,
             form: Form::Summed(parts),
         })
+    }
+
+    /// Whether these are sums of so many parts that they get no further one.
+    pub(crate) fn has_many_parts(&self) -> bool {
+        match &self.form {
+            Form::Shared(_) => false,
+            Form::Listed(_) => false,
+            Form::Summed(parts) => parts.parts.len() >= MANY_PARTS,
+        }
     }
 
     /// With a score more for the documents of a set, as a sum of parts; None where these scores are listed one each.
