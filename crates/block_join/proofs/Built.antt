@@ -1,11 +1,11 @@
 -- Scores as they are given in order.
-use Rattle.std.proofs.Common.{◌≡◌, ℕ, zero, suc, subst, ◌^◌, ◌+◌, ◌-◌, ◌<◌, ◌≤◌, min, Bool, true, false, cond, List, [], ◌∷◌, ◌++◌, length, take, drop, replicate, set, Option, Some, None, Result, Ok, Err, OnErr, inl, inr, refl, sym, ap, ◌∙◌, arith, take-append-drop, drop-drop, length-drop, length-set, length-append, length-take-le, append_assoc, drop-set-lt}
+use Rattle.std.proofs.Common.{◌≡◌, ℕ, zero, suc, subst, ◌^◌, ◌+◌, ◌-◌, ◌<◌, ◌≤◌, Bool, true, false, List, [], ◌∷◌, ◌++◌, length, take, drop, replicate, set, Option, Some, None, Result, Ok, Err, OnErr, inl, inr, refl, sym, ap, ◌∙◌, arith, take-append-drop, drop-drop, length-set, length-append, length-take-le, append_assoc, drop-set-lt}
 use Rattle.std.proofs.lemmas.List.{length-replicate}
 use Rattle.std.proofs.lemmas.Bool.{cases_lt}
 use Rattle.score_math.specs.declared.score.TheConstants.{SCORE_CAP}
 use Rattle.block_join.specs.declared.scores.Scores.{Scores}
-use Rattle.block_join.specs.declared.scores.Scores.TheVariants.{Same, Each}
-use Rattle.block_join.specs.Kept.{shown, score_of, marks, IsLong, AreScores, IsBegun}
+use Rattle.block_join.specs.declared.scores.Scores.TheVariants.{Same}
+use Rattle.block_join.specs.Kept.{shown, score_of, marks, IsLong, IsBegun}
 use Rattle.block_join.specs.Scores.{Begun, padded}
 use Rattle.block_join.proofs.Shown.{length_shown, shown_drop, shown_alike, shown_false, shown_put, marks_put, marks_parts, marks_le, marks_false}
 

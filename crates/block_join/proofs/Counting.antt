@@ -1,5 +1,5 @@
 -- Documents of a set counted by its u64s.
-use Rattle.std.proofs.Common.{◌≡◌, ℕ, zero, suc, ◌+◌, ◌*◌, ◌/◌, ◌%◌, ◌^◌, ◌<◌, ◌≤◌, Bool, true, false, cond, List, [], ◌∷◌, length, take, drop, get_or, refl, sym, ap, ◌∙◌, arith}
+use Rattle.std.proofs.Common.{◌≡◌, ℕ, zero, suc, ◌+◌, ◌-◌, ◌*◌, ◌/◌, ◌%◌, ◌^◌, ◌<◌, ◌≤◌, Bool, true, false, cond, List, [], ◌∷◌, length, take, drop, get_or, refl, sym, ap, ◌∙◌, arith}
 use Rattle.std.specs.Int.RustNames.{count_ones}
 use Rattle.std.proofs.Math.Nat.{pow-suc}
 use Rattle.std.proofs.lemmas.Nat.{mod_low, ones_cat}
@@ -85,3 +85,9 @@ marks_few zero flags = omega arith
 marks_few (suc n) [] = omega arith
 marks_few (suc n) (true ∷ flags) = omega (arith, marks_few n flags)
 marks_few (suc n) (false ∷ flags) = omega (arith, marks_few n flags)
+
+-- those before a document, and those from there on
+pub parted : (flags : List Bool) (from end : ℕ) → from ≤ end → marks (take end flags) ≡ marks (take from flags) + marks (take (end - from) (drop from flags))
+parted flags from end h =
+    let sum : from + (end - from) ≡ end = omega (arith, h) in
+    ap (λ n. marks (take n flags)) (sym sum) ∙ marks_add from (end - from) flags

@@ -1,5 +1,5 @@
 -- The join down of hits that share one score: what lies between them is taken out of the lower documents.
-use Rattle.std.proofs.Common.{◌≡◌, ◌≢◌, ℕ, zero, suc, ◌+◌, ◌-◌, ◌<◌, ◌≤◌, Bool, true, false, cond, List, [], ◌∷◌, ◌++◌, length, map, take, drop, set, replicate, get_or, Option, Some, None, is_some, refl, sym, ap, ◌∙◌, inl, inr, arith, append_assoc, append-nil, drop-drop, drop-set-lt, length-append, length-drop, length-set, length-take-le}
+use Rattle.std.proofs.Common.{◌≡◌, ◌≢◌, ℕ, zero, suc, ◌+◌, ◌-◌, ◌<◌, ◌≤◌, Bool, true, false, cond, List, [], ◌∷◌, ◌++◌, length, take, drop, set, replicate, get_or, Option, Some, None, is_some, refl, sym, ap, ◌∙◌, arith, append_assoc, append-nil, drop-drop, drop-set-lt, length-append, length-drop, length-set, length-take-le}
 use Rattle.std.specs.List.{zip, position_from}
 use Rattle.std.specs.Option.{option_to_list, option_and_then}
 use Rattle.std.proofs.lemmas.List.{length-replicate, drop-take, take_more_set}
@@ -10,7 +10,7 @@ use Rattle.block_bits.specs.Places.{next_place}
 use Rattle.block_join.specs.Joins.{spread}
 use Rattle.block_join.specs.Kept.{next_parent, holder, IsStart}
 use Rattle.block_join.specs.Scores.{between, filled, padded}
-use Rattle.block_join.proofs.Built.{length_padded, padded_all, padded_more}
+use Rattle.block_join.proofs.Built.{length_padded, padded_all}
 use Rattle.block_join.proofs.Spreading.{Spreading, between_one}
 use Rattle.block_join.proofs.Sets.{SpreadingSets, parent_is_in, spreading_sets_end, spreading_sets_hit, spreading_sets_none, spreading_sets_start, start_later}
 

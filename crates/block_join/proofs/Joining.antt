@@ -1,6 +1,6 @@
 -- The join up, from parent to parent.
-use Rattle.std.proofs.Common.{◌≡◌, ℕ, zero, suc, ◌+◌, ◌-◌, ◌<◌, ◌≤◌, Bool, true, false, cond, eqb, List, [], ◌∷◌, ◌++◌, length, take, drop, replicate, map, Option, Some, None, is_some, refl, sym, ap, ◌∙◌, inl, inr, arith, append_assoc, append-nil, drop-drop, length-drop}
-use Rattle.std.specs.List.{zip, flat_map, position_from, drop-map}
+use Rattle.std.proofs.Common.{◌≡◌, ℕ, zero, suc, ◌+◌, ◌-◌, ◌<◌, ◌≤◌, Bool, true, false, eqb, List, [], ◌∷◌, ◌++◌, length, take, drop, replicate, map, Option, Some, None, is_some, refl, sym, ap, ◌∙◌, inl, inr, arith, append_assoc, append-nil, drop-drop, length-drop}
+use Rattle.std.specs.List.{zip, flat_map, drop-map}
 use Rattle.std.specs.Option.{option_to_list, option_and_then}
 use Rattle.std.proofs.lemmas.Bool.{cases_Bool}
 use Rattle.block_bits.specs.Blocks.{documents_of, has_scope}
@@ -12,7 +12,7 @@ use Rattle.block_join.specs.Joins.{joined}
 use Rattle.block_join.specs.Kept.{next_parent}
 use Rattle.block_join.specs.Scores.{between, padded}
 use Rattle.block_join.proofs.Firsts.{NoneIn, FirstAt, first_at, none_at, none_before, first_within}
-use Rattle.block_join.proofs.Built.{padded_more, padded_all}
+use Rattle.block_join.proofs.Built.{padded_more}
 
 -- ---- the next parent
 

@@ -13,4 +13,5 @@ pub mod Sets
 pub mod Adding
 pub mod Reaching
 pub mod Holding
+pub mod Totals
 pub mod Counting

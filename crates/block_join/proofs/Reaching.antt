@@ -1,10 +1,10 @@
 -- Documents that others lead to: read on from any document, by u64s, and as the join up of hits that share one score.
-use Rattle.std.proofs.Common.{◌≡◌, ℕ, zero, suc, ◌+◌, ◌*◌, ◌/◌, ◌<◌, ◌≤◌, Bool, true, false, cond, ◌&&◌, List, [], ◌∷◌, ◌++◌, length, map, take, drop, replicate, get_or, Option, Some, None, is_some, refl, sym, ap, ap₂, ◌∙◌, inl, inr, arith, take-add, drop-drop, length-drop, eqb}
+use Rattle.std.proofs.Common.{◌≡◌, ℕ, zero, suc, ◌+◌, ◌*◌, ◌/◌, ◌<◌, ◌≤◌, Bool, true, false, cond, ◌&&◌, List, [], ◌∷◌, ◌++◌, length, map, take, drop, replicate, get_or, Option, Some, None, is_some, refl, sym, ap, ap₂, ◌∙◌, inl, inr, arith, length-drop, eqb}
 use Rattle.std.specs.List.{zip, range_with_len}
 use Rattle.std.specs.Option.{option_to_list}
 use Rattle.std.proofs.lemmas.Bool.{cases_Bool}
 use Rattle.std.proofs.lemmas.List.FromFn.{length-map-range_with_len, get_or-map-range_with_len}
-use Rattle.block_bits.specs.Blocks.{documents_of, has_scope}
+use Rattle.block_bits.specs.Blocks.{documents_of}
 use Rattle.block_bits.specs.Words.{bits_number, word_at, words_of}
 use Rattle.score_math.specs.declared.score.ScoreMode.{ScoreMode}
 use Rattle.score_math.specs.Scores.{mode_of}

@@ -1,10 +1,9 @@
 -- Documents that share one score: some of them together have one, whichever they are.
-use Rattle.std.proofs.Common.{◌≡◌, ℕ, zero, suc, ◌+◌, ◌*◌, ◌/◌, ◌<◌, ◌≤◌, min, max, List, [], ◌∷◌, length, map, replicate, Option, Some, None, is_some, refl, sym, ap, ap₂, ◌∙◌, arith, suc-mul}
+use Rattle.std.proofs.Common.{◌≡◌, ℕ, zero, suc, ◌*◌, ◌/◌, ◌<◌, ◌≤◌, min, max, List, ◌∷◌, length, map, replicate, Option, Some, is_some, refl, ap, ap₂, ◌∙◌, arith, suc-mul}
 use Rattle.std.specs.Prelude.{sum, fold}
 use Rattle.std.proofs.lemmas.List.{length-replicate}
 use Rattle.std.proofs.lemmas.List.Sums.{sum_by-cons}
 use Rattle.std.proofs.lemmas.Nat.{le-div, div_below}
-use Rattle.score_math.specs.declared.score.ScoreMode.{ScoreMode}
 use Rattle.score_math.specs.declared.score.ScoreMode.TheVariants.{Avg, Max, Min, Zero}
 use Rattle.block_join.specs.Kept.{AreAlike}
 use Rattle.block_join.specs.Scores.{filled}

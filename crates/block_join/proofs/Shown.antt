@@ -1,11 +1,14 @@
 -- A set with scores, as one optional score a document.
-use Rattle.std.proofs.Common.{◌≡◌, ℕ, zero, suc, ◌+◌, ◌-◌, ◌<◌, ◌≤◌, Bool, true, false, cond, List, [], ◌∷◌, ◌++◌, length, take, drop, replicate, map, set, Option, Some, None, is_some, refl, sym, ap, ◌∙◌, inl, inr, arith, take-append-drop, drop-drop, take-add, min, subst}
+use Rattle.std.proofs.Common.{◌≡◌, ℕ, zero, suc, ◌+◌, ◌<◌, ◌≤◌, Bool, true, false, List, [], ◌∷◌, ◌++◌, length, take, drop, replicate, map, set, Option, Some, None, is_some, refl, sym, ap, ◌∙◌, arith, take-append-drop, take-add, min, subst, Vec}
 use Rattle.std.specs.List.{position_from, flat_map}
 use Rattle.std.specs.Option.{option_to_list}
 use Rattle.block_bits.specs.Flags.{is_marked}
-use Rattle.block_join.specs.Kept.{shown, score_of, marks, AreScores}
+use Rattle.block_join.specs.Kept.{shown, kept_score, marks, AreKept, AreScores, IsSame}
+use Rattle.block_join.specs.declared.scores.Form.{Form}
 use Rattle.block_join.specs.declared.scores.Scores.{Scores}
-use Rattle.block_join.specs.declared.scores.Scores.TheVariants.{Same}
+use Rattle.block_join.specs.declared.scores.Scores.TheVariants.{Each}
+use Rattle.std.specs.declared.alloc.Global.{Global}
+use Rattle.block_join.specs.declared.scores.Form.TheVariants.{Shared, Listed, Summed}
 use Rattle.score_math.specs.declared.score.TheConstants.{SCORE_CAP}
 use Rattle.block_join.specs.Scores.{filled}
 use Rattle.block_join.proofs.Firsts.{NoneIn, FirstAt}
@@ -133,9 +136,17 @@ filled_capped score (true ∷ flags) h =
     ap (λ (n : ℕ). Some n ∷ filled (Some n) flags) same
 filled_capped score (false ∷ flags) h = ap (λ (ss : List (Option ℕ)). None ∷ ss) (filled_capped score flags h)
 
-pub shared_is : (flags : List Bool) (scores : Scores) (score : ℕ) (all : List (Option ℕ)) → scores ≡ Same score → AreScores flags scores → shown (score_of scores) 0 flags ≡ all → all ≡ filled (Some (min score SCORE_CAP)) (map is_some all)
-shared_is flags scores score all is are view =
-    let own : AreScores flags (Same score) = subst (AreScores flags) is are in
-    let read : shown (λ k. score) 0 flags ≡ all = ap (λ (x : Scores). shown (score_of x) 0 flags) (sym is) ∙ view in
+-- scores of their own, made one after the other
+pub kept_each : (flags : List Bool) (scores : Scores) (each : Vec ℕ Global) → scores ≡ Each each → AreScores flags scores → AreKept flags (Listed each)
+kept_each flags scores each is are =
+    let own : AreScores flags (Each each) = subst (AreScores flags) is are in
+    record { kept = own.long; capped = own.capped }
+
+pub shared_is : (flags : List Bool) (form : Form) (score : ℕ) (all : List (Option ℕ)) → IsSame form score → AreKept flags form → shown (kept_score form) 0 flags ≡ all → all ≡ filled (Some (min score SCORE_CAP)) (map is_some all)
+shared_is flags (Shared own) score all is are view =
+    let capped : (k : ℕ) → k < marks flags → score ≤ SCORE_CAP = subst (λ n. (k : ℕ) → k < marks flags → n ≤ SCORE_CAP) is are.capped in
+    let read : shown (λ k. score) 0 flags ≡ all = ap (λ (n : ℕ). shown (λ k. n) 0 flags) (sym is) ∙ view in
     subst (λ (ss : List (Option ℕ)). ss ≡ filled (Some (min score SCORE_CAP)) (map is_some ss)) read
-    (shown_same score 0 flags ∙ filled_capped score flags own.capped ∙ ap (filled (Some (min score SCORE_CAP))) (sym (shown_set (λ k. score) 0 flags)))
+    (shown_same score 0 flags ∙ filled_capped score flags capped ∙ ap (filled (Some (min score SCORE_CAP))) (sym (shown_set (λ k. score) 0 flags)))
+shared_is flags (Listed own) score all is are view = absurd is
+shared_is flags (Summed parts) score all is are view = absurd is

@@ -4,14 +4,13 @@ use Rattle.std.specs.Prelude.{⊤}
 use Rattle.std.specs.List.{zip, drop-map, flat_map}
 use Rattle.std.specs.Option.{option_to_list}
 use Rattle.std.proofs.lemmas.Bool.{cases_Bool, cases_lt, true≢false}
-use Rattle.std.proofs.lemmas.List.{get_or-map}
 use Rattle.block_bits.specs.Blocks.{documents_of, has_scope}
 use Rattle.block_bits.specs.Flags.{is_marked}
 use Rattle.block_join.specs.Joins.{spread, next_at}
 use Rattle.block_join.specs.Kept.{next_parent, IsStart}
 use Rattle.block_join.specs.Scores.{filled, padded, between}
-use Rattle.block_join.proofs.Firsts.{NoneIn, FirstAt, first_within, none_before}
-use Rattle.block_join.proofs.Built.{padded_more, length_padded}
+use Rattle.block_join.proofs.Firsts.{NoneIn, FirstAt, first_within}
+use Rattle.block_join.proofs.Built.{padded_more}
 use Rattle.block_join.proofs.Joining.{hit_at, no_hit}
 
 -- the last of the first so many is in the set, where there are any

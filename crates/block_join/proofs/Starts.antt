@@ -1,5 +1,5 @@
 -- Where the documents inside a parent begin.
-use Rattle.std.proofs.Common.{◌≡◌, ℕ, zero, suc, ◌+◌, ◌-◌, ◌<◌, ◌≤◌, Bool, true, false, List, [], ◌∷◌, ◌++◌, length, take, get_or, refl, sym, ap, ◌∙◌, arith, length-append, length-take-le, get_or-take, get_or-append-add}
+use Rattle.std.proofs.Common.{◌≡◌, ℕ, suc, ◌+◌, ◌-◌, ◌<◌, Bool, false, List, ◌∷◌, length, take, get_or, sym, ap, ◌∙◌, arith, length-append, length-take-le, get_or-take, get_or-append-add}
 use Rattle.block_bits.specs.Flags.{is_marked}
 use Rattle.block_bits.specs.Places.{AllFail, IsLast}
 use Rattle.block_join.specs.Kept.{IsStart}

@@ -1,8 +1,7 @@
 -- The mode of scores that are read one by one.
-use Rattle.std.proofs.Common.{◌≡◌, ℕ, zero, suc, ◌+◌, ◌-◌, ◌*◌, ◌<◌, ◌≤◌, min, max, List, [], ◌∷◌, ◌++◌, length, Option, Some, None, refl, sym, ap, ◌∙◌, arith, append_assoc, append-nil}
+use Rattle.std.proofs.Common.{◌≡◌, ℕ, ◌+◌, ◌*◌, ◌<◌, ◌≤◌, min, max, List, [], ◌∷◌, ◌++◌, sym, ap, ◌∙◌, arith, append_assoc, append-nil}
 use Rattle.score_math.specs.declared.score.TheConstants.{SCORE_CAP}
-use Rattle.score_math.specs.declared.score.ScoreMode.{ScoreMode}
-use Rattle.score_math.specs.Scores.{Summarizes, mode_of}
+use Rattle.score_math.specs.Scores.{Summarizes}
 use Rattle.score_math.specs.Running.{summary_of_one, summary_of_more, total_is_bounded}
 use Rattle.block_join.specs.Scores.{Standing, between}
 

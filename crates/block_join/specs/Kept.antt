@@ -1,6 +1,7 @@
 -- How scores are kept: a set of documents, and either one score for all of them or one each in their order.
 use Rattle.std.specs.Prelude.{◌≡◌, ℕ, suc, min, max, ◌+◌, ◌^◌, ◌-◌, ◌<◌, ◌≤◌, Bool, true, false, cond, ◌&&◌, ◌||◌, List, [], ◌∷◌, length, map, take, drop, replicate, get_or, Option, Some, None, is_some, IfSome, ⊤}
-use Rattle.std.specs.Option.{option_and_then}
+use Rattle.std.specs.List.{flat_map}
+use Rattle.std.specs.Option.{option_and_then, option_to_list}
 use Rattle.block_bits.specs.Flags.{is_marked}
 use Rattle.block_bits.specs.Places.{next_place}
 use Rattle.block_bits.specs.Walks.{Walking}
@@ -12,6 +13,9 @@ use Rattle.block_join.specs.declared.rule.Rule.{Rule}
 use Rattle.block_join.specs.declared.rule.Rule.TheVariants.{Both, Kept, Without, Plus, Either, Greatest, Counted, AtLeast}
 use Rattle.block_join.specs.declared.scores.Scores.{Scores}
 use Rattle.block_join.specs.declared.scores.Scores.TheVariants.{Same, Each}
+use Rattle.block_join.specs.declared.scores.Form.{Form}
+use Rattle.block_join.specs.declared.scores.Form.TheVariants.{Shared, Listed, Summed}
+use Rattle.block_join.specs.Sums.{IsSum, summed}
 
 -- the score of document `k` of the set, counted from its first
 abbrev pub score_of : Scores → ℕ → ℕ
@@ -33,23 +37,52 @@ abbrev pub IsLong : Scores → ℕ → Type 0
 IsLong (Same score) count = ⊤
 IsLong (Each scores) count = length scores.items ≡ count
 
--- the next score to be read is that of document `k` of the set; where they share one nothing is counted
-abbrev pub IsPlaced : Scores → ℕ → ℕ → Type 0
-IsPlaced (Same score) at k = ⊤
-IsPlaced (Each scores) at k = at ≡ k
-
 pub record AreScores (flags : List Bool) (scores : Scores) : Type 0 where
   pub long : IsLong scores (marks flags)
   pub capped : (k : ℕ) → k < marks flags → score_of scores k ≤ SCORE_CAP
 
+-- the score of document `k` of the set, however it is kept
+abbrev pub kept_score : Form → ℕ → ℕ
+kept_score (Shared score) = λ k. score
+kept_score (Listed scores) = λ k. get_or scores.items k 0
+kept_score (Summed parts) = λ k. get_or (flat_map option_to_list (summed parts.value)) k 0
+
+-- as many scores as documents, where each has its own, or a sum for each of them
+abbrev pub IsKept : List Bool → Form → Type 0
+IsKept flags (Shared score) = ⊤
+IsKept flags (Listed scores) = length scores.items ≡ marks flags
+IsKept flags (Summed parts) = IsSum flags parts.value
+
+pub record AreKept (flags : List Bool) (form : Form) : Type 0 where
+  pub kept : IsKept flags form
+  pub capped : (k : ℕ) → k < marks flags → kept_score form k ≤ SCORE_CAP
+
+-- the next score to be read is that of document `k` of the set; nothing is counted where they are not listed
+abbrev pub IsPlaced : Form → ℕ → ℕ → Type 0
+IsPlaced (Shared score) at k = ⊤
+IsPlaced (Listed scores) at k = at ≡ k
+IsPlaced (Summed parts) at k = ⊤
+
+-- the next score to be read is that of a document
+pub record IsRead (flags : List Bool) (form : Form) (at doc : ℕ) : Type 0 where
+  pub are : AreKept flags form
+  pub placed : IsPlaced form at (marks (take doc flags))
+  pub set : get_or flags doc false ≡ true
+
+-- all documents have this score
+abbrev pub IsSame : Form → ℕ → Type 0
+IsSame (Shared own) score = own ≡ score
+IsSame (Listed scores) score = ⊥
+IsSame (Summed parts) score = ⊥
+
 -- a walk over the set, that stands behind the next document from `from` on, and the place of that document's score
-pub record IsStanding (set : List Bool) (walk : Walking) (ahead : Option ℕ) (scores : Scores) (from at : ℕ) : Type 0 where
+pub record IsStanding (set : List Bool) (walk : Walking) (ahead : Option ℕ) (form : Form) (from at : ℕ) : Type 0 where
   pub own : walk.documents ≡ set
-  pub scores_are : AreScores walk.documents scores
+  pub scores_are : AreKept walk.documents form
   pub within : from ≤ length walk.documents
   pub next : ahead ≡ next_place is_marked from walk.documents
   pub behind : IfSome ahead (λ doc. walk.from ≡ doc + 1)
-  pub placed : IsPlaced scores at (marks (take from walk.documents))
+  pub placed : IsPlaced form at (marks (take from walk.documents))
 
 -- a set with its scores, so many, in which no document from `end` on is
 pub record IsBegun (flags : List Bool) (scores : Scores) (end count : ℕ) : Type 0 where

@@ -1,6 +1,6 @@
 //! How many documents of a set there are, counted 64 at a time.
 
-ghost use Rattle.std.specs.Prelude.{◌≡◌, ◌+◌, ◌*◌, ◌/◌, ◌≤◌, length, take};
+ghost use Rattle.std.specs.Prelude.{◌≡◌, ◌+◌, ◌-◌, ◌*◌, ◌/◌, ◌≤◌, length, drop, take};
 ghost use Rattle.block_join.specs.Kept.{marks};
 
 use block_bits::BitSet;
@@ -12,7 +12,7 @@ const WORD: u32 = 64;
 pub(crate) fn count_between(set: &BitSet, from: u32, end: u32) -> u32
     requires ordered { from ≤ end }
     requires within { end ≤ length set.now }
-    ensures { marks (take from set.now) + result ≡ marks (take end set.now) }
+    ensures { result ≡ marks (take (end - from) (drop from set.now)) }
 {
     let words = set.words();
     let mut total = 0;

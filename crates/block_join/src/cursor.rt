@@ -3,12 +3,15 @@
 ghost use Rattle.std.specs.Prelude.{◌≡◌, ℕ, ◌+◌, ◌-◌, ◌<◌, ◌≤◌, List, [], ◌∷◌, length, Some, IfSome, IfNone};
 ghost use Rattle.std.specs.Option.{is_some};
 ghost use Rattle.block_bits.specs.Places.{next_place};
-ghost use Rattle.block_join.specs.Kept.{shown, score_of, AreScores};
+ghost use Rattle.block_join.specs.Kept.{shown, kept_score, AreKept};
+ghost use Rattle.block_join.specs.Sums.{AreParts, summed};
 ghost use Rattle.block_join.specs.Scores.{between};
 ghost use Rattle.score_math.specs.Scores.{mode_of};
+ghost use Rattle.score_math.specs.declared.score.ScoreMode.{ScoreMode};
 ghost use Rattle.score_math.specs.declared.score.TheConstants.{SCORE_CAP};
 
-use crate::scores::Scores;
+use crate::parts::Parts;
+use crate::scores::Form;
 use block_bits::{BitSet, Walk};
 use score_math::{ScoreMode, combine};
 use std::marker::Model;
@@ -21,27 +24,27 @@ pub struct Cursor<'a> {
     set: &'a BitSet,
     walk: Walk<'a>,
     ahead: Option<u32>,
-    scores: &'a Scores,
+    form: &'a Form,
     from: u32,
     at: usize,
 }
 
 impl<'a> Model for Cursor<'a> {
     ghost use Rattle.block_join.specs.Scores.{Standing};
-    ghost use Rattle.block_join.specs.Kept.{shown, score_of, IsStanding};
+    ghost use Rattle.block_join.specs.Kept.{shown, kept_score, IsStanding};
 
     ghost Value = { Standing };
 
-    ghost view = { λ it. record { scores = shown (score_of it.scores.now) 0 it.walk.documents; from = it.from } };
+    ghost view = { λ it. record { scores = shown (kept_score it.form.now) 0 it.walk.documents; from = it.from } };
 
-    ghost invariant = { λ it. IsStanding it.set.now it.walk it.ahead it.scores.now it.from it.at };
+    ghost invariant = { λ it. IsStanding it.set.now it.walk it.ahead it.form.now it.from it.at };
 }
 
 impl<'a> Cursor<'a> {
     /// The scores of a set's documents, from the first document on.
-    pub(crate) fn over(set: &'a BitSet, scores: &'a Scores) -> Cursor<'a>
-        requires { AreScores set.now scores.now }
-        ensures { result ≡ record { scores = shown (score_of scores.now) 0 set.now; from = 0 } }
+    pub(crate) fn over(set: &'a BitSet, form: &'a Form) -> Cursor<'a>
+        requires { AreKept set.now form.now }
+        ensures { result ≡ record { scores = shown (kept_score form.now) 0 set.now; from = 0 } }
     {
         let mut walk = set.walk();
         let ahead = walk.next();
@@ -49,7 +52,7 @@ impl<'a> Cursor<'a> {
             set,
             walk,
             ahead,
-            scores,
+            form,
             from: 0,
             at: 0,
         }
@@ -84,7 +87,7 @@ impl<'a> Cursor<'a> {
     {
         match self.ahead {
             Some(doc) if doc < end => {
-                let (score, next) = self.scores.read(self.at);
+                let (score, next) = self.form.read(self.at, doc);
                 self.at = next;
                 self.from = self.walk.from();
                 self.ahead = self.walk.next();
@@ -97,7 +100,7 @@ impl<'a> Cursor<'a> {
         }
     }
 
-    /// Goes on at `end`. Documents that are passed over are counted 64 at a time, and not at all where they share one score.
+    /// Goes on at `end`. Documents that are passed over are counted 64 at a time, and not at all where scores are not listed.
     pub fn skip(&mut self, end: u32)
         requires ordered { self.old.from ≤ end }
         requires within { end ≤ length self.old.scores }
@@ -105,7 +108,7 @@ impl<'a> Cursor<'a> {
     {
         match self.ahead {
             Some(doc) if doc < end => {
-                self.at = self.scores.place_at(self.set, self.at, doc, end);
+                self.at = self.form.place_at(self.set, self.at, doc, end);
                 self.walk.skip_to(end);
                 self.ahead = self.walk.next();
                 self.from = end;
@@ -115,6 +118,8 @@ impl<'a> Cursor<'a> {
     }
 
     /// The mode of the scores of the documents before `end`, by their sum, count, least and greatest. It goes on at `end`.
+    ///
+    /// The sum of sums is found part by part.
     pub fn mode_before(&mut self, end: u32, mode: ScoreMode) -> Option<u64>
         requires ordered { self.old.from ≤ end }
         requires within { end ≤ length self.old.scores }
@@ -122,6 +127,11 @@ impl<'a> Cursor<'a> {
         ensures capped { IfSome result (λ score. score ≤ SCORE_CAP) }
         ensures place { self.new ≡ record { scores = self.old.scores; from = end } }
     {
+        if let Form::Summed(parts) = self.form {
+            if mode == ScoreMode::Sum {
+                return self.sum_before(parts, end);
+            }
+        }
         let first = self.next_before(end)?;
         let mut total = u128::from(first);
         let mut count = 1u32;
@@ -134,5 +144,29 @@ impl<'a> Cursor<'a> {
             greatest = greatest.max(score);
         }
         Some(combine(mode, total, count, least, greatest))
+    }
+
+    /// The sum of the scores of the documents before `end`, which are the sums of these parts. It goes on at `end`.
+    fn sum_before(&mut self, parts: &Parts, end: u32) -> Option<u64>
+        requires ordered { self.old.from ≤ end }
+        requires within { end ≤ length self.old.scores }
+        requires parts { AreParts parts.now }
+        requires sums { self.old.scores ≡ summed parts.now }
+        requires len { parts.now.len ≡ length self.old.scores }
+        ensures value { result ≡ mode_of ScoreMode.Sum (between self.old.scores self.old.from end) }
+        ensures capped { IfSome result (λ score. score ≤ SCORE_CAP) }
+        ensures place { self.new ≡ record { scores = self.old.scores; from = end } }
+    {
+        let ahead = self.peek();
+        let from = self.from();
+        self.skip(end);
+        let Some(doc) = ahead else {
+            return None;
+        };
+        if doc < end {
+            Some(parts.total(from, end))
+        } else {
+            None
+        }
     }
 }

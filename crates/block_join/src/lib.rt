@@ -3,7 +3,7 @@
 //! It stands on `block_bits` for the sets, `score_math` for the modes and `source_steps` for the counter. The contracts
 //! that others use are those of `to_parent` and `to_child`, `joined` and `spread` of `specs/Joins.antt` on the list of all
 //! documents, and that of `merged`, two lists put together by a `Rule`. Begin with `Scored`, then read `Cursor` and
-//! `Builder`, with which scores are read and made in order.
+//! `Builder`, with which scores are read and made in order, and `Parts`, the sums that are kept as sets.
 #![tactic(auto)]
 
 mod builder;
@@ -12,6 +12,7 @@ mod cursor;
 mod down;
 mod matches;
 mod merge;
+mod parts;
 mod reached;
 mod rule;
 mod scored;

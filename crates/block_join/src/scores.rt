@@ -1,14 +1,16 @@
-//! The scores of a set's documents, in their order.
+//! The scores of a set's documents, and how they are kept.
 
-ghost use Rattle.std.specs.Prelude.{◌≡◌, ℕ, ◌+◌, ◌<◌, ◌≤◌, List, [], ◌∷◌, ◌++◌, length, replicate, take, IfOk, OnOk, OnErr};
-ghost use Rattle.block_join.specs.Kept.{marks, score_of, IsLong, IsPlaced};
+ghost use Rattle.std.specs.Prelude.{◌≡◌, ℕ, ◌+◌, ◌<◌, ◌≤◌, Bool, List, [], ◌∷◌, ◌++◌, length, replicate, slice_index, take, IfOk, IfSome, OnOk, OnErr};
+ghost use Rattle.block_join.specs.Kept.{kept_score, marks, score_of, IsLong, IsPlaced, IsRead, IsSame};
+ghost use Rattle.block_join.specs.Sums.{or_zero};
 
 use crate::NoMemory;
 use crate::count::count_between;
+use crate::parts::Parts;
 use block_bits::BitSet;
 use std::alloc::Global;
 
-/// The scores of a set's documents.
+/// The scores of a set's documents, as they are made one after the other.
 #[derive(Drop)]
 pub(crate) enum Scores {
     /// All have this one.
@@ -17,16 +19,39 @@ pub(crate) enum Scores {
     Each(Vec<u64>),
 }
 
-impl Scores {
-    /// The score at `at`, and the place of the next one.
-    pub(crate) fn read(&self, at: usize) -> (u64, usize)
-        requires { (k : ℕ) × (count : ℕ) × IsPlaced self.now at k × IsLong self.now count × (k < count) }
-        ensures score { (k : ℕ) → IsPlaced self.now at k → result.0 ≡ score_of self.now k }
+/// How the scores of a set's documents are kept.
+#[derive(Drop)]
+pub(crate) enum Form {
+    /// All have this one.
+    Shared(u64),
+    /// One each, in the order of the documents.
+    Listed(Vec<u64>),
+    /// As the sums of parts.
+    Summed(Box<Parts>),
+}
+
+impl Form {
+    /// The score of a document, whose place in a list is `at`, and the place of the next one's.
+    pub(crate) fn read(&self, at: usize, doc: u32) -> (u64, usize)
+        requires { (flags : List Bool) × IsRead flags self.now at doc }
+        ensures score { (flags : List Bool) → IsRead flags self.now at doc → result.0 ≡ kept_score self.now (marks (take doc flags)) }
         ensures placed { (k : ℕ) → IsPlaced self.now at k → IsPlaced self.now result.1 (k + 1) }
     {
         match self {
-            Scores::Same(score) => (*score, at),
-            Scores::Each(scores) => (scores[at], at + 1),
+            Form::Shared(score) => (*score, at),
+            Form::Listed(scores) => listed_at(scores.as_slice(), at),
+            Form::Summed(parts) => (or_zero(parts.at(doc)), at),
+        }
+    }
+
+    /// The one score of all documents, where that is known without reading them.
+    pub(crate) fn shared(&self) -> Option<u64>
+        ensures { IfSome result (IsSame self.now) }
+    {
+        match self {
+            Form::Shared(score) => Some(*score),
+            Form::Listed(_) => None,
+            Form::Summed(_) => None,
         }
     }
 
@@ -38,11 +63,14 @@ impl Scores {
         ensures { IsPlaced self.now result (marks (take end set.now)) }
     {
         match self {
-            Scores::Same(_) => at,
-            Scores::Each(_) => at + count_between(set, from, end) as usize,
+            Form::Shared(_) => at,
+            Form::Listed(_) => at + count_between(set, from, end) as usize,
+            Form::Summed(_) => at,
         }
     }
+}
 
+impl Scores {
     /// Adds the score of one document more to those of `count`.
     ///
     /// One score for all is kept as long as no other comes.
@@ -80,4 +108,23 @@ fn one_each(alloc: Global, same: u64, count: u32, score: u64) -> Result<Vec<u64>
     scores.resize(count as usize, same)?;
     scores.push(score)?;
     Ok(scores)
+}
+
+/// The score at a place of a list, and the next place.
+fn listed_at(scores: &[u64], at: usize) -> (u64, usize)
+    requires { at < length scores.now }
+    ensures score { result.0 ≡ slice_index scores.now at }
+    ensures next { result.1 ≡ at + 1 }
+{
+    (scores[at], at + 1)
+}
+
+/// A score, or 0 where there is none.
+fn or_zero(score: Option<u64>) -> u64
+    ensures { result ≡ or_zero score }
+{
+    match score {
+        Some(score) => score,
+        None => 0,
+    }
 }

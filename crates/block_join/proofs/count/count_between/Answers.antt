@@ -1,9 +1,8 @@
-use Rattle.std.proofs.Common.{◌≡◌, ◌+◌, ◌-◌, ◌*◌, ◌/◌, ◌≤◌, Bool, List, ℕ, length, get_or, take, ap, arith}
+use Rattle.std.proofs.Common.{◌≡◌, ◌+◌, ◌*◌, ◌/◌, List, ℕ, length, get_or, take, ap, arith}
 use Rattle.std.specs.Int.RustNames.{count_ones}
 use Rattle.block_join.specs.Kept.{marks}
-use Rattle.block_join.proofs.Counting.{counts_word, marks_few}
+use Rattle.block_join.proofs.Counting.{counts_word, marks_few, parted}
 use Rattle.block_join.proofs.Reaching.{words_long}
-use Rattle.block_join.proofs.Shown.{marks_add}
 use Rattle.block_join.proofs.count.count_between.Goals as goal
 
 pub bounds-words-place : goal.bounds-words-place
@@ -32,16 +31,11 @@ last c =
     let all : c.places.place ≡ c.args.end / 64 = omega (arith, c.places-test.false, c.places.invariant.2) in
     omega (arith, c.places.invariant.0, ap (λ n. marks (take (64 * n) c.args.set.now)) all, c.count_in_word.ensures)
 
-ordered : (flags : List Bool) (from end : ℕ) → from ≤ end → marks (take from flags) ≤ marks (take end flags)
-ordered flags from end h =
-    let sum : from + (end - from) ≡ end = omega (arith, h) in
-    omega (arith, marks_add from (end - from) flags, ap (λ n. marks (take n flags)) sum)
-
 pub overflow_add-result : goal.overflow_add-result
 overflow_add-result c = omega (arith, last c, c.ranges.end.fits, marks_few c.args.end c.args.set.now)
 
 pub overflow_sub-result : goal.overflow_sub-result
-overflow_sub-result c = omega (arith, last c.before, c.count_in_word-2.ensures, ordered c.args.set.now c.args.from c.args.end c.requires.ordered)
+overflow_sub-result c = omega (arith, last c.before, c.count_in_word-2.ensures, parted c.args.set.now c.args.from c.args.end c.requires.ordered)
 
 pub returns : goal.returns
-returns c = omega (arith, last c.before, c.count_in_word-2.ensures, ordered c.args.set.now c.args.from c.args.end c.requires.ordered)
+returns c = omega (arith, last c.before, c.count_in_word-2.ensures, parted c.args.set.now c.args.from c.args.end c.requires.ordered)

@@ -1,4 +1,4 @@
-use Rattle.std.proofs.Common.{◌≡◌, ◌+◌, Bool, List, take, Some, None, sym, ap, ◌∙◌, length, length-take-le}
+use Rattle.std.proofs.Common.{◌≡◌, Bool, List, take, Some, None, sym, ap, ◌∙◌, length-take-le}
 use Rattle.block_bits.specs.Flags.{is_marked}
 use Rattle.block_bits.specs.Places.{next_place}
 use Rattle.block_bits.specs.Walks.{Walking}

@@ -1,8 +1,8 @@
-use Rattle.std.proofs.Common.{◌≡◌, ℕ, ◌+◌, ◌≤◌, Bool, List, Some, None, true, false, get_or, sym, ap, ◌∙◌}
+use Rattle.std.proofs.Common.{◌≡◌, Some, true, false, get_or, sym, ap, ◌∙◌}
 use Rattle.block_bits.specs.Flags.{cleared}
 use Rattle.block_join.specs.Kept.{holder}
 use Rattle.block_join.specs.Scores.{filled}
-use Rattle.block_join.proofs.Holding.{Holding, holding_ends, holding_hit, holding_none, start_behind_from}
+use Rattle.block_join.proofs.Holding.{holding_ends, holding_hit, holding_none, start_behind_from}
 use Rattle.block_join.proofs.down.held.Goals.{then-has, else-has}
 use Rattle.block_join.proofs.down.held.Goals as goal
 

@@ -1,4 +1,4 @@
-use Rattle.std.proofs.Common.{◌≡◌, ℕ, [], ◌∷◌, ◌+◌, ◌++◌, ◌≤◌, Bool, List, Option, Some, None, length, sym, ap, ◌∙◌, arith}
+use Rattle.std.proofs.Common.{◌≡◌, ℕ, [], ◌∷◌, ◌+◌, List, Option, Some, None, sym, ap, ◌∙◌, arith}
 use Rattle.block_join.specs.Kept.{next_parent}
 use Rattle.block_join.specs.Scores.{Standing, between, padded}
 use Rattle.block_join.proofs.Sets.{parent_is_in, spreading_sets_hit, spreading_sets_none, spreading_sets_end}

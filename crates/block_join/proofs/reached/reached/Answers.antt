@@ -1,7 +1,7 @@
-use Rattle.std.proofs.Common.{◌≡◌, ◌+◌, ◌*◌, ◌/◌, ◌≤◌, ◌++◌, ◌∷◌, [], false, List, ℕ, length, map, get_or, sym, ap, ◌∙◌, arith}
+use Rattle.std.proofs.Common.{◌≡◌, ◌+◌, ◌/◌, ◌++◌, ◌∷◌, [], false, List, ℕ, length, map, get_or, sym, ap, ◌∙◌, arith}
 use Rattle.std.specs.List.{range_with_len}
 use Rattle.std.proofs.lemmas.List.FromFn.{map-range_with_len_more}
-use Rattle.block_bits.specs.Words.{bits_number, word_at, words_of}
+use Rattle.block_bits.specs.Words.{bits_number, word_at}
 use Rattle.block_join.specs.Kept.{reached, since}
 use Rattle.block_join.proofs.Reaching.{before, before_next, length_reached, own, own_full, own_long, own_short, reached_word, word_read, words_all, words_long}
 use Rattle.block_join.proofs.reached.reached.Goals as goal

@@ -1,4 +1,4 @@
-use Rattle.std.proofs.Common.{◌≡◌, ◌+◌, ◌-◌, ◌%◌, ◌^◌, cond, refl, sym, ap, ap₂, ◌∙◌, bit_and, nat_le}
+use Rattle.std.proofs.Common.{◌≡◌, ◌+◌, ◌%◌, ◌^◌, cond, refl, sym, ap, ap₂, ◌∙◌, bit_and, nat_le}
 use Rattle.block_join.proofs.Adding.{total, word_is, more_is}
 use Rattle.block_join.proofs.reached.reached_word.Goals.{then-some, else-some}
 use Rattle.block_join.proofs.reached.reached_word.Goals as goal

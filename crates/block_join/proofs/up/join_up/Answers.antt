@@ -1,4 +1,4 @@
-use Rattle.std.proofs.Common.{◌≡◌, ℕ, false, List, Option, Some, length, ap, ◌∙◌}
+use Rattle.std.proofs.Common.{ℕ, false, List, Option, Some, length, ap, ◌∙◌}
 use Rattle.block_join.specs.Kept.{reached}
 use Rattle.block_join.specs.Scores.{filled}
 use Rattle.block_join.proofs.Holding.{length_filled}

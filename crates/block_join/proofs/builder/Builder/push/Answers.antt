@@ -1,4 +1,4 @@
-use Rattle.std.proofs.Common.{◌≡◌, ◌+◌, ◌<◌, ◌≤◌, List, [], ◌∷◌, ◌++◌, length, take, Some, subst, ◌∙◌, arith}
+use Rattle.std.proofs.Common.{◌≡◌, ◌+◌, ◌<◌, ◌≤◌, [], ◌∷◌, ◌++◌, length, take, Some, subst, arith}
 use Rattle.block_join.specs.Kept.{shown, score_of}
 use Rattle.block_join.specs.Scores.{Begun, padded}
 use Rattle.block_join.proofs.Built.{on_err, view_of, count_within, begun_same, begun_more, begun_other, pushed_done, view_end, view_len}

@@ -1,5 +1,9 @@
-use Rattle.std.proofs.Common.{sym, ◌∙◌}
-use Rattle.block_join.proofs.Summing.{summing_one, summing_more, summing_ends, summing_bounded}
+use Rattle.std.proofs.Common.{sym, ap, ◌∙◌}
+use Rattle.block_join.specs.Scores.{Standing}
+use Rattle.block_join.specs.Sums.{summed}
+use Rattle.block_join.specs.declared.parts.Parts.{Parts}
+use Rattle.block_join.proofs.Totals.{kept_len, kept_view}
+use Rattle.block_join.proofs.Summing.{summing_one, summing_more, summing_bounded}
 use Rattle.block_join.proofs.cursor.Cursor.mode_before.Goals as goal
 
 pub scores-init : goal.scores-init
@@ -16,3 +20,11 @@ scores-preserved c =
 pub combine-requires-clause-total_bounded : goal.combine-requires-clause-total_bounded
 combine-requires-clause-total_bounded c =
     summing_bounded c.args.self.now c.scores.self c.args.end c.scores.total c.scores.count c.scores.least c.scores.greatest c.scores.invariant
+
+pub sum_before-requires-clause-sums : goal.sum_before-requires-clause-sums
+sum_before-requires-clause-sums c =
+    sym (ap summed c.deref.ensures ∙ kept_view c.self.inside.walk.documents c.self.inside.form.now c.in-Summed.parts c.in-Summed.is c.self.invariant.scores_are c.args.self.now.scores (ap (λ (it : Standing). it.scores) c.self.view_is))
+
+pub sum_before-requires-clause-len : goal.sum_before-requires-clause-len
+sum_before-requires-clause-len c =
+    ap (λ (p : Parts). p.len) c.deref.ensures ∙ kept_len c.self.inside.walk.documents c.self.inside.form.now c.in-Summed.parts c.in-Summed.is c.self.invariant.scores_are c.args.self.now.scores (ap (λ (it : Standing). it.scores) c.self.view_is)

@@ -1,4 +1,4 @@
-use Rattle.std.proofs.Common.{◌≤◌, ◌-◌}
+use Rattle.std.proofs.Common.{◌-◌}
 use Rattle.block_join.proofs.Summing.{Summing}
 use Rattle.block_join.proofs.cursor.Cursor.mode_before.Given as goal
 

@@ -1,7 +1,7 @@
-use Rattle.std.proofs.Common.{◌≡◌, ◌-◌, ◌≤◌, length, refl}
+use Rattle.std.proofs.Common.{◌≡◌, ◌-◌, ◌≤◌, length}
 use Rattle.block_join.specs.Merge.{put_together}
 use Rattle.block_join.proofs.Merging.{Merging}
-use Rattle.block_join.proofs.merge.merged.Given as goal
+use Rattle.block_join.proofs.merge.merged_each.Given as goal
 
 abbrev pub invariant-hits : goal.invariant-hits
 invariant-hits l =

@@ -1,9 +1,0 @@
-use Rattle.std.proofs.Common.{◌≡◌, take, arith}
-use Rattle.block_join.specs.Kept.{marks}
-use Rattle.block_join.proofs.Counting.{marks_few}
-use Rattle.block_join.proofs.scores.Scores.place_at.Goals as goal
-
-pub overflow_add-result : goal.overflow_add-result
-overflow_add-result c =
-    let placed : c.args.at ≡ marks (take c.args.from c.args.set.now) = rw c.in-Each.is at c.requires.placed in
-    omega (arith, placed, c.count_between.ensures, c.ranges.end.fits, marks_few c.args.end c.args.set.now)
