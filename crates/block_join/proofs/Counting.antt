@@ -1,9 +1,11 @@
 -- Documents of a set counted by its u64s.
-use Rattle.std.proofs.Common.{◌≡◌, ℕ, zero, suc, ◌+◌, ◌-◌, ◌*◌, ◌/◌, ◌%◌, ◌^◌, ◌<◌, ◌≤◌, Bool, true, false, cond, List, [], ◌∷◌, length, take, drop, get_or, refl, sym, ap, ◌∙◌, arith}
+use Rattle.std.proofs.Common.{◌≡◌, ℕ, zero, suc, ◌+◌, ◌-◌, ◌*◌, ◌/◌, ◌%◌, ◌^◌, ◌<◌, ◌≤◌, Bool, true, false, cond, List, [], ◌∷◌, length, take, drop, get_or, count_by, refl, sym, ap, ◌∙◌, arith}
 use Rattle.std.specs.Int.RustNames.{count_ones}
 use Rattle.std.proofs.Math.Nat.{pow-suc}
 use Rattle.std.proofs.lemmas.Nat.{mod_low, ones_cat}
-use Rattle.block_bits.specs.Words.{bits_number, words_of}
+use Rattle.std.proofs.lemmas.List.Sums.{sum_by-cons}
+use Rattle.block_bits.specs.Flags.{is_marked}
+use Rattle.block_bits.specs.Words.{bits_number, word_at, words_of}
 use Rattle.block_join.specs.Kept.{marks}
 use Rattle.block_join.proofs.Reaching.{word_read}
 use Rattle.block_join.proofs.Shown.{marks_add}
@@ -91,3 +93,26 @@ pub parted : (flags : List Bool) (from end : ℕ) → from ≤ end → marks (ta
 parted flags from end h =
     let sum : from + (end - from) ≡ end = omega (arith, h) in
     ap (λ n. marks (take n flags)) (sym sum) ∙ marks_add from (end - from) flags
+
+-- as many as pass the test of a flag
+abbrev flag_number : Bool → ℕ
+flag_number flag = cond (is_marked flag) 1 0
+
+pub marks_counted : (flags : List Bool) → marks flags ≡ count_by is_marked flags
+marks_counted [] = refl
+marks_counted (true ∷ flags) = omega (arith, sum_by-cons flag_number true flags, marks_counted flags)
+marks_counted (false ∷ flags) = omega (arith, sum_by-cons flag_number false flags, marks_counted flags)
+
+-- one u64 more, of which the number is known
+pub counts_number : (flags : List Bool) (place word : ℕ) → word ≡ word_at flags place → marks (take (64 * place) flags) + count_ones word ≡ marks (take (64 * (place + 1)) flags)
+counts_number flags place word is =
+    let sum : 64 * place + 64 ≡ 64 * (place + 1) = omega arith in
+    ap (λ n. marks (take (64 * place) flags) + n) (ap count_ones is ∙ count_marks (take 64 (drop (64 * place) flags)))
+    ∙ sym (marks_add (64 * place) 64 flags)
+    ∙ ap (λ n. marks (take n flags)) sum
+
+pub counted_below : (n : ℕ) (flags : List Bool) → marks (take n flags) ≤ length flags
+counted_below zero flags = omega arith
+counted_below (suc n) [] = omega arith
+counted_below (suc n) (true ∷ flags) = omega (arith, counted_below n flags)
+counted_below (suc n) (false ∷ flags) = omega (arith, counted_below n flags)

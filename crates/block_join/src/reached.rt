@@ -37,7 +37,7 @@ pub(crate) fn reached(alloc: Global, parents: &BitSet, others: &BitSet) -> Resul
 const PAST: u128 = 1 << 64;
 
 /// Those of 64 documents, and whether one of the others is behind the last of them; `some`: one came before the first.
-fn reached_word(parents: u64, others: u64, some: bool) -> (u64, bool)
+pub(crate) fn reached_word(parents: u64, others: u64, some: bool) -> (u64, bool)
     ensures word { (ps cs : List Bool) → length cs ≡ length ps → length ps ≤ 64 → parents ≡ bits_number ps → others ≡ bits_number cs → result.0 ≡ bits_number (reached some ps cs) }
     ensures more { (ps cs : List Bool) → length cs ≡ length ps → length ps ≡ 64 → parents ≡ bits_number ps → others ≡ bits_number cs → result.1 ≡ since some ps cs }
 {

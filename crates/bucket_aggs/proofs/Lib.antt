@@ -22,3 +22,5 @@ pub mod Formed
 pub mod Cuts
 pub mod Texts
 pub mod Rooted
+pub mod Around
+pub mod Faceted

@@ -272,6 +272,29 @@ module _ (terms : TermList) (f first n : ℕ) (up : AreAscending terms) (range :
             ap (λ (w : FieldValue). count_by (shows_term w) lists) is,
           )
 
+  -- what is made of the documents with an ordinal is made of those that show its term
+  pub parts_by : (F : (ℕ → Bool) → ℕ) → ((one other : ℕ → Bool) → ((doc : ℕ) → one doc ≡ other doc) → F one ≡ F other) → F (λ doc. false) ≡ 0
+      → (v : FieldValue) (counts : List ℕ) (has : ℕ → List ℕ) → ((doc : ℕ) → Each (IsOf terms f) (has doc)) → ((k : ℕ) → k < n → get_or counts k 0 ≡ F (λ doc. has_ordinal (first + k) (has doc)))
+      → parts v counts 0 n ≡ F (λ doc. shows_term v (has doc))
+  parts_by F same none v counts has all each = by (look v 0 n)
+    where
+      by : Found v 0 n → parts v counts 0 n ≡ F (λ doc. shows_term v (has doc))
+      by (inr absent) =
+          no_parts v counts 0 n absent
+          ∙ sym none
+          ∙ same (λ doc. false) (λ doc. shows_term v (has doc)) (λ doc. sym (shows_none v (λ k low. absent k (omega arith) (omega (arith, low))) (has doc) (all doc)))
+      by (inl found) =
+          let k : ℕ = found.0 in
+          let from : 0 ≤ k = found.1 in
+          let to : k < 0 + n = found.2 in
+          let is : v ≡ key_at k = found.3 in
+          let low : k < n = omega (arith, to) in
+          ap (λ (w : FieldValue). parts w counts 0 n) is
+          ∙ one_part counts k 0 n from to (omega arith)
+          ∙ each k low
+          ∙ same (λ doc. has_ordinal (first + k) (has doc)) (λ doc. shows_term (key_at k) (has doc)) (λ doc. sym (shows_one k low (has doc) (all doc)))
+          ∙ ap (λ (w : FieldValue). F (λ doc. shows_term w (has doc))) (sym is)
+
 -- one count more
 pub counts_step : (terms : TermList) (first : ℕ) (v : FieldValue) (counts : List ℕ) (at some : ℕ) → at < some → counts_of terms first v counts at (some - at) ≡ count_if v (term_key terms (first + at)) (get_or counts at 0) + counts_of terms first v counts (at + 1) (some - (at + 1))
 counts_step terms first v counts at some low = let more : some - at ≡ suc (some - (at + 1)) = omega (arith, low) in ap (counts_of terms first v counts at) more

@@ -4,9 +4,12 @@ use Rattle.std.specs.Ordering.{int_cmp, is_eq}
 use Rattle.std.specs.declared.cmp.Ordering.{Ordering}
 use Rattle.std.specs.List.{AllByRecursion, list_any}
 use Rattle.block_bits.specs.Flags.{is_marked}
+use Rattle.doc_values.specs.Values.{values_of}
 use Rattle.mapping_body.specs.declared.kind.Kind.{Kind}
 use Rattle.query_ast.specs.Compare.{is_less, is_same_value, in_order}
+use Rattle.query_ast.specs.Replies.{BucketPart, replies_of, single}
 use Rattle.query_ast.specs.Uses.{IsValueOf}
+use Rattle.query_eval.specs.Counted.{up_marks, up_total}
 use Rattle.segment.specs.Flat.{FlatDocument, bytes_at, flat_of}
 use Rattle.postings.specs.Marks.{has_document}
 use Rattle.segment.specs.Live.{EntryState}
@@ -168,6 +171,37 @@ pub record IsKnown (view : List EntryState) (scores : List (List (Option ℕ))) 
 
 abbrev pub AreKnown : List EntryState → List (List (Option ℕ)) → List TermSet → Type 0
 AreKnown view scores found = AllByRecursion (IsKnown view scores) found
+
+-- ---- the documents of a scope that those of a set lead to
+
+-- the documents of a set that pass a test, the first document having a number
+abbrev pub cut_from : (ℕ → Bool) → ℕ → List Bool → List Bool
+cut_from test start [] = []
+cut_from test start (flag ∷ flags) = (flag && test start) ∷ cut_from test (start + 1) flags
+
+-- how many those lead to that have an ordinal, and those that show a value
+abbrev pub ordinal_ups : Columns → ℕ → List (ℕ × List ℕ) → List Bool → ℕ → ℕ
+ordinal_ups columns to column flags ordinal = up_marks columns to (cut_from (λ doc. has_ordinal ordinal (values_of doc column)) 0 flags)
+
+abbrev pub shown_ups : Columns → ℕ → Kind → ℕ → List Bool → FieldValue → ℕ
+shown_ups columns to kind f flags v = up_marks columns to (cut_from (λ doc. shows kind f v (flat_of columns doc)) 0 flags)
+
+-- so it is of each of so many ordinals, the first having a number
+pub record AreUps (columns : Columns) (to : ℕ) (column : List (ℕ × List ℕ)) (flags : List Bool) (first count : ℕ) (ups : List ℕ) : Type 0 where
+  pub long : length ups ≡ count
+  pub each : (k : ℕ) → k < count → get_or ups k 0 ≡ ordinal_ups columns to column flags (first + k)
+
+-- to the numbers of each value that of the documents that show it is added
+pub record UpsWeighed (columns : Columns) (to : ℕ) (kind : Kind) (f : ℕ) (flags : List Bool) (old new : List CountRow) : Type 0 where
+  pub each : (v : FieldValue) → weight v new ≡ weight v old + shown_ups columns to kind f flags v
+
+-- over all entries
+abbrev pub view_ups : ℕ → Kind → ℕ → List EntryState → List (List (Option ℕ)) → FieldValue → ℕ
+view_ups to kind f view scores v = up_total to view (passed_of_view (shows kind f v) view scores)
+
+-- the bucket of a value whose only definition inside asks for the objects of a path around them: their number is that of the rows
+abbrev pub facet_of : List ℕ → List CountRow → CountRow → BucketPart
+facet_of name ups row = record { key = row.key; count = row.count; inner = replies_of (record { name = name; value = single (weight row.key ups) (replies_of []) } ∷ []) }
 
 -- ---- the order of rows
 

@@ -19,6 +19,7 @@ ghost use Rattle.bucket_aggs.specs.Given.{AreOfValue, AreReplies, IsAnswer, buck
 ghost use Rattle.bucket_aggs.specs.Sums.{IsKept};
 
 use crate::NoMemory;
+use crate::facets::{facet_asked, facets};
 use crate::metrics::{FieldSummary, summed, value_count};
 use crate::objects::{alike, count_of, filtered, have_one_score, inside_of};
 use crate::posted::TermSet;
@@ -455,11 +456,44 @@ fn terms(
     ensures { (given : List Tree → Object → Option ℕ) → IsSeen mapping.now entries.now scope given objects.now → IfOk result (λ value. IsAnswer mapping.now entries.now scope (value_by mapping.now (AggForm.Terms field size by_key descending) (definitions_of inner.now)) given (value_of value)) }
 {
     match field {
-        Some(field) => Ok(mapped_terms(
+        Some(field) => Ok(field_terms(
             alloc, entries, mapping, ordinals, field, size, by_key, descending, inner, scope,
             objects,
         )?),
         None => Ok(no_buckets(alloc)),
+    }
+}
+
+/// `terms` of a field that is mapped. Where all that is asked of the buckets is the number of objects of a path around theirs,
+/// both are counted at once.
+#[cycle(answers)]
+fn field_terms(
+    alloc: Global,
+    entries: &[Entry],
+    mapping: &Mapping,
+    ordinals: &JoinOrdinals,
+    field: u32,
+    size: u32,
+    by_key: bool,
+    descending: bool,
+    inner: &AggList,
+    scope: u32,
+    objects: &Matches,
+) -> Result<AggValue, NoMemory>
+    requires field { IsUse (λ u. u.sorted) mapping.now (Some field) }
+    requires resolved { AreAggDefinitions mapping.now scope (definitions_of inner.now) }
+    requires joined { some_agg_joins (definitions_of inner.now) ≡ true → AreOrdinals entries.now ordinals.now }
+    requires long { AreLong entries.now objects.now }
+    ensures { (given : List Tree → Object → Option ℕ) → IsSeen mapping.now entries.now scope given objects.now → IfOk result (λ value. IsAnswer mapping.now entries.now scope (value_by mapping.now (AggForm.Terms (Some field) size by_key descending) (definitions_of inner.now)) given (value_of value)) }
+{
+    match facet_asked(entries, mapping, field, inner, objects) {
+        Some((name, path)) => Ok(facets(
+            alloc, entries, mapping, field, size, by_key, descending, name, path, scope, objects,
+        )?),
+        None => Ok(mapped_terms(
+            alloc, entries, mapping, ordinals, field, size, by_key, descending, inner, scope,
+            objects,
+        )?),
     }
 }
 

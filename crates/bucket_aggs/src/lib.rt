@@ -6,8 +6,10 @@
 #![tactic(auto)]
 
 mod answers;
+mod at_once;
 mod columns;
 mod distinct;
+mod facets;
 mod found;
 mod metrics;
 mod no_memory;

@@ -207,7 +207,7 @@ fn no_counts(alloc: Global, count: usize) -> Result<Vec<u64>, NoMemory>
 }
 
 /// Adds a row for each term with a count; the first count is that of the term with the ordinal `first`.
-fn put_terms(
+pub(crate) fn put_terms(
     alloc: Global,
     terms: &TermTable,
     first: u64,

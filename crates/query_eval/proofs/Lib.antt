@@ -17,3 +17,4 @@ pub mod Related
 pub mod Slots
 pub mod Cutting
 pub mod Tallied
+pub mod Reached

@@ -20,10 +20,10 @@ mod tallies;
 mod tally;
 mod trees;
 
-pub use counts::{live_count, up_count};
+pub use counts::{live_count, marked_ups, up_count};
 pub use evaluation::{found, matches};
 pub use kept::kept as kept_hits;
-pub use law::keys_join_trees;
+pub use law::{keys_join_trees, ups_are_counted};
 pub use merges::merges as merged_hits;
 pub use nests::{downs, ups};
 pub use no_memory::NoMemory;

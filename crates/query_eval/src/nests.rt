@@ -46,7 +46,7 @@ pub fn ups(
 }
 
 /// Those of one entry.
-pub(crate) fn up_scores(
+fn up_scores(
     alloc: Global,
     segment: &Segment,
     hits: &Scored,
@@ -116,7 +116,7 @@ fn down_scores(
 }
 
 /// The documents of a scope of a segment, if it has the scope.
-fn lent_set(segment: &Segment, scope: u32) -> Option<&BitSet>
+pub(crate) fn lent_set(segment: &Segment, scope: u32) -> Option<&BitSet>
     ensures set { IfSome result (λ set. set.now ≡ documents_of (scopes_in segment.now) scope) }
     ensures long { IfSome result (λ set. length set.now ≡ segment.now.documents) }
     ensures none { IfNone result (length segment.now.scopes ≤ scope) }

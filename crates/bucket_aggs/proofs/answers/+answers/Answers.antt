@@ -13,7 +13,7 @@ use Rattle.query_ast.specs.Definition.{Definition, Definitions, definitions_of, 
 use Rattle.query_ast.specs.Replies.{BucketPart, ReplyPart, metric, replies_of}
 use Rattle.query_ast.specs.Replies.View.{bucket_part, reply_part, value_of}
 use Rattle.query_ast.specs.declared.bucket.AggReply.{AggReply}
-use Rattle.query_ast.specs.Resolved.{IsForm}
+use Rattle.query_ast.specs.Resolved.{AreAggDefinitions, IsForm}
 use Rattle.query_ast.specs.declared.agg.AggDef.{AggDef}
 use Rattle.query_ast.specs.declared.agg.AggForm.{AggForm}
 use Rattle.query_ast.specs.declared.agg.AggForm.TheVariants.{Children, Parent, ReverseNested, Terms, Min as MinOf, Max as MaxOf, Sum as SumOf, ValueCount}
@@ -124,11 +124,20 @@ reply-returns-clause-reply t c = λ given is.
     let named : c.of-name.result ≡ def.name = c.of-name.ensures ∙ c.in_ok-from_slice.ensures.items ∙ c.as_slice.ensures in
     reply_is c.args.mapping.now c.args.entries.now c.args.scope given (record { name = def.name; form = def.form }) (definitions_of def.inner) c.of-name.result (value_of c.in_ok-answer.answer) named (c.in_ok-answer.ensures.value given is)
 
-pub terms-returns-in_ok-mapped_terms-in-Some : goal.terms-returns-in_ok-mapped_terms-in-Some
-terms-returns-in_ok-mapped_terms-in-Some t c = λ given is.
+pub terms-returns-in_ok-field_terms-in-Some : goal.terms-returns-in_ok-field_terms-in-Some
+terms-returns-in_ok-field_terms-in-Some t c = λ given is.
     let m = c.args.mapping.now in
-    subst (λ (field : Option ℕ). IsAnswer m c.args.entries.now c.args.scope (value_by m (Terms field c.args.size c.args.by_key c.args.descending) (definitions_of c.args.inner.now)) given (value_of c.in_ok-mapped_terms-in-Some.field-0)) (sym c.in-Some.is)
-    (c.in_ok-mapped_terms-in-Some.ensures given is)
+    subst (λ (field : Option ℕ). IsAnswer m c.args.entries.now c.args.scope (value_by m (Terms field c.args.size c.args.by_key c.args.descending) (definitions_of c.args.inner.now)) given (value_of c.in_ok-field_terms-in-Some.field-0)) (sym c.in-Some.is)
+    (c.in_ok-field_terms-in-Some.ensures given is)
+
+pub field_terms-facets-requires-clause-path : goal.field_terms-facets-requires-clause-path
+field_terms-facets-requires-clause-path t c =
+    let own = subst (λ (ds : Definitions Agg). AreAggDefinitions c.args.mapping.now c.args.scope ds) (ap definitions_of c.in-Some.ensures.asked) c.requires.resolved in
+    own.0.0
+
+pub field_terms-returns-in_ok-facets-in-Some : goal.field_terms-returns-in_ok-facets-in-Some
+field_terms-returns-in_ok-facets-in-Some t c = λ given is.
+    c.in_ok-facets-in-Some.ensures given (definitions_of c.args.inner.now) is (ap definitions_of c.in-Some.ensures.asked)
 
 pub terms-returns-in-None : goal.terms-returns-in-None
 terms-returns-in-None t c = λ given is.

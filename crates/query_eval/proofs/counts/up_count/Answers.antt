@@ -1,39 +1,47 @@
-use Rattle.std.proofs.Common.{◌≡◌, ◌<◌, Bool, List, [], length, get_or, count_by, sym, ap, subst, ◌∙◌, arith}
-use Rattle.block_bits.specs.Flags.{is_marked}
-use Rattle.flattener.specs.StandsFor.{EntryStandsFor}
+use Rattle.std.proofs.Common.{◌≡◌, ◌+◌, ◌<◌, ◌≤◌, ℕ, Bool, List, [], length, map, is_some, drop, get_or, sym, ap, subst, ◌∙◌, arith}
+use Rattle.std.proofs.lemmas.List.{length-map}
 use Rattle.score_math.specs.Scores.{mode_of}
 use Rattle.score_math.specs.declared.score.ScoreMode.TheVariants.{Max}
 use Rattle.segment_parts.specs.declared.columns.Columns.{Columns}
-use Rattle.query_eval.specs.Found.{live_trees}
+use Rattle.query_eval.specs.Counted.{IsCount, up_marks, up_total}
 use Rattle.query_eval.specs.Nested.{below_by}
-use Rattle.query_eval.proofs.Entries.{Scores, long_count, own_long, own_seen}
-use Rattle.query_eval.proofs.Tallied.{counting_end, counting_more, counting_start, own_count}
+use Rattle.query_eval.proofs.Entries.{Scores, long_count, own_long}
+use Rattle.query_eval.proofs.Reached.{total_end, total_step}
 use Rattle.query_eval.proofs.counts.up_count.Goals as goal
 
 pub bounds-hits-at : goal.bounds-hits-at
 bounds-hits-at c = omega (arith, c.entries-test.true, long_count c.args.entries.now c.args.hits.now c.requires, ap (λ (l : List Scores). length l) c.as_slice-hits.ensures)
 
-pub up_scores-requires : goal.up_scores-requires
-up_scores-requires c =
-    own_long c.args.entries.now c.entries.at c.index-entries-at.result c.args.hits.now c.index-hits-at.result c.requires (omega (arith, c.entries-test.true)) c.index-entries-at.is
-    (c.index-hits-at.is ∙ ap (λ (l : List Scores). get_or l c.entries.at c.index-hits-at.result) c.as_slice-hits.ensures)
+pub marked_ups-requires : goal.marked_ups-requires
+marked_ups-requires c =
+    let s = c.index-hits-at.result in
+    ap (λ (l : List Bool). length l) c.set.ensures ∙ length-map s is_some
+    ∙ own_long c.args.entries.now c.entries.at c.index-entries-at.result c.args.hits.now s c.requires (omega (arith, c.entries-test.true)) c.index-entries-at.is
+    (c.index-hits-at.is ∙ ap (λ (l : List Scores). get_or l c.entries.at s) c.as_slice-hits.ensures)
     ∙ sym (ap (λ (x : Columns). x.documents) c.segment.ensures)
 
-pub entries-init : goal.entries-init
-entries-init c = λ m from given above is. counting_start m c.args.entries.now c.args.to (below_by m (mode_of Max) from given)
-
 pub entries-preserved : goal.entries-preserved
-entries-preserved c = λ m from given above is.
-    let below : c.entries.at < length c.args.entries.now = omega (arith, c.entries-test.true) in
-    let e = c.index-entries-at.result in
-    let own : c.count.result ≡ own_count c.in_ok-scores.scores = c.count.ensures ∙ ap (λ (set : List Bool). count_by is_marked set) c.set.ensures in
-    counting_more m c.args.entries.now c.args.to (below_by m (mode_of Max) from given) c.entries.at e c.entries.count c.in-Some.more c.in_ok-scores.scores (c.entries.invariant m from given above is) c.index-entries-at.is below
-    (c.in_ok-scores.ensures.long ∙ ap (λ (x : Columns). x.documents) c.segment.ensures) (omega (arith, own, c.from.ensures, c.in-Some.ensures.1))
-    (λ trees stands here.
-    c.in_ok-scores.ensures.seen m e.live (get_or trees c.entries.at []) from (given (live_trees trees))
-    (subst (λ (x : Columns). EntryStandsFor m x e.live (get_or trees c.entries.at [])) (sym c.segment.ensures) here) above
-    (own_seen m c.args.entries.now from given c.args.hits.now trees c.entries.at c.index-hits-at.result is stands below (c.index-hits-at.is ∙ ap (λ (l : List Scores). get_or l c.entries.at c.index-hits-at.result) c.as_slice-hits.ensures)))
+entries-preserved c =
+    let view = c.args.entries.now in
+    let hits = c.args.hits.now in
+    let s = c.index-hits-at.result in
+    let there : s ≡ get_or hits c.entries.at s = c.index-hits-at.is ∙ ap (λ (l : List Scores). get_or l c.entries.at s) c.as_slice-hits.ensures in
+    let own : c.in_ok-own.own ≡ up_marks c.index-entries-at.result.columns c.args.to (map is_some s) =
+    c.in_ok-own.ensures
+    ∙ ap (λ (x : Columns). up_marks x c.args.to c.set.result.now) c.segment.ensures
+    ∙ ap (up_marks c.index-entries-at.result.columns c.args.to) c.set.ensures in
+    omega (
+      arith,
+      c.entries.invariant,
+      own,
+      c.from.ensures,
+      c.in-Some.ensures.1,
+      total_step c.args.to c.entries.at view hits c.index-entries-at.result s c.requires (omega (arith, c.entries-test.true)) c.index-entries-at.is there,
+    )
 
 pub returns : goal.returns
 returns c = λ m from given above is.
-    counting_end m c.args.entries.now c.args.to (below_by m (mode_of Max) from given) c.entries.at c.entries.count (c.entries.invariant m from given above is) (omega (arith, c.entries-test.false))
+    let view = c.args.entries.now in
+    let hits = c.args.hits.now in
+    let all : up_total c.args.to view hits ≡ c.entries.count = omega (arith, c.entries.invariant, total_end c.args.to c.entries.at view hits (omega (arith, c.entries-test.false))) in
+    subst (IsCount m view c.args.to (below_by m (mode_of Max) from given)) all (c.ups_are_counted.ensures m view c.args.to from given hits above is)

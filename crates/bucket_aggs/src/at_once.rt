@@ -1,0 +1,210 @@
+//! The terms of a keyword field, counted at once with the objects of a path around those that show them.
+
+ghost use Rattle.std.specs.Prelude.{◌≡◌, ◌-◌, ◌<◌, ◌≤◌, [], true, length, map, replicate, count_by, slice_index_or, IfOk, OnOk, Some};
+ghost use Rattle.doc_values.specs.Values.{values_of};
+ghost use Rattle.postings.specs.Postings.{ArePostings};
+ghost use Rattle.query_ast.specs.Uses.{is_written};
+ghost use Rattle.query_eval.specs.Counted.{up_marks};
+ghost use Rattle.query_eval.specs.Found.{AreLong};
+ghost use Rattle.segment.specs.Flat.{flat_of};
+ghost use Rattle.segment_parts.specs.Fields.{column_of};
+ghost use Rattle.segment_parts.specs.Lists.{postings_of, terms_of};
+ghost use Rattle.segment_parts.specs.Text.{marked_places};
+ghost use Rattle.term_table.specs.Ranges.{IsRange, is_of_field};
+ghost use Rattle.tree_objects.specs.declared.field_value.FieldValue.{FieldValue as Value};
+ghost use Rattle.postings.specs.Marks.{has_document};
+ghost use Rattle.bucket_aggs.specs.Counts.{AreCounts, AreKeys, AreUps, Counted, UpsWeighed, Weighed, cut_from, flats_of_view, is_posted, view_ups, weight};
+
+use crate::NoMemory;
+use crate::posted::term_set;
+use crate::rows::{CountRow, compared, merged};
+use crate::terms::put_terms;
+use block_bits::BitSet;
+use block_join::Matches;
+use doc_values::OrdinalColumn;
+use mapping::Kind;
+use query_eval::marked_ups;
+use segment::{Segment, values_are_of_documents};
+use segment_view::Entry;
+use std::alloc::Global;
+use tree_objects::FieldValue;
+
+/// How many terms a field may have in a segment where they are counted at once.
+const MOST_TERMS: u64 = 1024;
+
+/// How many postings, and u64s of the sets of terms, there may be for each document that is counted.
+const WORK_EACH: u64 = 4;
+
+/// Whether the values of a keyword field are counted at once with the objects around those that show them: the postings and the
+/// sets of its terms are small beside the documents.
+pub(crate) fn is_at_once(entries: &[Entry], field: u32, objects: &Matches) -> bool
+    requires { AreLong entries.now objects.now }
+{
+    let objects = objects.as_slice();
+    let mut documents: u64 = 0;
+    let mut work: u64 = 0;
+    'entries: for at in 0..entries.len() {
+        let set = objects[at].set();
+        documents = documents.saturating_add(u64::from(set.count()));
+        work = work.saturating_add(work_of(entries[at].segment(), field, set.len()));
+    }
+    work / WORK_EACH <= documents
+}
+
+/// How many postings the terms of a field have, and u64s the sets of so many documents for each of them.
+fn work_of(segment: &Segment, field: u32, documents: u32) -> u64 {
+    let Some(column) = segment.ordinals(field) else {
+        return 0;
+    };
+    let (first, end) = segment.terms().field_range(field);
+    let terms = end - first;
+    if terms > MOST_TERMS {
+        return u64::MAX;
+    }
+    u64::from(column.rows()).saturating_add(terms.saturating_mul(u64::from(documents / 64)))
+}
+
+/// The values of a keyword field, by ascending value, each with the number of objects that show it; and rows of how many
+/// objects of a path are around those, several for a value perhaps.
+pub(crate) fn counted_at_once(
+    alloc: Global,
+    entries: &[Entry],
+    kind: Kind,
+    field: u32,
+    objects: &Matches,
+    to: u32,
+    ups: &mut Vec<CountRow>,
+) -> Result<Vec<CountRow>, NoMemory>
+    requires written { is_written kind ≡ true }
+    requires long { AreLong entries.now objects.now }
+    requires none { ups.old.items ≡ [] }
+    ensures counts { IfOk result (λ rows. AreCounts kind field (flats_of_view entries.now objects.now) rows.items) }
+    ensures ups { (v : Value) → OnOk result (weight v ups.new.items ≡ view_ups to kind field entries.now objects.now v) }
+{
+    let objects = objects.as_slice();
+    let mut rows = Vec::new(alloc);
+    'entries: for at in 0..entries.len() {
+        add_at_once(
+            alloc,
+            entries[at].segment(),
+            kind,
+            field,
+            objects[at].set(),
+            to,
+            &mut rows,
+            ups,
+        )?;
+    }
+    Ok(merged(alloc, rows)?)
+}
+
+/// Adds the values that the documents of a set show, and the objects around those.
+fn add_at_once(
+    alloc: Global,
+    segment: &Segment,
+    kind: Kind,
+    field: u32,
+    set: &BitSet,
+    to: u32,
+    rows: &mut Vec<CountRow>,
+    ups: &mut Vec<CountRow>,
+) -> Result<(), NoMemory>
+    requires written { is_written kind ≡ true }
+    requires long { length set.now ≡ segment.now.documents }
+    ensures counts { OnOk result (Weighed kind field (map (flat_of segment.now) (marked_places 0 set.now)) rows.old.items rows.new.items) }
+    ensures keys { AreKeys kind rows.old.items → OnOk result (AreKeys kind rows.new.items) }
+    ensures ups { OnOk result (UpsWeighed segment.now to kind field set.now ups.old.items ups.new.items) }
+{
+    values_are_of_documents(segment);
+    let _documents = segment.docs();
+    let Some(column) = segment.ordinals(field) else {
+        return Ok(());
+    };
+    let terms = segment.terms();
+    let _ascending = terms.count();
+    let (first, end) = terms.field_range(field);
+    let mut around = Vec::with_capacity(alloc, (end - first) as usize)?;
+    let counts = counts_at_once(
+        alloc,
+        segment,
+        field,
+        set,
+        &column,
+        first,
+        end,
+        to,
+        &mut around,
+    )?;
+    put_terms(alloc, &terms, first, counts.as_slice(), rows)?;
+    put_terms(alloc, &terms, first, around.as_slice(), ups)?;
+    Ok(())
+}
+
+/// The counts of the terms of a field in the documents of a set, by ordinal from the field's first up to its end, and of the
+/// documents of a scope around those. It costs all postings of these terms, and a few steps for each u64 of a set.
+fn counts_at_once(
+    alloc: Global,
+    segment: &Segment,
+    _field: u32,
+    set: &BitSet,
+    _column: &OrdinalColumn,
+    first: u64,
+    end: u64,
+    to: u32,
+    around: &mut Vec<u64>,
+) -> Result<Vec<u64>, NoMemory>
+    requires column { column_of _field segment.now.ordinals ≡ Some _column.now }
+    requires long { length set.now ≡ segment.now.documents }
+    requires none { around.old.items ≡ [] }
+    requires ordered { first ≤ end }
+    requires within { end ≤ length (terms_of segment.now) }
+    requires range { IsRange (is_of_field _field) (terms_of segment.now) first end }
+    ensures counted { IfOk result (λ counts. Counted first (map (λ doc. values_of doc _column.now) (marked_places 0 set.now)) (replicate (end - first) 0) counts.items) }
+    ensures ups { OnOk result (AreUps segment.now to _column.now set.now first (end - first) around.new.items) }
+{
+    let _documents = segment.docs();
+    let _ascending = segment.terms().count();
+    let mut counts = Vec::with_capacity(alloc, (end - first) as usize)?;
+    'terms: for ordinal in first..end {
+        let both = count_at_once(alloc, segment, set, ordinal, to)?;
+        counts.push(both.0)?;
+        around.push(both.1)?;
+    }
+    Ok(counts)
+}
+
+/// How many documents of a set have a term, and how many documents of a scope are around those.
+fn count_at_once(
+    alloc: Global,
+    segment: &Segment,
+    set: &BitSet,
+    ordinal: u64,
+    to: u32,
+) -> Result<(u64, u64), NoMemory>
+    requires documents { length set.now ≡ segment.now.documents }
+    requires ordinal { ordinal < length (terms_of segment.now) }
+    ensures count { IfOk result (λ both. both.0 ≡ count_by (is_posted set.now) (slice_index_or (postings_of segment.now) ordinal [])) }
+    ensures are { ArePostings (slice_index_or (postings_of segment.now) ordinal []) }
+    ensures ups { IfOk result (λ both. both.1 ≡ up_marks segment.now to (cut_from (λ doc. has_document doc (slice_index_or (postings_of segment.now) ordinal [])) 0 set.now)) }
+{
+    let _first = segment.postings().cursor(ordinal).doc();
+    let own = term_set(alloc, segment, set, ordinal)?;
+    let up = marked_ups(alloc, segment, &own, to)?;
+    Ok((u64::from(own.count()), u64::from(up)))
+}
+
+/// The sum of the counts of the rows of a key.
+pub(crate) fn count_of_key(rows: &[CountRow], key: &FieldValue) -> Result<u64, NoMemory>
+    ensures { IfOk result (λ count. count ≡ weight key.now rows.now) }
+{
+    let mut count: u64 = 0;
+    'rows: for row in rows {
+        if compared(key, &row.key).is_eq() {
+            let Some(more) = count.checked_add(row.count) else {
+                return Err(NoMemory);
+            };
+            count = more;
+        }
+    }
+    Ok(count)
+}
