@@ -1,8 +1,10 @@
 -- A field that the objects of a scope don't show adds nothing to their documents.
-use Rattle.std.proofs.Common.{◌≡◌, ℕ, ◌==◌, ◌||◌, ◌&&◌, true, false, Bool, List, [], refl, sym, if◌then◌else◌, Option}
+use Rattle.std.proofs.Common.{◌≡◌, ℕ, zero, suc, ◌<◌, ◌==◌, ◌||◌, ◌&&◌, true, false, Bool, List, [], refl, sym, ap, if◌then◌else◌, Option, arith}
+use Rattle.std.proofs.lemmas.Bool.Decides.{nat_tests}
 use Rattle.std.specs.List.{filter_map}
 use Rattle.std.specs.Ordering.{int_cmp}
-use Rattle.mapping.specs.Mapping.{Mapping, home_of, included, kind_at, knows}
+use Rattle.mapping.specs.IsMapping.{IsMapping}
+use Rattle.mapping.specs.Mapping.{Mapping, Scope, home_of, included, kind_at, knows, outer, reaches, scope_at}
 use Rattle.segment.specs.Flat.{FlatDocument}
 use Rattle.tree_json.specs.Value.{JsonValue}
 use Rattle.tree_objects.specs.Values.{convert}
@@ -53,3 +55,29 @@ unshown_adds m g f s v d none =
       words = rw words (sym (nothing_more d.words));
       texts = rw texts (sym (nothing_more d.texts));
     }
+
+-- ---- where a field can be included
+
+outer_below : (m : Mapping) → IsMapping m → (n s : ℕ) → n < s → outer m n < s
+outer_below m is zero s less = let none : outer m 0 ≡ 0 = ap (λ (scope : Scope). scope.around) is.root in omega (arith, none, less)
+outer_below m is (suc n) s less = omega (arith, is.behind (suc n) (omega arith), less)
+
+-- the flags of a scope lead to no scope of a greater number
+none_beyond : (m : Mapping) → IsMapping m → (left n s : ℕ) → n < s → reaches m left n s ≡ false
+none_beyond m is zero n s less = grind (arith, nat_tests, less)
+none_beyond m is (suc left) n s less =
+    let other : (n == s) ≡ false = grind (arith, nat_tests, less) in
+    let nested : (s == 0) ≡ false = grind (arith, nat_tests, less) in
+    rw (other, nested, none_beyond m is left (outer m n) s (outer_below m is n s less)) (neither_flag (scope_at m n).in_parent (scope_at m n).in_root)
+  where
+    neither_flag : (parent root : Bool) → ((parent && false) || (root && false)) ≡ false
+    neither_flag true true = refl
+    neither_flag true false = refl
+    neither_flag false true = refl
+    neither_flag false false = refl
+
+pub never_beyond : (m : Mapping) → IsMapping m → (f s : ℕ) → home_of m f < s → ((home_of m f == s) || included m f s) ≡ false
+unfolding included
+never_beyond m is f s less =
+    let other : (home_of m f == s) ≡ false = grind (arith, nat_tests, less) in
+    rw (other, none_beyond m is (home_of m f) (home_of m f) s less) refl

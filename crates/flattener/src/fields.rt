@@ -19,6 +19,7 @@ use crate::shown::{find_shown, is_shown};
 use crate::texts::{has_text, push_words_of_field, tokens};
 use crate::values::{keywords, numbers};
 use mapping::{Kind, Mapping};
+use smallvec::SmallVec;
 use std::alloc::Global;
 use tree_json::Json;
 
@@ -39,8 +40,8 @@ pub(crate) fn document<'a>(
     let count = mapping.field_count();
     let mut document = Document {
         scope,
-        numbers: Vec::new(alloc),
-        keywords: Vec::new(alloc),
+        numbers: SmallVec::new(alloc),
+        keywords: SmallVec::new(alloc),
         words: Vec::new(alloc),
         texts: Vec::new(alloc),
     };

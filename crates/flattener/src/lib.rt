@@ -18,7 +18,7 @@ mod texts;
 mod values;
 mod walk;
 
-pub use document::{Block, Document, KeywordField, NumberField, Word};
+pub use document::{Block, Document, Keyword, KeywordField, NumberField, Word};
 pub use flatten::block;
 pub use law::{blocks_are_of_their_mapping, blocks_are_small, further_bodies_leave_blocks};
 pub use refusal::{FlattenRefusal, NoMemory};

@@ -14,13 +14,20 @@ use mapping::Mapping;
 use std::alloc::Global;
 use tree_json::Json;
 
-/// Whether the objects of a scope show a field: at its home, or where a nested path includes it.
+/// Whether the objects of a scope show a field: at its home, or where a nested path includes it. Only scopes around its home, which
+/// have smaller numbers, can include it.
+#[tactic(auto, using(crate::proofs::Unshown::never_beyond))]
 pub(crate) fn is_shown(mapping: &Mapping, field: u32, scope: u32) -> bool
     requires field { field < length mapping.now.fields }
     requires scope { scope < length mapping.now.scopes }
     ensures { result ≡ ((home_of mapping.now field == scope) || included mapping.now field scope) }
 {
-    mapping.home(field) == scope || mapping.included(field, scope)
+    let _ = mapping.scope_count();
+    let home = mapping.home(field);
+    if home < scope {
+        return false;
+    }
+    home == scope || mapping.included(field, scope)
 }
 
 /// Finds the items of a field that an object of a scope shows, in document order, in place of what was found before.

@@ -11,6 +11,7 @@ use crate::document::Word;
 use crate::refusal::NoMemory;
 use analysis::Token;
 use itoa::Buffer;
+use smallvec::SmallVec;
 use std::alloc::Global;
 use tree_json::Json;
 
@@ -104,6 +105,7 @@ fn place(found: Vec<Token>, from: u64, into: &mut Vec<(Vec<u8>, u32)>) -> Result
     requires { from + length found.items ≤ 2 ^ 32 }
     ensures { OnOk result (map (λ t. (t.0.items, t.1)) into.new.items ≡ map (λ t. (t.0.items, t.1)) into.old.items ++ placed_words from (map (λ t. t.folded) found.items)) }
 {
+    into.reserve(found.len())?;
     let mut at = from;
     'tokens: for token in found {
         push_token(token, at, into)?;
@@ -131,6 +133,7 @@ pub(crate) fn push_words_of_field(
     ensures { OnOk result (map word_seen into.new.items ≡ map word_seen into.old.items ++ words_of_field field (map (λ t. (t.0.items, t.1)) tokens.items)) }
 {
     sort_tokens(&mut tokens);
+    into.reserve(tokens.len())?;
     let mut current = None;
     'tokens: for (word, at) in tokens {
         current = Some(with_token(alloc, field, word, at, current, into)?);
@@ -199,7 +202,7 @@ fn with_next(
 fn new_word(alloc: Global, field: u32, word: Vec<u8>, at: u32) -> Result<Word, NoMemory>
     ensures { IfOk result (λ w. word_seen w ≡ ((field, word.items), at ∷ [])) }
 {
-    let mut positions = Vec::new(alloc);
+    let mut positions = SmallVec::new(alloc);
     positions.push(at)?;
     Ok(Word {
         field,

@@ -1,18 +1,19 @@
 -- A term among terms in order: found by halves, and its ordinal.
 use denote.Ref.{Bor}
-use Rattle.std.proofs.Common.{◌≡◌, ℕ, zero, suc, ◌+◌, ◌<◌, ◌≤◌, true, false, List, [], ◌∷◌, length, map, get_or, slice_get, Some, Contains, inl, inr, refl, sym, ap, subst, ◌∙◌, arith}
+use Rattle.std.proofs.Common.{◌≡◌, ℕ, zero, suc, ◌+◌, ◌<◌, ◌≤◌, true, false, List, [], ◌∷◌, length, map, get_or, nat_lt, slice_get, Some, Contains, inl, inr, refl, sym, ap, subst, ◌∙◌, arith}
 use Rattle.std.specs.List.{All, AllByRecursion}
-use Rattle.std.specs.Ordering.{is_gt, is_eq, eq_by_cmp, ordering_reverse}
+use Rattle.std.specs.Ordering.{is_gt, is_eq, eq_by_cmp, nat_cmp, ordering_reverse}
 use Rattle.std.specs.declared.cmp.Ordering.{Ordering}
 use Rattle.std.specs.declared.cmp.Ordering.TheVariants.{Less, Equal, Greater}
 use Rattle.std.proofs.lemmas.Bool.{cases_lt}
-use Rattle.std.proofs.lemmas.Cmp.{eq_by_cmp_equiv}
+use Rattle.std.proofs.lemmas.Bool.Decides.{nat_tests}
+use Rattle.std.proofs.lemmas.Cmp.{by_ranked, eq_by_cmp_equiv, ranked}
 use Rattle.std.proofs.lemmas.List.{get_or-map, length-map}
 use Rattle.std.proofs.lemmas.List.Elements.{recursion_from_All}
 use Rattle.std.proofs.lemmas.Map.Keys.{Less-from_sorted}
 use Rattle.std.proofs.lemmas.Option.{get_or_from_slice_get, slice_get-get_or, slice_get_within}
 use Rattle.term_table.specs.Terms.{AreAscending, term_cmp}
-use Rattle.segment_builder.specs.Columns.{column_terms, named, named_group, named_row, ordinal_column, ordinal_of, ordinal_row, row_terms, terms_lent, IsKeywordColumn}
+use Rattle.segment_builder.specs.Columns.{column_terms, named, named_group, named_row, ordinal_column, ordinal_of, ordinal_row, row_terms, terms_lent, IsFieldRange, IsFieldStart, IsKeywordColumn}
 use Rattle.segment_builder.proofs.Among.{each_at}
 use Rattle.segment_builder.proofs.InOrder.{less_back}
 use Rattle.segment_builder.proofs.Sorted.{sorted_first, sorted_rest}
@@ -24,14 +25,6 @@ pub record IsBetween (terms : List (ℕ × List ℕ)) (term : ℕ × List ℕ) (
   pub is : slice_get terms at ≡ Some term
   pub from : low ≤ at
   pub below : at < high
-
-pub between_all : (terms : List (ℕ × List ℕ)) (term : ℕ × List ℕ) (high : ℕ) → Contains terms term → length terms ≡ high → IsBetween terms term 0 high
-between_all terms term high there long = record {
-  at = there.0;
-  is = slice_get-get_or terms there.0 term there.1 ∙ ap Some there.2;
-  from = omega arith;
-  below = omega (arith, there.1, long);
-}
 
 not_gt : (a : Ordering) → is_eq a ≡ true → is_gt a ≡ false
 not_gt Less h = refl
@@ -54,6 +47,54 @@ upto_not terms i j one other up first second le =
           let same : one ≡ other = sym here ∙ ap (λ n. get_or terms n one) same_place ∙ there in
           not_gt (term_cmp one other) (subst (λ t. eq_by_cmp term_cmp one t ≡ true) same ((eq_by_cmp_equiv term_order.total).refl one))
     ]
+
+-- ---- the terms of a field
+
+after_is : (a b : ℕ) → b < a → nat_cmp a b ≡ Greater
+after_is a b more = by_ranked (a < b) (a ≡ b) (b < a) (nat_cmp a b) (ranked a b (nat_cmp a b) refl) (λ _ less. absurd (omega (arith, less, more))) (λ _ same. absurd (omega (arith, same, more))) (λ is _. is)
+
+fields_rise : (terms : List (ℕ × List ℕ)) (i j : ℕ) (one other : ℕ × List ℕ) → AreAscending terms → slice_get terms i ≡ Some one → slice_get terms j ≡ Some other → i ≤ j → one.0 ≤ other.0
+fields_rise terms i j one other up first second le =
+    elim (cases_lt other.0 one.0) [
+      | inl more ↦ absurd (
+          let after : is_gt (term_cmp one other) ≡ true = rw (after_is one.0 other.0 more) refl in
+          let never : true ≡ false = sym after ∙ upto_not terms i j one other up first second le in cc (never))
+      | inr from ↦ from
+    ]
+
+pub start_all : (terms : List (ℕ × List ℕ)) (field high : ℕ) → length terms ≡ high → IsFieldStart terms field 0 high
+start_all terms field high long = record {
+  before = λ at term is less. absurd (omega (arith, less));
+  from = λ at term is behind. absurd (omega (arith, slice_get_within terms at term is, behind, long));
+}
+
+pub start_later : (terms : List (ℕ × List ℕ)) (field low middle high : ℕ) (own : ℕ × List ℕ) → AreAscending terms → IsFieldStart terms field low high → slice_get terms middle ≡ Some own → nat_lt own.0 field ≡ true → IsFieldStart terms field (middle + 1) high
+start_later terms field low middle high own up start here smaller = record {
+  before = λ at term is less. let less_own : own.0 < field = grind (arith, nat_tests, smaller) in omega (arith, fields_rise terms at middle term own up is here (omega (arith, less)), less_own);
+  from = start.from;
+}
+
+pub start_sooner : (terms : List (ℕ × List ℕ)) (field low middle high : ℕ) (own : ℕ × List ℕ) → AreAscending terms → IsFieldStart terms field low high → slice_get terms middle ≡ Some own → nat_lt own.0 field ≡ false → IsFieldStart terms field low middle
+start_sooner terms field low middle high own up start here from = record {
+  before = start.before;
+  from = λ at term is behind. let from_own : field ≤ own.0 = grind (arith, nat_tests, from) in omega (arith, fields_rise terms middle at own term up here is behind, from_own);
+}
+
+pub between_in : (terms : List (ℕ × List ℕ)) (field : ℕ) (bytes : List ℕ) (from end : ℕ) → IsFieldRange terms field from end → Contains terms (field, bytes) → IsBetween terms (field, bytes) from end
+between_in terms field bytes from end range there =
+    let is : slice_get terms there.0 ≡ Some (field, bytes) = slice_get-get_or terms there.0 (field, bytes) there.1 ∙ ap Some there.2 in
+    record {
+      at = there.0;
+      is = is;
+      from = elim (cases_lt there.0 from) [
+        | inl less ↦ absurd (omega (arith, range.start.before there.0 (field, bytes) is less))
+        | inr upto ↦ upto
+      ];
+      below = elim (cases_lt there.0 end) [
+        | inl less ↦ less
+        | inr upto ↦ absurd (omega (arith, range.stop.from there.0 (field, bytes) is upto))
+      ];
+    }
 
 gt_from : (a b : Ordering) → a ≡ ordering_reverse b → b ≡ Less → is_gt a ≡ true
 gt_from a b e less = rw (e, less) refl

@@ -6,6 +6,7 @@ use Rattle.std.specs.List.{All}
 use Rattle.std.specs.Ordering.{nat_cmp}
 use Rattle.std.proofs.lemmas.Cmp.{on_total}
 use Rattle.std.proofs.lemmas.List.{at_drop_more, drop-drop, length-map}
+use Rattle.smallvec.specs.SmallVec.{SmallVec}
 use Rattle.term_table.specs.Postings.{AreAscending}
 use Rattle.term_table.specs.Terms.{term_cmp}
 use Rattle.term_table.specs.declared.rows.TermRow.{TermRow}
@@ -28,11 +29,11 @@ numbers_grouped {A} entries groups are =
     (map_twice (λ (group : ℕ × List (ℕ × Bor (List ℤ))). (group.0, map (λ (row : ℕ × Bor (List ℤ)). (row.0, row.1.now)) group.1)) (λ (group : ℕ × Vec (ℕ × Bor (List ℤ)) A). (group.0, group.1.items)) groups)
     (regrouped nat_cmp nat_cmp (λ (field : ℕ). field) (λ (row : ℕ × Bor (List ℤ)). (row.0, row.1.now)) (λ a b. refl) entries (groups_seen groups) are)
 
-pub keywords_grouped : {A B : Type 0} (entries : List (ℕ × (ℕ × Bor (List (Vec ℕ A))))) (groups : List (ℕ × Vec (ℕ × Bor (List (Vec ℕ A))) B)) → AreGroups nat_cmp entries (groups_seen groups) → AreGroups nat_cmp (keywords_lent entries) (keyword_groups groups)
-keywords_grouped {A} {B} entries groups are =
+pub keywords_grouped : {A : Type 0} (entries : List (ℕ × (ℕ × Bor (List (SmallVec ℕ))))) (groups : List (ℕ × Vec (ℕ × Bor (List (SmallVec ℕ))) A)) → AreGroups nat_cmp entries (groups_seen groups) → AreGroups nat_cmp (keywords_lent entries) (keyword_groups groups)
+keywords_grouped {A} entries groups are =
     subst (AreGroups nat_cmp (keywords_lent entries))
-    (map_twice (λ (group : ℕ × List (ℕ × Bor (List (Vec ℕ A)))). (group.0, map (λ (row : ℕ × Bor (List (Vec ℕ A))). (row.0, bytes_lent row.1.now)) group.1)) (λ (group : ℕ × Vec (ℕ × Bor (List (Vec ℕ A))) B). (group.0, group.1.items)) groups)
-    (regrouped nat_cmp nat_cmp (λ (field : ℕ). field) (λ (row : ℕ × Bor (List (Vec ℕ A))). (row.0, bytes_lent row.1.now)) (λ a b. refl) entries (groups_seen groups) are)
+    (map_twice (λ (group : ℕ × List (ℕ × Bor (List (SmallVec ℕ)))). (group.0, map (λ (row : ℕ × Bor (List (SmallVec ℕ))). (row.0, bytes_lent row.1.now)) group.1)) (λ (group : ℕ × Vec (ℕ × Bor (List (SmallVec ℕ))) A). (group.0, group.1.items)) groups)
+    (regrouped nat_cmp nat_cmp (λ (field : ℕ). field) (λ (row : ℕ × Bor (List (SmallVec ℕ))). (row.0, bytes_lent row.1.now)) (λ a b. refl) entries (groups_seen groups) are)
 
 pub rows_grouped : (old new : List ((ℕ × Bor (List ℕ)) × (ℕ × Bor (List ℕ)))) → ((key : ℕ × Bor (List ℕ)) → of_key lent_cmp key new ≡ of_key lent_cmp key old) → AreRising lent_cmp new → AreGroups term_cmp (words_lent old) (map row_group (rows_in new))
 rows_grouped old new same rising =

@@ -1,5 +1,5 @@
 -- Ordinals of keywords ascend as the keywords do, and make columns that can be written.
-use Rattle.std.proofs.Common.{◌≡◌, ℕ, ◌+◌, ◌<◌, ◌^◌, true, false, List, [], length, map, get_or, slice_get, Option, Some, Contains, refl, sym, ap, subst, ◌∙◌, arith, Vec}
+use Rattle.std.proofs.Common.{◌≡◌, ℕ, ◌+◌, ◌<◌, ◌^◌, true, false, List, [], length, map, get_or, slice_get, Option, Some, Contains, refl, sym, ap, subst, ◌∙◌, arith}
 use Rattle.std.specs.Cmp.Lexicographic.{slice_cmp}
 use Rattle.std.specs.List.{All}
 use Rattle.std.specs.List.Sorted.{IsSorted, IsStrictlyIncreasing}
@@ -13,6 +13,7 @@ use Rattle.std.proofs.lemmas.Option.{get_or_from_slice_get, same_Some, slice_get
 use Rattle.doc_values.specs.Stands.{AreEntries, IsColumn}
 use Rattle.doc_values.specs.Values.{AreValues, IsOrdinal, documents}
 use Rattle.segment.specs.Fields.{AreByField, fields}
+use Rattle.smallvec.specs.SmallVec.{SmallVec}
 use Rattle.term_table.specs.Terms.{AreAscending, term_cmp}
 use Rattle.segment_builder.specs.Columns.{column_terms, named, named_group, named_row, row_terms, IsKeywordColumn}
 use Rattle.segment_builder.specs.Entries.{bytes_lent}
@@ -72,11 +73,11 @@ ordinals_are terms field ordinals values up same are =
     }
 
 -- one of bytes that are lent
-pub lent_at : {A : Type 0} (P : List ℕ → Type 0) (values : List (Vec ℕ A)) (i : ℕ) (item : Vec ℕ A) → i < length values → item ≡ get_or values i item → All P (bytes_lent values) → P item.items
-lent_at {A} P values i item inside is all =
-    let count : i < length (bytes_lent values) = omega (arith, inside, length-map values (λ (bytes : Vec ℕ A). bytes.items)) in
-    let own : get_or (bytes_lent values) i [] ≡ (get_or values i item).items = get_or-map (λ (bytes : Vec ℕ A). bytes.items) values i item [] inside in
-    subst P (own ∙ ap (λ (bytes : Vec ℕ A). bytes.items) (sym is)) (all i [] count)
+pub lent_at : (P : List ℕ → Type 0) (values : List (SmallVec ℕ)) (i : ℕ) (item : SmallVec ℕ) → i < length values → item ≡ get_or values i item → All P (bytes_lent values) → P item.items
+lent_at P values i item inside is all =
+    let count : i < length (bytes_lent values) = omega (arith, inside, length-map values (λ (bytes : SmallVec ℕ). bytes.items)) in
+    let own : get_or (bytes_lent values) i [] ≡ (get_or values i item).items = get_or-map (λ (bytes : SmallVec ℕ). bytes.items) values i item [] inside in
+    subst P (own ∙ ap (λ (bytes : SmallVec ℕ). bytes.items) (sym is)) (all i [] count)
 
 -- ---- rows and columns
 

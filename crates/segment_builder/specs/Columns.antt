@@ -1,9 +1,10 @@
 -- Columns made of groups.
 use denote.Ref.{Bor}
-use Rattle.std.specs.Prelude.{ℕ, ℤ, suc, Bool, true, false, cond, List, [], ◌∷◌, map, replicate, slice_get, slice_set, Contains, Option, Some, Vec}
+use Rattle.std.specs.Prelude.{◌≡◌, ℕ, ℤ, suc, ◌+◌, ◌<◌, ◌≤◌, Bool, true, false, cond, List, [], ◌∷◌, length, map, replicate, slice_get, slice_set, Contains, Option, Some, Vec}
 use Rattle.std.specs.Cmp.Lexicographic.{slice_cmp}
 use Rattle.std.specs.Ordering.{eq_by_cmp, nat_cmp}
 use Rattle.doc_values.specs.Stands.{IsColumn}
+use Rattle.smallvec.specs.SmallVec.{SmallVec}
 use Rattle.term_table.specs.Terms.{term_cmp}
 use Rattle.term_table.specs.declared.rows.TermRow.{TermRow}
 use Rattle.segment_builder.specs.Entries.{bytes_lent}
@@ -19,14 +20,14 @@ terms_lent terms = map (λ (term : ℕ × Bor (List ℕ)). (term.0, term.1.now))
 abbrev pub number_rows : List (ℕ × Bor (List ℤ)) → List (ℕ × List ℤ)
 number_rows rows = map (λ (row : ℕ × Bor (List ℤ)). (row.0, row.1.now)) rows
 
-abbrev pub keyword_rows : {A : Type 0} → List (ℕ × Bor (List (Vec ℕ A))) → List (ℕ × List (List ℕ))
-keyword_rows {A} rows = map (λ (row : ℕ × Bor (List (Vec ℕ A))). (row.0, bytes_lent row.1.now)) rows
+abbrev pub keyword_rows : List (ℕ × Bor (List (SmallVec ℕ))) → List (ℕ × List (List ℕ))
+keyword_rows rows = map (λ (row : ℕ × Bor (List (SmallVec ℕ))). (row.0, bytes_lent row.1.now)) rows
 
 abbrev pub number_groups : {A : Type 0} → List (ℕ × Vec (ℕ × Bor (List ℤ)) A) → List (ℕ × List (ℕ × List ℤ))
 number_groups {A} groups = map (λ (group : ℕ × Vec (ℕ × Bor (List ℤ)) A). (group.0, number_rows group.1.items)) groups
 
-abbrev pub keyword_groups : {A B : Type 0} → List (ℕ × Vec (ℕ × Bor (List (Vec ℕ A))) B) → List (ℕ × List (ℕ × List (List ℕ)))
-keyword_groups {A} {B} groups = map (λ (group : ℕ × Vec (ℕ × Bor (List (Vec ℕ A))) B). (group.0, keyword_rows group.1.items)) groups
+abbrev pub keyword_groups : {A : Type 0} → List (ℕ × Vec (ℕ × Bor (List (SmallVec ℕ))) A) → List (ℕ × List (ℕ × List (List ℕ)))
+keyword_groups {A} groups = map (λ (group : ℕ × Vec (ℕ × Bor (List (SmallVec ℕ))) A). (group.0, keyword_rows group.1.items)) groups
 
 -- ---- ordinals
 
@@ -47,6 +48,17 @@ ordinal_row terms field row = (row.0, map (λ bytes. ordinal_of terms (field, by
 
 abbrev pub ordinal_column : List (ℕ × List ℕ) → ℕ × List (ℕ × List (List ℕ)) → ℕ × List (ℕ × List ℕ)
 ordinal_column terms group = (group.0, map (ordinal_row terms group.0) group.1)
+
+-- the terms before a place are of smaller fields, and those from another place on are of the field or of greater ones
+pub record IsFieldStart (terms : List (ℕ × List ℕ)) (field low high : ℕ) : Type 0 where
+  pub before : (at : ℕ) (term : ℕ × List ℕ) → slice_get terms at ≡ Some term → at < low → term.0 < field
+  pub from : (at : ℕ) (term : ℕ × List ℕ) → slice_get terms at ≡ Some term → high ≤ at → field ≤ term.0
+
+-- all terms of a field stand from a place on and before another
+pub record IsFieldRange (terms : List (ℕ × List ℕ)) (field from end : ℕ) : Type 0 where
+  pub start : IsFieldStart terms field from from
+  pub stop : IsFieldStart terms (field + 1) end end
+  pub within : end ≤ length terms
 
 -- keywords as terms of their field
 abbrev pub named : ℕ → List (List ℕ) → List (Option (ℕ × List ℕ))

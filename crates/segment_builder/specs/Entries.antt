@@ -1,7 +1,8 @@
 -- What the documents of blocks carry, as it is taken apart, document after document.
 use denote.Ref.{Bor}
-use Rattle.std.specs.Prelude.{ℕ, ℤ, List, [], ◌∷◌, ◌++◌, length, map, Vec}
+use Rattle.std.specs.Prelude.{ℕ, ℤ, List, [], ◌∷◌, ◌++◌, length, map}
 use Rattle.std.specs.List.{flat_map}
+use Rattle.smallvec.specs.SmallVec.{SmallVec}
 use Rattle.segment.specs.Flat.{FlatDocument}
 use Rattle.segment_builder.specs.Parts.{tagged, fields_with, entries_from, texts_from}
 use Rattle.flattener.specs.Block.{BlockState}
@@ -20,11 +21,11 @@ flats_lent documents = map (λ (document : Bor Document). document_seen document
 abbrev pub numbers_lent : List (ℕ × (ℕ × Bor (List ℤ))) → List (ℕ × (ℕ × List ℤ))
 numbers_lent entries = map (λ (entry : ℕ × (ℕ × Bor (List ℤ))). (entry.0, (entry.1.0, entry.1.1.now))) entries
 
-abbrev pub bytes_lent : {A : Type 0} → List (Vec ℕ A) → List (List ℕ)
-bytes_lent {A} values = map (λ (bytes : Vec ℕ A). bytes.items) values
+abbrev pub bytes_lent : List (SmallVec ℕ) → List (List ℕ)
+bytes_lent values = map (λ (bytes : SmallVec ℕ). bytes.items) values
 
-abbrev pub keywords_lent : {A : Type 0} → List (ℕ × (ℕ × Bor (List (Vec ℕ A)))) → List (ℕ × (ℕ × List (List ℕ)))
-keywords_lent {A} entries = map (λ (entry : ℕ × (ℕ × Bor (List (Vec ℕ A)))). (entry.0, (entry.1.0, bytes_lent entry.1.1.now))) entries
+abbrev pub keywords_lent : List (ℕ × (ℕ × Bor (List (SmallVec ℕ)))) → List (ℕ × (ℕ × List (List ℕ)))
+keywords_lent entries = map (λ (entry : ℕ × (ℕ × Bor (List (SmallVec ℕ)))). (entry.0, (entry.1.0, bytes_lent entry.1.1.now))) entries
 
 abbrev pub words_lent : List ((ℕ × Bor (List ℕ)) × (ℕ × Bor (List ℕ))) → List ((ℕ × List ℕ) × (ℕ × List ℕ))
 words_lent entries = map (λ (entry : (ℕ × Bor (List ℕ)) × (ℕ × Bor (List ℕ))). ((entry.0.0, entry.0.1.now), (entry.1.0, entry.1.1.now))) entries

@@ -6,7 +6,7 @@ ghost use Rattle.segment_builder.specs.Parts.{fields_with, tagged};
 ghost use Rattle.flattener.specs.Seen.{block_seen, document_seen, keyword_seen, number_seen, word_seen};
 
 use crate::NoMemory;
-use flattener::{Block, Document, KeywordField, NumberField, Word};
+use flattener::{Block, Document, Keyword, KeywordField, NumberField, Word};
 use std::alloc::Global;
 
 /// The documents of blocks, one block behind the other.
@@ -16,12 +16,43 @@ pub(crate) fn documents_of<'a>(
 ) -> Result<Vec<&'a Document>, NoMemory>
     ensures { IfOk result (λ documents. flats_lent documents.items ≡ flats_in (map block_seen blocks.now)) }
 {
-    let mut documents = Vec::new(alloc);
+    let mut documents = Vec::with_capacity(alloc, document_count(blocks))?;
     'each: for block in blocks {
         add_documents(block.documents.as_slice(), &mut documents)?;
     }
-    documents.shrink_to_fit();
     Ok(documents)
+}
+
+/// How many documents blocks have together.
+fn document_count(blocks: &[Block]) -> usize {
+    let mut count: usize = 0;
+    'each: for block in blocks {
+        count = count.saturating_add(block.documents.len());
+    }
+    count
+}
+
+/// How many of each thing documents carry together: what the lists of them need room for.
+#[derive(Clone, Copy)]
+pub(crate) struct Counts {
+    pub numbers: usize,
+    pub keywords: usize,
+    pub words: usize,
+}
+
+/// How much documents carry.
+pub(crate) fn counts_of(documents: &[&Document]) -> Counts {
+    let mut counts = Counts {
+        numbers: 0,
+        keywords: 0,
+        words: 0,
+    };
+    'documents: for document in documents {
+        counts.numbers = counts.numbers.saturating_add(document.numbers.len());
+        counts.keywords = counts.keywords.saturating_add(document.keywords.len());
+        counts.words = counts.words.saturating_add(document.words.len());
+    }
+    counts
 }
 
 /// Adds documents.
@@ -48,31 +79,32 @@ pub(crate) fn scopes_of(alloc: Global, documents: &[&Document]) -> Result<Vec<u3
     Ok(scopes)
 }
 
-/// The numbers of documents by field.
+/// The numbers of documents by field, with room for so many.
 pub(crate) fn numbers_of<'a>(
     alloc: Global,
     documents: &[&'a Document],
+    count: usize,
 ) -> Result<Vec<(u32, (u32, &'a [i64]))>, NoMemory>
     requires { length documents.now < 2 ^ 32 }
     ensures { IfOk result (λ numbers. numbers_lent numbers.items ≡ (entries_in (flats_lent documents.now)).numbers) }
 {
-    let mut numbers = Vec::new(alloc);
+    let mut numbers = Vec::with_capacity(alloc, count)?;
     'documents: for doc in 0..documents.len() {
         add_numbers(doc as u32, documents[doc].numbers.as_slice(), &mut numbers)?;
     }
-    numbers.shrink_to_fit();
     Ok(numbers)
 }
 
-/// The keywords of documents by field.
+/// The keywords of documents by field, with room for so many.
 pub(crate) fn keywords_of<'a>(
     alloc: Global,
     documents: &[&'a Document],
-) -> Result<Vec<(u32, (u32, &'a [Vec<u8>]))>, NoMemory>
+    count: usize,
+) -> Result<Vec<(u32, (u32, &'a [Keyword]))>, NoMemory>
     requires { length documents.now < 2 ^ 32 }
     ensures { IfOk result (λ keywords. keywords_lent keywords.items ≡ (entries_in (flats_lent documents.now)).keywords) }
 {
-    let mut keywords = Vec::new(alloc);
+    let mut keywords = Vec::with_capacity(alloc, count)?;
     'documents: for doc in 0..documents.len() {
         add_keywords(
             doc as u32,
@@ -83,15 +115,16 @@ pub(crate) fn keywords_of<'a>(
     Ok(keywords)
 }
 
-/// The words of documents by field and bytes.
+/// The words of documents by field and bytes, with room for so many terms.
 pub(crate) fn words_of<'a>(
     alloc: Global,
     documents: &[&'a Document],
+    count: usize,
 ) -> Result<Vec<((u32, &'a [u8]), (u32, &'a [u32]))>, NoMemory>
     requires { length documents.now < 2 ^ 32 }
     ensures { IfOk result (λ words. words_lent words.items ≡ (entries_in (flats_lent documents.now)).words) }
 {
-    let mut words = Vec::new(alloc);
+    let mut words = Vec::with_capacity(alloc, count)?;
     'documents: for doc in 0..documents.len() {
         add_words(doc as u32, documents[doc].words.as_slice(), &mut words)?;
     }
@@ -128,7 +161,7 @@ fn add_numbers<'a>(
 fn add_keywords<'a>(
     doc: u32,
     fields: &'a [KeywordField],
-    into: &mut Vec<(u32, (u32, &'a [Vec<u8>]))>,
+    into: &mut Vec<(u32, (u32, &'a [Keyword]))>,
 ) -> Result<(), NoMemory>
     ensures { OnOk result (keywords_lent into.new.items ≡ keywords_lent into.old.items ++ tagged doc (map keyword_seen fields.now)) }
 {

@@ -8,14 +8,15 @@ ghost use Rattle.doc_values.specs.Text.{column_text, entry_text};
 ghost use Rattle.part_text.specs.Text.{u64_text};
 ghost use Rattle.segment_parts.specs.Text.{ordinals_text};
 ghost use Rattle.term_table.specs.Terms.{AreAscending};
-ghost use Rattle.segment_builder.specs.Columns.{column_terms, IsKeywordColumn, keyword_groups, keyword_rows, named_group, ordinal_column, ordinal_row, terms_lent};
+ghost use Rattle.segment_builder.specs.Columns.{column_terms, IsKeywordColumn, keyword_groups, keyword_rows, named_group, ordinal_column, ordinal_row, terms_lent, IsFieldRange};
 ghost use Rattle.segment_builder.specs.Entries.{bytes_lent, keywords_lent};
 ghost use Rattle.segment_builder.specs.Groups.{AreGroups};
 ghost use Rattle.segment_builder.specs.Taken.{AreValueEntries};
 
 use crate::NoMemory;
 use crate::by_field::grouped_by_field;
-use crate::find::find;
+use crate::find::{field_range, find};
+use flattener::Keyword;
 use part_text::{put_u32, put_u64};
 use std::alloc::Global;
 
@@ -23,7 +24,7 @@ use std::alloc::Global;
 pub(crate) fn put_ordinals(
     alloc: Global,
     terms: &[(u32, &[u8])],
-    keywords: Vec<(u32, (u32, &[Vec<u8>]))>,
+    keywords: Vec<(u32, (u32, &[Keyword]))>,
     into: &mut Vec<u8>,
 ) -> Result<(), NoMemory>
     requires ascending { AreAscending (terms_lent terms.now) }
@@ -41,7 +42,7 @@ pub(crate) fn put_ordinals(
 /// Appends the columns of groups of keywords.
 fn put_columns(
     terms: &[(u32, &[u8])],
-    groups: &[(u32, Vec<(u32, &[Vec<u8>])>)],
+    groups: &[(u32, Vec<(u32, &[Keyword])>)],
     into: &mut Vec<u8>,
 ) -> Result<(), NoMemory>
     requires ascending { AreAscending (terms_lent terms.now) }
@@ -58,7 +59,7 @@ fn put_columns(
 fn put_column(
     terms: &[(u32, &[u8])],
     field: u32,
-    members: &[(u32, &[Vec<u8>])],
+    members: &[(u32, &[Keyword])],
     into: &mut Vec<u8>,
 ) -> Result<(), NoMemory>
     requires ascending { AreAscending (terms_lent terms.now) }
@@ -67,21 +68,25 @@ fn put_column(
 {
     put_u32(into, field)?;
     put_u32(into, members.len() as u32)?;
+    let (from, end) = field_range(terms, field);
     'members: for (doc, values) in members {
-        put_entry(terms, field, *doc, *values, into)?;
+        put_entry(terms, from, end, field, *doc, *values, into)?;
     }
     Ok(())
 }
 
-/// Appends a document and the ordinals of its keywords.
+/// Appends a document and the ordinals of its keywords, whose terms stand from one place on and before another.
 fn put_entry(
     terms: &[(u32, &[u8])],
+    from: usize,
+    end: usize,
     field: u32,
     doc: u32,
-    values: &[Vec<u8>],
+    values: &[Keyword],
     into: &mut Vec<u8>,
 ) -> Result<(), NoMemory>
     requires ascending { AreAscending (terms_lent terms.now) }
+    requires range { IsFieldRange (terms_lent terms.now) field from end }
     requires there { All (λ bytes. Contains (terms_lent terms.now) (field, bytes)) (bytes_lent values.now) }
     requires few { length values.now < 2 ^ 32 }
     ensures { OnOk result (into.new.items ≡ into.old.items ++ entry_text u64_text (ordinal_row (terms_lent terms.now) field (doc, bytes_lent values.now))) }
@@ -89,7 +94,7 @@ fn put_entry(
     put_u32(into, doc)?;
     put_u32(into, values.len() as u32)?;
     'values: for value in values {
-        put_u64(into, find(terms, field, value.as_slice()) as u64)?;
+        put_u64(into, find(terms, from, end, field, value.as_slice()) as u64)?;
     }
     Ok(())
 }

@@ -7,44 +7,34 @@ ghost use Rattle.segment_builder.specs.Made.{all_terms};
 ghost use Rattle.segment_builder.specs.Terms.{terms_at, unless_same, once_after, once, keyword_terms, keys_kept, number_terms};
 
 use crate::NoMemory;
-use crate::entries::{keywords_of, numbers_of, words_of};
-use flattener::Document;
+use crate::entries::words_of;
+use flattener::{Document, Keyword};
 use std::alloc::Global;
 use term_table::number_key;
 
-/// The terms of documents: their words, their keywords, and numbers by their keys.
+/// The terms of documents: their words, their keywords, and numbers by their keys. The keywords are those of the documents,
+/// and `room` is for so many terms.
 pub(crate) fn terms_of<'a>(
     alloc: Global,
     documents: &[&'a Document],
+    keywords: &[(u32, (u32, &'a [Keyword]))],
     keys: &'a [(u32, (u32, [u8; 8]))],
+    room: usize,
 ) -> Result<Vec<((u32, &'a [u8]), (u32, &'a [u32]))>, NoMemory>
     requires few { length documents.now < 2 ^ 32 }
+    requires keywords { keywords_lent keywords.now ≡ (entries_in (flats_lent documents.now)).keywords }
     requires keys { keys_kept keys.now ≡ number_terms (entries_in (flats_lent documents.now)).numbers }
     ensures { IfOk result (λ terms. words_lent terms.items ≡ all_terms (entries_in (flats_lent documents.now))) }
 {
-    let mut terms = words_of(alloc, documents)?;
-    let keywords = keywords_of(alloc, documents)?;
-    terms.reserve_exact(keywords.len().saturating_add(keys.len()))?;
-    add_keyword_terms(keywords.as_slice(), &mut terms)?;
+    let mut terms = words_of(alloc, documents, room)?;
+    add_keyword_terms(keywords, &mut terms)?;
     add_number_terms(keys, &mut terms)?;
     Ok(terms)
 }
 
-/// The keys of the numbers of documents, each once in a document.
-pub(crate) fn keys_of(
-    alloc: Global,
-    documents: &[&Document],
-) -> Result<Vec<(u32, (u32, [u8; 8]))>, NoMemory>
-    requires { length documents.now < 2 ^ 32 }
-    ensures { IfOk result (λ keys. keys_kept keys.items ≡ number_terms (entries_in (flats_lent documents.now)).numbers) }
-{
-    let numbers = numbers_of(alloc, documents)?;
-    Ok(number_keys(alloc, numbers.as_slice())?)
-}
-
 /// Adds keywords to terms, each once in a document.
 fn add_keyword_terms<'a>(
-    keywords: &[(u32, (u32, &'a [Vec<u8>]))],
+    keywords: &[(u32, (u32, &'a [Keyword]))],
     into: &mut Vec<((u32, &'a [u8]), (u32, &'a [u32]))>,
 ) -> Result<(), NoMemory>
     ensures { OnOk result (words_lent into.new.items ≡ words_lent into.old.items ++ keyword_terms (keywords_lent keywords.now)) }
@@ -59,7 +49,7 @@ fn add_keyword_terms<'a>(
 fn add_keywords<'a>(
     field: u32,
     doc: u32,
-    values: &'a [Vec<u8>],
+    values: &'a [Keyword],
     into: &mut Vec<((u32, &'a [u8]), (u32, &'a [u32]))>,
 ) -> Result<(), NoMemory>
     ensures { OnOk result (words_lent into.new.items ≡ words_lent into.old.items ++ terms_at field doc (once (bytes_lent values.now))) }
@@ -79,7 +69,7 @@ fn add_later_keywords<'a>(
     field: u32,
     doc: u32,
     first: &[u8],
-    rest: &'a [Vec<u8>],
+    rest: &'a [Keyword],
     into: &mut Vec<((u32, &'a [u8]), (u32, &'a [u32]))>,
 ) -> Result<(), NoMemory>
     ensures { OnOk result (words_lent into.new.items ≡ words_lent into.old.items ++ terms_at field doc (once_after first.now (bytes_lent rest.now))) }
@@ -124,7 +114,7 @@ fn add_term<'a>(
 }
 
 /// The keys of numbers, each once in a document.
-fn number_keys(
+pub(crate) fn keys_of(
     alloc: Global,
     numbers: &[(u32, (u32, &[i64]))],
 ) -> Result<Vec<(u32, (u32, [u8; 8]))>, NoMemory>

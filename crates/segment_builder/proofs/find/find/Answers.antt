@@ -1,13 +1,14 @@
-use Rattle.std.proofs.Common.{ℕ, List, ◌+◌, ◌-◌, ◌/◌, length, sym, ◌∙◌, arith}
+use Rattle.std.proofs.Common.{ℕ, List, ◌+◌, ◌-◌, ◌/◌, sym, ◌∙◌, arith}
 use Rattle.std.proofs.lemmas.List.{length-map}
 use Rattle.segment_builder.specs.Columns.{terms_lent}
-use Rattle.segment_builder.proofs.Finding.{below_middle, between_all, found_at_last, from_middle, ordinal_at, term_there}
+use Rattle.segment_builder.proofs.Finding.{below_middle, between_in, found_at_last, from_middle, ordinal_at, term_there}
 use Rattle.segment_builder.proofs.find.find.Goals as goal
 
 pub places-init : goal.places-init
 places-init c =
     let count = length-map {B = ℕ × List ℕ} c.args.terms.now (λ term. (term.0, term.1.now)) in
-    (between_all (terms_lent c.args.terms.now) (c.args.field, c.args.bytes.now) (length c.args.terms.now) c.requires.there count, omega (arith, c.requires.there.1, count), omega arith)
+    let between = between_in (terms_lent c.args.terms.now) c.args.field c.args.bytes.now c.args.from c.args.end c.requires.range c.requires.there in
+    (between, omega (arith, between.from, between.below), omega (arith, c.requires.range.within, count))
 
 pub places-preserved-then-is_after : goal.places-preserved-then-is_after
 places-preserved-then-is_after c =

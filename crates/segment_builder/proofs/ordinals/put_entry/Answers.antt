@@ -5,5 +5,5 @@ use Rattle.segment_builder.proofs.ordinals.put_entry.Goals as goal
 
 pub find-requires-clause-there : goal.find-requires-clause-there
 find-requires-clause-there c =
-    rw c.as_slice.ensures.value
+    rw c.as_slice.ensures
     (lent_at (λ bytes. Contains (terms_lent c.args.terms.now) (c.args.field, bytes)) c.args.values.now c.values.value-index c.value-item.result c.values-test.true c.value-item.is c.requires.there)

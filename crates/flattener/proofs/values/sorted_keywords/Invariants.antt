@@ -4,7 +4,7 @@ use Rattle.tree_json.specs.View.{view}
 use Rattle.mapping_body.specs.declared.kind.Kind.TheVariants.{Keyword}
 use Rattle.tree_objects.specs.Values.{convert}
 use Rattle.flattener.specs.Flat.{texts_in}
-use Rattle.flattener.proofs.values.keywords.Given as goal
+use Rattle.flattener.proofs.values.sorted_keywords.Given as goal
 
 abbrev pub invariant-items : goal.invariant-items
 invariant-items l =

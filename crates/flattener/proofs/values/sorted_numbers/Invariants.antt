@@ -3,7 +3,7 @@ use Rattle.std.specs.List.{filter_map}
 use Rattle.tree_json.specs.View.{view}
 use Rattle.tree_objects.specs.Values.{convert}
 use Rattle.flattener.specs.Flat.{numbers_in}
-use Rattle.flattener.proofs.values.numbers.Given as goal
+use Rattle.flattener.proofs.values.sorted_numbers.Given as goal
 
 abbrev pub invariant-items : goal.invariant-items
 invariant-items l =
