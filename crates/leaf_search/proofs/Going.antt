@@ -1,20 +1,18 @@
 -- Cursors that go to a document, and what stands there.
-use Rattle.std.proofs.Common.{◌≡◌, ◌≢◌, ℕ, zero, suc, ◌+◌, ◌-◌, ◌<◌, ◌≤◌, Bool, true, false, ◌&&◌, ◌||◌, cond, List, [], ◌∷◌, length, get_or, set, take, drop, All, Option, Some, None, slice_get, refl, sym, ap, subst, ◌∙◌, inl, inr, arith, nat_eq, nat_le}
-use Rattle.std.specs.List.{list_any, position_or_len, position_from}
+use Rattle.std.proofs.Common.{◌≡◌, ◌≢◌, ℕ, zero, suc, ◌+◌, ◌-◌, ◌<◌, ◌≤◌, min, Bool, true, false, ◌&&◌, List, [], ◌∷◌, length, get_or, set, take, drop, All, Option, Some, None, slice_get, refl, sym, ap, subst, ◌∙◌, inl, inr, arith, nat_eq, nat_le}
+use Rattle.std.specs.Prelude.{IsSome, is_some}
+use Rattle.std.specs.List.{list_all, position_or_len}
 use Rattle.std.specs.Option.{option_map, option_map_or}
 use Rattle.std.specs.List.Sorted.{IsStrictlyIncreasing}
 use Rattle.std.proofs.lemmas.Bool.{cases_Bool, cases_lt, cases_eq, ne_eqb, eq-eqb, leb-true, leb-false}
-use Rattle.std.proofs.lemmas.List.{length-map, length-set, get_or-map, get_or-set_same, get_or-set_other, get_or-drop, map-set, set-get_or, length-drop, take_all, drop_more, drop_all}
+use Rattle.std.proofs.lemmas.List.{length-map, length-set, get_or-map, get_or-set_same, get_or-set_other, get_or-drop, get_or_default, map-set, set-get_or, length-drop, take_all}
 use Rattle.std.proofs.lemmas.List.Elements.{All-weaker}
-use Rattle.std.proofs.lemmas.List.Folds.{list_any_more, list_any_at}
+use Rattle.std.proofs.lemmas.List.Folds.{list_all_at, list_all_more, list_any_at, list_any_none}
 use Rattle.std.proofs.lemmas.Option.{slice_get-get_or, slice_get_past, none-some, same_Some}
-use Rattle.block_bits.specs.Flags.{is_marked}
-use Rattle.block_bits.specs.Places.{next_place}
 use Rattle.doc_values.specs.Values.{values_of}
-use Rattle.postings.specs.Postings.{ArePostings, documents, Standing, present_document, present_positions, place_from}
-use Rattle.leaf_search.specs.Cursors.{IsBehind, IsAt, Keeps, document_at, lists_in}
-use Rattle.leaf_search.specs.Words.{phrase_posted, run_posted}
-use Rattle.leaf_search.proofs.Tests.{and_false}
+use Rattle.postings.specs.Marks.{has_document}
+use Rattle.postings.specs.Postings.{ArePostings, documents, Standing, present, present_document, present_positions, place_from}
+use Rattle.leaf_search.specs.Cursors.{IsBehind, IsAt, IsOn, document_at, lists_in}
 
 -- ---- documents in order
 
@@ -150,43 +148,83 @@ past_end cursor is = elim (cases_lt cursor.at (length cursor.postings)) [
   | inr past ↦ past
 ]
 
--- what a test says of the positions in a document, by the cursor that stands there
-pub told : (doc : ℕ) (cursor : Standing) (own : ℕ) (says : List ℕ → Bool) → IsAt doc cursor → Some own ≡ present_document cursor → says [] ≡ false → (nat_eq own doc && says (present_positions cursor)) ≡ says (values_of doc cursor.postings)
-told doc cursor own says at is none =
-    let here = present_at cursor own is in
-    elim (cases_eq own doc) [
-      | inl same ↦
-          let values : values_of doc cursor.postings ≡ (get_or cursor.postings cursor.at (0, [])).1 =
-          values_there doc cursor.postings cursor.at here.inside (λ k below same2. omega (arith, same2, at.before k below (omega (arith, below, here.inside)))) (here.document ∙ same) in
-          rw (eq-eqb own doc same) (ap says (here.positions ∙ sym values))
-      | inr other ↦
-          let later : doc < own = omega (arith, other, here.document, at.behind cursor.at (omega arith) here.inside) in
-          let values : values_of doc cursor.postings ≡ [] =
-          values_nowhere doc cursor.postings (λ k inside same. elim (cases_lt k cursor.at) [
-            | inl gone ↦ omega (arith, same, at.before k gone inside)
-            | inr left ↦ elim (cases_lt cursor.at k) [
-              | inl behind ↦ omega (arith, same, later, here.document, ordered cursor at.are cursor.at k behind inside)
-              | inr own2 ↦
-                  let equal : k ≡ cursor.at = omega (arith, left, own2) in
-                  omega (arith, same, later, here.document, ap (document_at cursor) equal)
-            ]
-          ]) in
-          rw (ne_eqb own doc other) (sym (ap says values ∙ none))
+-- the postings of other documents
+others : (doc own : ℕ) (cursor : Standing) → IsAt doc cursor → Present cursor own → own ≢ doc → (k : ℕ) → k < length cursor.postings → document_at cursor k ≢ doc
+others doc own cursor at here other k inside same =
+    let later : doc < own = omega (arith, other, here.document, at.behind cursor.at (omega arith) here.inside) in
+    elim (cases_lt k cursor.at) [
+      | inl gone ↦ omega (arith, same, at.before k gone inside)
+      | inr left ↦ elim (cases_lt cursor.at k) [
+        | inl behind ↦ omega (arith, same, later, here.document, ordered cursor at.are cursor.at k behind inside)
+        | inr own2 ↦
+            let equal : k ≡ cursor.at = omega (arith, left, own2) in
+            omega (arith, same, later, here.document, ap (document_at cursor) equal)
+      ]
     ]
 
-pub told_none : (doc : ℕ) (cursor : Standing) (says : List ℕ → Bool) → IsAt doc cursor → None ≡ present_document cursor → says [] ≡ false → false ≡ says (values_of doc cursor.postings)
-told_none doc cursor says at is none =
+abbrev is_row_of : ℕ → ℕ × List ℕ → Bool
+is_row_of doc posting = nat_eq posting.0 doc
+
+never_row : (doc : ℕ) (cursor : Standing) → ((k : ℕ) → k < length cursor.postings → document_at cursor k ≢ doc) → has_document doc cursor.postings ≡ false
+never_row doc cursor none =
+    list_any_none (is_row_of doc) cursor.postings (λ k d inside. ne_eqb (get_or cursor.postings k d).0 doc (λ same. none k inside (ap (λ (posting : ℕ × List ℕ). posting.0) (get_or_default cursor.postings k (0, []) d inside) ∙ same)))
+
+-- whether a document is among the postings, by the document at which the cursor stands
+pub is_shown : (doc own : ℕ) (cursor : Standing) → IsAt doc cursor → Some own ≡ present_document cursor → has_document doc cursor.postings ≡ nat_eq own doc
+is_shown doc own cursor at is =
+    let here = present_at cursor own is in
+    elim (cases_eq own doc) [
+      | inl same ↦ list_any_at (is_row_of doc) cursor.postings cursor.at (0, []) here.inside (eq-eqb (document_at cursor cursor.at) doc (here.document ∙ same)) ∙ sym (eq-eqb own doc same)
+      | inr other ↦ never_row doc cursor (others doc own cursor at here other) ∙ sym (ne_eqb own doc other)
+    ]
+
+pub not_shown : (doc : ℕ) (cursor : Standing) → IsAt doc cursor → None ≡ present_document cursor → has_document doc cursor.postings ≡ false
+not_shown doc cursor at is =
     let past = past_end cursor is in
-    let values : values_of doc cursor.postings ≡ [] = values_nowhere doc cursor.postings (λ k inside same. omega (arith, same, at.before k (omega (arith, inside, past)) inside)) in
-    sym (ap says values ∙ none)
+    never_row doc cursor (λ k inside same. omega (arith, same, at.before k (omega (arith, inside, past)) inside))
+
+-- the positions there are those of the document
+pub values_on : (doc : ℕ) (cursor : Standing) → IsOn doc cursor → present_positions cursor ≡ values_of doc cursor.postings
+values_on doc cursor on =
+    let here = present_at cursor doc (sym on.here) in
+    here.positions
+    ∙ sym (values_there doc cursor.postings cursor.at here.inside (λ k below same. omega (arith, same, on.at.before k below (omega (arith, below, here.inside)))) here.document)
+
+pub is_present : (doc : ℕ) (cursor : Standing) → IsOn doc cursor → IsSome (present cursor)
+is_present doc cursor on = ap is_some (slice_get-get_or cursor.postings cursor.at (0, []) (present_at cursor doc (sym on.here)).inside)
+
+-- a cursor stands at the document that it gives
+pub own_on : (doc : ℕ) (cursor : Standing) → ArePostings cursor.postings → Some doc ≡ present_document cursor → IsOn doc cursor
+own_on doc cursor are is =
+    let here = present_at cursor doc is in
+    record {
+      at = record {
+        are = are;
+        before = λ k below inside. omega (arith, here.document, ordered cursor are k cursor.at below here.inside);
+        behind = λ k from inside. elim (cases_lt cursor.at k) [
+          | inl later ↦ omega (arith, here.document, ordered cursor are cursor.at k later inside)
+          | inr own ↦
+              let equal : k ≡ cursor.at = omega (arith, from, own) in
+              omega (arith, here.document, ap (document_at cursor) equal)
+        ];
+      };
+      here = sym is;
+    }
 
 -- ---- all cursors go
+
+pub all_passed : (doc : ℕ) (cursors : List Standing) → All (IsBehind doc) cursors → All (IsBehind (doc + 1)) cursors
+all_passed doc cursors all = All-weaker (IsBehind doc) (IsBehind (doc + 1)) (λ cursor was. behind_later doc (doc + 1) cursor (omega arith) was) cursors all
+
+abbrev postings_in : Standing → List (ℕ × List ℕ)
+postings_in cursor = cursor.postings
 
 pub record AreGoing (doc : ℕ) (old now : List Standing) (at : ℕ) : Type 0 where
   pub long : length now ≡ length old
   pub lists : lists_in now ≡ lists_in old
-  pub there : (k : ℕ) (d : Standing) → k < at → k < length now → IsAt doc (get_or now k d)
+  pub there : (k : ℕ) (d : Standing) → k < at → k < length now → IsOn doc (get_or now k d)
   pub left : (k : ℕ) (d : Standing) → at ≤ k → k < length now → IsBehind doc (get_or now k d)
+  pub have : list_all (has_document doc) (take at (lists_in old)) ≡ true
 
 pub going_none : (doc : ℕ) (old : List Standing) → All (IsBehind doc) old → AreGoing doc old old 0
 going_none doc old all = record {
@@ -194,171 +232,131 @@ going_none doc old all = record {
   lists = refl;
   there = λ k d none inside. absurd (omega (arith, none));
   left = λ k d from inside. all k d inside;
+  have = refl;
 }
 
-pub going_more : (doc : ℕ) (old now : List Standing) (at : ℕ) (own moved : Standing) → AreGoing doc old now at → at < length now → own ≡ get_or now at own → moved.postings ≡ own.postings → moved.at ≡ place_from doc own
-    → AreGoing doc old (set now at moved) (at + 1)
-going_more doc old now at own moved was inside is same place =
-    let lists_of : Standing → List (ℕ × List ℕ) = λ (cursor : Standing). cursor.postings in
+-- one cursor went to the document, or past it
+pub record HasGone (doc : ℕ) (old now new : List Standing) (at : ℕ) (moved : Standing) : Type 0 where
+  pub is : new ≡ set now at moved
+  pub arrived : IsAt doc moved
+  pub lists : lists_in new ≡ lists_in old
+  pub listed : get_or (lists_in old) at [] ≡ moved.postings
+  pub within : at < length (lists_in old)
+
+has_gone : (doc : ℕ) (old now new : List Standing) (at : ℕ) (own moved : Standing) → AreGoing doc old now at → at < length now → own ≡ get_or now at own → moved.postings ≡ own.postings → moved.at ≡ place_from doc own → new ≡ set now at moved
+    → HasGone doc old now new at moved
+has_gone doc old now new at own moved was inside is same place made =
     let behind : IsBehind doc own = subst (IsBehind doc) (sym is) (was.left at own (omega arith) inside) in
-    let arrived : IsAt doc moved = is_at doc own moved behind same place in
-    let listed : get_or (lists_in now) at [] ≡ moved.postings = get_or-map lists_of now at own [] inside ∙ ap lists_of (sym is) ∙ sym same in
+    let listed : get_or (lists_in now) at [] ≡ moved.postings = get_or-map postings_in now at own [] inside ∙ ap postings_in (sym is) ∙ sym same in
     record {
-      long = length-set now at moved ∙ was.long;
+      is = made;
+      arrived = is_at doc own moved behind same place;
       lists =
-          map-set lists_of now at moved
+          ap lists_in made
+          ∙ map-set postings_in now at moved
           ∙ ap (λ (l : List (ℕ × List ℕ)). set (lists_in now) at l) (sym listed)
           ∙ set-get_or (lists_in now) at []
           ∙ was.lists;
+      listed = ap (λ (l : List (List (ℕ × List ℕ))). get_or l at []) (sym was.lists) ∙ listed;
+      within = omega (arith, inside, length-map now postings_in, ap length was.lists);
+    }
+
+others_kept : (P : Standing → Type 0) (now new : List Standing) (at k : ℕ) (moved d : Standing) → new ≡ set now at moved → k ≢ at → P (get_or now k d) → P (get_or new k d)
+others_kept P now new at k moved d made other holds = subst P (sym (ap (λ (l : List Standing). get_or l k d) made ∙ get_or-set_other now at k moved d other)) holds
+
+own_kept : (P : Standing → Type 0) (now new : List Standing) (at k : ℕ) (moved d : Standing) → new ≡ set now at moved → at < length now → k ≡ at → P moved → P (get_or new k d)
+own_kept P now new at k moved d made inside here holds =
+    subst P (sym (ap (λ (i : ℕ). get_or new i d) here ∙ ap (λ (l : List Standing). get_or l at d) made ∙ get_or-set_same now at moved d inside)) holds
+
+-- the document of the lead is in its list
+pub own_shown : (doc : ℕ) (cursor : Standing) → IsOn doc cursor → has_document doc cursor.postings ≡ true
+own_shown doc cursor on = is_shown doc doc cursor on.at (sym on.here) ∙ eq-eqb doc doc refl
+
+going_more : (doc : ℕ) (old now new : List Standing) (at own : ℕ) (moved : Standing) → AreGoing doc old now at → at < length now → HasGone doc old now new at moved → Some own ≡ present_document moved → own ≡ doc → AreGoing doc old new (at + 1)
+going_more doc old now new at own moved was inside gone is same =
+    let on : IsOn doc moved = record { at = gone.arrived; here = sym is ∙ ap Some same } in
+    let long : length new ≡ length now = ap length gone.is ∙ length-set now at moved in
+    record {
+      long = long ∙ was.long;
+      lists = gone.lists;
       there = λ k d below within. elim (cases_eq k at) [
-        | inl here ↦ subst (IsAt doc) (sym (ap (λ (i : ℕ). get_or (set now at moved) i d) here ∙ get_or-set_same now at moved d inside)) arrived
-        | inr other ↦ subst (IsAt doc) (sym (get_or-set_other now at k moved d other)) (was.there k d (omega (arith, below, other)) (omega (arith, within, length-set now at moved)))
+        | inl here ↦ own_kept (IsOn doc) now new at k moved d gone.is inside here on
+        | inr other ↦ others_kept (IsOn doc) now new at k moved d gone.is other (was.there k d (omega (arith, below, other)) (omega (arith, within, long)))
       ];
       left = λ k d from within.
           let other : k ≢ at = λ same2. omega (arith, from, same2) in
-          subst (IsBehind doc) (sym (get_or-set_other now at k moved d other)) (was.left k d (omega (arith, from)) (omega (arith, within, length-set now at moved)));
+          others_kept (IsBehind doc) now new at k moved d gone.is other (was.left k d (omega (arith, from)) (omega (arith, within, long)));
+      have =
+          list_all_more (has_document doc) (lists_in old) at [] gone.within
+          ∙ ap (λ (b : Bool). b && has_document doc (get_or (lists_in old) at [])) was.have
+          ∙ ap (has_document doc) gone.listed
+          ∙ is_shown doc own moved gone.arrived is
+          ∙ eq-eqb own doc same;
     }
 
-pub going_all : (doc : ℕ) (old now : List Standing) (at : ℕ) → AreGoing doc old now at → length now ≤ at → All (IsAt doc) now
+-- a cursor's term isn't there
+pub record AreStopped (doc : ℕ) (old new : List Standing) : Type 0 where
+  pub lists : lists_in new ≡ lists_in old
+  pub passed : All (IsBehind (doc + 1)) new
+  pub says : list_all (has_document doc) (lists_in old) ≡ false
+
+going_stops : (doc : ℕ) (old now new : List Standing) (at : ℕ) (moved : Standing) → AreGoing doc old now at → at < length now → HasGone doc old now new at moved → has_document doc moved.postings ≡ false → AreStopped doc old new
+going_stops doc old now new at moved was inside gone none =
+    let long : length new ≡ length now = ap length gone.is ∙ length-set now at moved in
+    record {
+      lists = gone.lists;
+      passed = λ k d within. elim (cases_eq k at) [
+        | inl here ↦ own_kept (IsBehind (doc + 1)) now new at k moved d gone.is inside here (behind_next doc moved gone.arrived)
+        | inr other ↦ others_kept (IsBehind (doc + 1)) now new at k moved d gone.is other (elim (cases_lt k at) [
+          | inl before ↦ behind_next doc (get_or now k d) (was.there k d before (omega (arith, within, long))).at
+          | inr after ↦ behind_later doc (doc + 1) (get_or now k d) (omega arith) (was.left k d after (omega (arith, within, long)))
+        ])
+      ];
+      says = list_all_at (has_document doc) (lists_in old) at [] gone.within (ap (has_document doc) gone.listed ∙ none);
+    }
+
+pub stops_none : (doc : ℕ) (old now : List Standing) (at : ℕ) (own moved : Standing) → AreGoing doc old now at → at < length now → own ≡ get_or now at own → moved.postings ≡ own.postings → moved.at ≡ place_from doc own → None ≡ present_document moved
+    → AreStopped doc old (set now at moved)
+stops_none doc old now at own moved was inside is same place none =
+    let gone = has_gone doc old now (set now at moved) at own moved was inside is same place refl in
+    going_stops doc old now (set now at moved) at moved was inside gone (not_shown doc moved gone.arrived none)
+
+pub stops_past : (doc : ℕ) (old now : List Standing) (at : ℕ) (own moved : Standing) (other : ℕ) → AreGoing doc old now at → at < length now → own ≡ get_or now at own → moved.postings ≡ own.postings → moved.at ≡ place_from doc own → Some other ≡ present_document moved → other ≢ doc
+    → AreStopped doc old (set now at moved)
+stops_past doc old now at own moved other was inside is same place there differs =
+    let gone = has_gone doc old now (set now at moved) at own moved was inside is same place refl in
+    going_stops doc old now (set now at moved) at moved was inside gone (is_shown doc other moved gone.arrived there ∙ ne_eqb other doc differs)
+
+pub goes_on : (doc : ℕ) (old now : List Standing) (at : ℕ) (own moved : Standing) (there : ℕ) → AreGoing doc old now at → at < length now → own ≡ get_or now at own → moved.postings ≡ own.postings → moved.at ≡ place_from doc own → Some there ≡ present_document moved → there ≡ doc
+    → AreGoing doc old (set now at moved) (at + 1)
+goes_on doc old now at own moved there was inside is same place arrives equal =
+    going_more doc old now (set now at moved) at there moved was inside (has_gone doc old now (set now at moved) at own moved was inside is same place refl) arrives equal
+
+pub going_all : (doc : ℕ) (old now : List Standing) (at : ℕ) → AreGoing doc old now at → length now ≤ at → All (IsOn doc) now
 going_all doc old now at was past = λ k d inside. was.there k d (omega (arith, inside, past)) inside
 
--- ---- the set that is left
+pub on_passed : (doc : ℕ) (cursors : List Standing) → All (IsOn doc) cursors → All (IsBehind (doc + 1)) cursors
+on_passed doc cursors all = All-weaker (IsOn doc) (IsBehind (doc + 1)) (λ cursor on. behind_next doc cursor on.at) cursors all
 
-pub record IsKeeping (lists : List (List (ℕ × List ℕ))) (old now : List Bool) (from : ℕ) : Type 0 where
-  pub long : length now ≡ length old
-  pub done : (doc : ℕ) → doc < from → doc < length old → get_or now doc false ≡ (get_or old doc false && phrase_posted lists doc)
-  pub left : (doc : ℕ) → from ≤ doc → get_or now doc false ≡ get_or old doc false
+pub going_says : (doc : ℕ) (old now : List Standing) (at : ℕ) → AreGoing doc old now at → length now ≤ at → true ≡ list_all (has_document doc) (lists_in old)
+going_says doc old now at was past =
+    sym (ap (list_all (has_document doc)) (sym (take_all at (lists_in old) (omega (arith, past, was.long, length-map old postings_in)))) ∙ was.have)
 
-pub keeping_none : (lists : List (List (ℕ × List ℕ))) (old : List Bool) → IsKeeping lists old old 0
-keeping_none lists old = record { long = refl; done = λ doc none inside. absurd (omega (arith, none)); left = λ doc from. refl }
+-- ---- the lead goes on
 
--- nothing is set between
-module _ {X : Type 0} (test : X → Bool) where
-  quiet : (start : ℕ) (xs : List X) (at : ℕ) (k : ℕ) (d : X) → position_from test start xs ≡ Some at → start + k < at → k < length xs → test (get_or xs k d) ≡ false
-  quiet start [] at k d e below inside = absurd (omega (arith, inside))
-  quiet start (x ∷ xs) at k d e below inside = elim (cases_Bool (test x)) [
-    | inl here ↦ absurd (let found : Some start ≡ Some at = rw here at e in let same : start ≡ at = cc in omega (arith, same, below))
-    | inr fails ↦ quiet_later start x xs at k d fails (rw fails at e) below inside (λ k below inside. quiet (start + 1) xs at k d (rw fails at e) below inside)
-  ]
-    where
-      quiet_later : (start : ℕ) (x : X) (xs : List X) (at k : ℕ) (d : X) → test x ≡ false → position_from test (start + 1) xs ≡ Some at → start + k < at → k < length (x ∷ xs)
-          → ((k : ℕ) → start + 1 + k < at → k < length xs → test (get_or xs k d) ≡ false) → test (get_or (x ∷ xs) k d) ≡ false
-      quiet_later start x xs at zero d fails e below inside rest = fails
-      quiet_later start x xs at (suc k) d fails e below inside rest = rest k (omega (arith, below)) (omega (arith, inside))
+-- what the others went over lies before the lead's document
+abbrev pub Ready : Standing → List Standing → Type 0
+Ready lead cursors = (doc : ℕ) → Some doc ≡ present_document lead → All (IsBehind doc) cursors
 
-  silent : (start : ℕ) (xs : List X) (k : ℕ) (d : X) → position_from test start xs ≡ None → k < length xs → test (get_or xs k d) ≡ false
-  silent start [] k d e inside = absurd (omega (arith, inside))
-  silent start (x ∷ xs) k d e inside = elim (cases_Bool (test x)) [
-    | inl here ↦ absurd (let found : Some start ≡ None = rw here at e in let no : ⊥ = cc in no)
-    | inr fails ↦ silent_later x xs k d fails inside (λ k inside. silent (start + 1) xs k d (rw fails at e) inside)
-  ]
-    where
-      silent_later : (x : X) (xs : List X) (k : ℕ) (d : X) → test x ≡ false → k < length (x ∷ xs) → ((k : ℕ) → k < length xs → test (get_or xs k d) ≡ false) → test (get_or (x ∷ xs) k d) ≡ false
-      silent_later x xs zero d fails inside rest = fails
-      silent_later x xs (suc k) d fails inside rest = rest k (omega (arith, inside))
+pub ready_first : (lead : Standing) (cursors : List Standing) → All (IsBehind 0) cursors → Ready lead cursors
+ready_first lead cursors all = λ doc is. All-weaker (IsBehind 0) (IsBehind doc) (λ cursor was. behind_later 0 doc cursor (omega arith) was) cursors all
 
-at_other : (keep : Bool) (now : List Bool) (doc k : ℕ) → k ≢ doc → get_or (cond keep now (set now doc false)) k false ≡ get_or now k false
-at_other true now doc k other = refl
-at_other false now doc k other = get_or-set_other now doc k false false other
-
-at_own : (keep was : Bool) (now : List Bool) (doc : ℕ) → doc < length now → get_or now doc false ≡ was → get_or (cond keep now (set now doc false)) doc false ≡ (was && keep)
-at_own true was now doc inside is = is ∙ kept_true was
-  where
-    kept_true : (b : Bool) → b ≡ (b && true)
-    kept_true true = refl
-    kept_true false = refl
-at_own false was now doc inside is = get_or-set_same now doc false false inside ∙ sym (and_false was)
-
-length_left : (keep : Bool) (now : List Bool) (doc : ℕ) → length (cond keep now (set now doc false)) ≡ length now
-length_left true now doc = refl
-length_left false now doc = length-set now doc false
-
-pub keeping_more : (lists : List (List (ℕ × List ℕ))) (old now : List Bool) (from doc : ℕ) (keep : Bool) → IsKeeping lists old now from → Some doc ≡ next_place is_marked from now → from ≤ doc → doc < length now → keep ≡ phrase_posted lists doc
-    → IsKeeping lists old (cond keep now (set now doc false)) (doc + 1)
-keeping_more lists old now from doc keep was next low inside says = record {
-  long = length_left keep now doc ∙ was.long;
-  done = λ k below within. elim (cases_eq k doc) [
-    | inl here ↦
-        ap (λ (i : ℕ). get_or (cond keep now (set now doc false)) i false) here
-        ∙ at_own keep (get_or old doc false) now doc inside (was.left doc low)
-        ∙ ap (λ (b : Bool). get_or old doc false && b) says
-        ∙ ap (λ (i : ℕ). get_or old i false && phrase_posted lists i) (sym here)
-    | inr other ↦ at_other keep now doc k other ∙ elim (cases_lt k from) [
-      | inl gone ↦ was.done k gone within
-      | inr after ↦
-          let j : ℕ = k - from in
-          let back : from + j ≡ k = omega (arith, after) in
-          let none : is_marked (get_or (drop from now) j false) ≡ false = quiet is_marked from (drop from now) doc j false (sym next) (omega (arith, below, other, after)) (omega (arith, below, other, inside, after, length-drop from now)) in
-          let clear : get_or now k false ≡ false = sym (get_or-drop from now j false ∙ ap (λ (i : ℕ). get_or now i false) back) ∙ none in
-          clear ∙ sym (ap (λ (b : Bool). b && phrase_posted lists k) (sym (was.left k after) ∙ clear))
-    ]
-  ];
-  left = λ k after.
-      let other : k ≢ doc = λ same. omega (arith, after, same) in
-      at_other keep now doc k other ∙ was.left k (omega (arith, after, low));
-}
-
-pub keeping_end : (lists : List (List (ℕ × List ℕ))) (old now : List Bool) (from : ℕ) → IsKeeping lists old now from → None ≡ next_place is_marked from now → Keeps lists old now
-keeping_end lists old now from was next = record {
-  long = was.long;
-  kept = λ k within. elim (cases_lt k from) [
-    | inl gone ↦ was.done k gone within
-    | inr after ↦
-        let j : ℕ = k - from in
-        let back : from + j ≡ k = omega (arith, after) in
-        let none : is_marked (get_or (drop from now) j false) ≡ false = silent is_marked from (drop from now) j false (sym next) (omega (arith, within, after, was.long, length-drop from now)) in
-        let clear : get_or now k false ≡ false = sym (get_or-drop from now j false ∙ ap (λ (i : ℕ). get_or now i false) back) ∙ none in
-        clear ∙ sym (ap (λ (b : Bool). b && phrase_posted lists k) (sym (was.left k after) ∙ clear))
-  ];
-}
-
--- ---- a loop that looks for an element
-
-pub seen_more : (test : ℕ → Bool) (xs : List ℕ) (at x : ℕ) → at < length xs → x ≡ get_or xs at 0 → test x ≡ false → list_any test (take at xs) ≡ false → list_any test (take (at + 1) xs) ≡ false
-seen_more test xs at x inside is fails none =
-    list_any_more test xs at 0 inside ∙ ap (λ (b : Bool). b || test (get_or xs at 0)) none ∙ ap test (sym is) ∙ fails
-
-pub seen_found : (test : ℕ → Bool) (xs : List ℕ) (at x : ℕ) → at < length xs → x ≡ get_or xs at 0 → test x ≡ true → true ≡ list_any test xs
-seen_found test xs at x inside is passes = sym (list_any_at test xs at 0 inside (ap test (sym is) ∙ passes))
-
-pub seen_all : (test : ℕ → Bool) (xs : List ℕ) (at : ℕ) → length xs ≤ at → list_any test (take at xs) ≡ false → false ≡ list_any test xs
-seen_all test xs at past none = sym (ap (list_any test) (sym (take_all at xs past)) ∙ none)
-
--- ---- a loop over cursors
-
-pub run_more : (doc : ℕ) (cursors : List Standing) (at : ℕ) (own : Standing) (position : ℕ) → at < length cursors → own ≡ get_or cursors at own
-    → run_posted (lists_in (drop at cursors)) doc position ≡ (list_any (λ p. nat_eq p position) (values_of doc own.postings) && run_posted (lists_in (drop (at + 1) cursors)) doc (position + 1))
-run_more doc cursors at own position inside is =
-    ap (λ (l : List Standing). run_posted (lists_in l) doc position) (drop_more cursors at own inside ∙ ap (λ (x : Standing). x ∷ drop (at + 1) cursors) (sym is))
-
-pub run_end : (doc : ℕ) (cursors : List Standing) (at position : ℕ) → length cursors ≤ at → run_posted (lists_in (drop at cursors)) doc position ≡ true
-run_end doc cursors at position past = ap (λ (l : List Standing). run_posted (lists_in l) doc position) (drop_all at cursors past)
-
--- ---- by the document at which the cursor stands
-
-pub told_here : (doc : ℕ) (cursor : Standing) (own : ℕ) (says : List ℕ → Bool) → IsAt doc cursor → Some own ≡ present_document cursor → says [] ≡ false → own ≡ doc → says (present_positions cursor) ≡ says (values_of doc cursor.postings)
-told_here doc cursor own says at is none same =
-    ap (λ (b : Bool). b && says (present_positions cursor)) (sym (eq-eqb own doc same)) ∙ told doc cursor own says at is none
-
-pub told_past : (doc : ℕ) (cursor : Standing) (own : ℕ) (says : List ℕ → Bool) → IsAt doc cursor → Some own ≡ present_document cursor → says [] ≡ false → own ≢ doc → nat_eq own doc ≡ says (values_of doc cursor.postings)
-told_past doc cursor own says at is none other =
-    ne_eqb own doc other ∙ sym (ap (λ (b : Bool). b && says (present_positions cursor)) (ne_eqb own doc other)) ∙ told doc cursor own says at is none
-
-pub phrase_split : (doc : ℕ) (cursors : List Standing) (own : Standing) → 1 ≤ length cursors → own ≡ get_or cursors 0 own
-    → phrase_posted (lists_in cursors) doc ≡ list_any (λ p. run_posted (lists_in (drop 1 cursors)) doc (p + 1)) (values_of doc own.postings)
-phrase_split doc [] own some is = absurd (omega (arith, some))
-phrase_split doc (cursor ∷ cursors) own some is = ap (λ (x : Standing). list_any (λ p. run_posted (lists_in cursors) doc (p + 1)) (values_of doc x.postings)) (sym is)
-
-pub first_is_at : (doc : ℕ) (cursors : List Standing) (own : Standing) → All (IsAt doc) cursors → 1 ≤ length cursors → own ≡ get_or cursors 0 own → IsAt doc own
-first_is_at doc cursors own all some is = subst (IsAt doc) (sym is) (all 0 own (omega (arith, some)))
-
--- one step of the loop, whole
-pub kept_step : (lists : List (List (ℕ × List ℕ))) (old now new : List Bool) (from doc : ℕ) (keep : Bool) (was_cursors cursors : List Standing) → IsKeeping lists old now from → Some doc ≡ next_place is_marked from now → (from ≤ doc) × (doc < length now)
-    → keep ≡ phrase_posted (lists_in cursors) doc → lists_in cursors ≡ lists_in was_cursors → lists_in was_cursors ≡ lists → All (IsAt doc) cursors → new ≡ cond keep now (set now doc false)
-    → (lists_in cursors ≡ lists) × All (IsBehind (doc + 1)) cursors × IsKeeping lists old new (doc + 1) × (doc + 1 ≤ length new)
-kept_step lists old now new from doc keep was_cursors cursors was next within says same own there made =
-    let all : lists_in cursors ≡ lists = same ∙ own in
-    let keeping : IsKeeping lists old new (doc + 1) =
-    subst (λ (s : List Bool). IsKeeping lists old s (doc + 1)) (sym made)
-    (keeping_more lists old now from doc keep was next within.0 within.1 (says ∙ ap (λ (l : List (List (ℕ × List ℕ))). phrase_posted l doc) all)) in
-    (all, All-weaker (IsAt doc) (IsBehind (doc + 1)) (λ cursor at. behind_next doc cursor at) cursors there, keeping, omega (arith, within.1, ap length made, length_left keep now doc))
+pub ready_next : (lead new : Standing) (doc : ℕ) (cursors : List Standing) → ArePostings lead.postings → Some doc ≡ present_document lead → new.postings ≡ lead.postings → new.at ≡ min (lead.at + 1) (length lead.postings) → All (IsBehind (doc + 1)) cursors → Ready new cursors
+ready_next lead new doc cursors are is same moved all = λ later next.
+    let here = present_at lead doc is in
+    let there = present_at new later next in
+    let at : new.at ≡ lead.at + 1 = omega (arith, moved, here.inside) in
+    let inside : lead.at + 1 < length lead.postings = omega (arith, at, there.inside, ap length same) in
+    let one : document_at new new.at ≡ document_at lead (lead.at + 1) = ap (λ (ps : List (ℕ × List ℕ)). (get_or ps new.at (0, [])).0) same ∙ ap (document_at lead) at in
+    let up : doc + 1 ≤ later = omega (arith, one, here.document, there.document, ordered lead are lead.at (lead.at + 1) (omega arith) inside) in
+    All-weaker (IsBehind (doc + 1)) (IsBehind later) (λ cursor was. behind_later (doc + 1) later cursor up was) cursors all

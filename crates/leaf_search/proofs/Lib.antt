@@ -13,9 +13,12 @@ pub mod Going
 pub mod Halving
 pub mod Phrasing
 pub mod Phrased
+pub mod Around
 pub mod Queries
 pub mod Runs
 pub mod Trees
 pub mod Holds
 pub mod Rooted
 pub mod Finding
+pub mod Selecting
+pub mod Conjoining

@@ -2,7 +2,7 @@
 use Rattle.std.proofs.Common.{◌≡◌, ℕ, zero, suc, ◌+◌, ◌<◌, ◌≤◌, Bool, true, false, ◌&&◌, ◌||◌, List, [], ◌∷◌, ◌++◌, length, map, get_or, take, drop, slice_get, Some, refl, sym, ap, ◌∙◌, arith, length-take, length-take-le}
 use Rattle.std.specs.List.{list_any}
 use Rattle.std.proofs.lemmas.Bool.{false_from_ne_true}
-use Rattle.std.proofs.lemmas.List.{drop-append-le, take_more, drop_all}
+use Rattle.std.proofs.lemmas.List.{drop-append-le, take_more, drop_all, length-map}
 use Rattle.std.proofs.lemmas.List.Folds.{list_any-append}
 use Rattle.postings.specs.Marks.{has_document}
 use Rattle.term_table.specs.Ranges.{IsRange}
@@ -81,5 +81,18 @@ range_posts doc passes (row ∷ rows) (suc first) (suc end) range =
     let there = range (suc ordinal) term is in
     ((λ w. there.0 (omega (arith, w.0), omega (arith, w.1))), (λ yes. (omega (arith, (there.1 yes).0), omega (arith, (there.1 yes).1))))) in
     rw never rest
+
+-- the postings of one term, and of none
+pub one_posts : (doc : ℕ) (passes : ℕ × List ℕ → Bool) (rows : List TermRow) (ordinal : ℕ) → ordinal < length (terms_in rows) → IsRange passes (terms_in rows) ordinal (ordinal + 1)
+    → has_document doc (get_or (posting_lists rows) ordinal []) ≡ list_any (passes_in doc passes) rows
+one_posts doc passes rows ordinal inside range =
+    let lists : List (List (ℕ × List ℕ)) = posting_lists rows in
+    let there : ordinal < length lists = omega (arith, inside, length-map rows (λ (row : TermRow). row.term), length-map rows (λ (row : TermRow). row.postings)) in
+    let none : drop ordinal (take ordinal lists) ≡ [] = drop_all ordinal (take ordinal lists) (omega (arith, length-take-le ordinal lists (omega (arith, there)))) in
+    let alone : drop ordinal (take (ordinal + 1) lists) ≡ get_or lists ordinal [] ∷ [] = one_more lists ordinal ordinal [] (omega arith) there ∙ ap (λ (l : List (List (ℕ × List ℕ))). l ++ get_or lists ordinal [] ∷ []) none in
+    sym (ap (list_any (has_document doc)) alone ∙ or_false (has_document doc (get_or lists ordinal []))) ∙ range_posts doc passes rows ordinal (ordinal + 1) range
+
+pub no_posts : (doc : ℕ) (passes : ℕ × List ℕ → Bool) (rows : List TermRow) → IsRange passes (terms_in rows) 0 0 → list_any (passes_in doc passes) rows ≡ false
+no_posts doc passes rows range = sym (range_posts doc passes rows 0 0 range) ∙ ap (list_any (has_document doc)) (nothing 0 (posting_lists rows))
 
 pub ruleset listing = (listing_none, listing_more)

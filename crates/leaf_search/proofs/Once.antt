@@ -10,7 +10,7 @@ use Rattle.segment_parts.specs.declared.columns.Columns.{Columns}
 use Rattle.tree_objects.specs.declared.field_value.FieldValue.{FieldValue}
 use Rattle.leaf_search.specs.Keys.{has_bytes, has_one_of, key_of}
 use Rattle.leaf_search.specs.Sets.{Gains}
-use Rattle.leaf_search.specs.Words.{shows_all, shows_some}
+use Rattle.leaf_search.specs.Words.{shows_some}
 use Rattle.leaf_search.proofs.Gaining.{gains_more, gains_same}
 use Rattle.leaf_search.proofs.Tests.{any-map}
 
@@ -31,7 +31,7 @@ module _ {X : Type 0} (same : X → X → Bool) (p : X → Bool) (alike : (x y :
   any-dedup (x ∷ xs) = any_from x xs
 
 module _ {X : Type 0} (p : X → Bool) where
-  all_by_any : (xs : List X) → list_all p xs ≡ not (list_any (λ (x : X). not (p x)) xs)
+  pub all_by_any : (xs : List X) → list_all p xs ≡ not (list_any (λ (x : X). not (p x)) xs)
   all_by_any [] = refl
   all_by_any (x ∷ xs) = elim (cases_Bool (p x)) [
     | inl holds ↦ rw holds (all_by_any xs)
@@ -57,13 +57,6 @@ SameTests found words = (test : List ℕ → Bool) → list_any test (lent_words
 
 pub some_alike : (c : Columns) (f : ℕ) (found : List (Bor (List ℕ))) (words : List (List ℕ)) → SameTests found words → map (shows_some f (lent_words found)) (flats_of c) ≡ map (shows_some f words) (flats_of c)
 some_alike c f found words same = same_map (shows_some f (lent_words found)) (shows_some f words) (λ d. same (has_bytes f d)) (flats_of c)
-
-pub all_alike : (c : Columns) (f : ℕ) (found : List (Bor (List ℕ))) (words : List (List ℕ)) → SameTests found words → map (shows_all f (lent_words found)) (flats_of c) ≡ map (shows_all f words) (flats_of c)
-all_alike c f found words same =
-    same_map (shows_all f (lent_words found)) (shows_all f words)
-    (λ d.
-    all_by_any (has_bytes f d) (lent_words found) ∙ ap not (same (λ (bytes : List ℕ). not (has_bytes f d bytes))) ∙ sym (all_by_any (has_bytes f d) words))
-    (flats_of c)
 
 -- ---- a loop that marks the documents of terms
 

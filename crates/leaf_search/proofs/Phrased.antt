@@ -1,22 +1,26 @@
--- The steps by which the documents of a phrase are found.
-use Rattle.std.proofs.Common.{◌≡◌, ◌⊎◌, ℕ, suc, ◌+◌, ◌<◌, Bool, true, false, ◌||◌, List, [], ◌∷◌, ◌++◌, length, get_or, take, replicate, All, Some, slice_get, sym, ap, subst, ◌∙◌, inl, inr, arith}
-use Rattle.std.specs.List.{list_any, Contains}
-use Rattle.std.proofs.lemmas.Bool.{or_right}
-use Rattle.std.proofs.lemmas.List.{get_or-map, length-map, length-replicate, map_more}
-use Rattle.std.proofs.lemmas.List.Elements.{All-contains, Contains-get_or}
-use Rattle.std.proofs.lemmas.List.FromFn.{length-map-range_with_len}
+-- The words of a phrase by the ordinals of their terms.
+use Rattle.std.proofs.Common.{◌≡◌, ◌≢◌, ℕ, ◌+◌, ◌<◌, Bool, true, false, not, ◌&&◌, List, [], ◌∷◌, ◌++◌, length, get_or, take, All, Some, slice_get, refl, sym, ap, subst, ◌∙◌, inl, inr, arith, nat_lt}
+use Rattle.std.specs.List.{list_any, list_all, Contains}
+use Rattle.std.specs.Str.{bytes_eq}
+use Rattle.std.proofs.lemmas.Bool.{cases_Bool, false≢true, lt-ltb, ltb-true}
+use Rattle.std.proofs.lemmas.List.{get_or-map, length-map, map_more, get_or_default}
+use Rattle.std.proofs.lemmas.List.Folds.{list_all-map, list_all_at, list_any_at, list_any_none}
+use Rattle.std.proofs.lemmas.Option.{slice_get_within}
 use Rattle.analysis.specs.declared.token_list.Token.{Token}
-use Rattle.doc_values.specs.Values.{values_of}
 use Rattle.postings.specs.Marks.{has_document}
-use Rattle.segment.specs.Flat.{FlatDocument, flat_of, flats_of}
+use Rattle.query_ast.specs.Leaf.{is_any}
+use Rattle.segment.specs.Flat.{flat_of}
 use Rattle.segment.specs.Lists.{terms_of, postings_of}
-use Rattle.segment.specs.Live.{LiveState, IsLiveOver}
+use Rattle.segment.specs.Shows.{has_term, has_word_at, posts}
 use Rattle.segment_parts.specs.declared.columns.Columns.{Columns}
-use Rattle.leaf_search.specs.Cursors.{Keeps}
-use Rattle.leaf_search.specs.Sets.{Made, cut}
-use Rattle.segment.specs.Shows.{has_word_at}
-use Rattle.leaf_search.specs.Words.{AreOrdinals, folded_words, lists_at, shows_phrase}
-use Rattle.leaf_search.proofs.Phrasing.{length_cut, more_ordinals, none_left, no_ordinals, ordinals_within, phrase_by_lists, phrase_means, phrase_never, phrases_left}
+use Rattle.term_table.specs.Terms.{AreAscending}
+use Rattle.leaf_search.specs.Keys.{has_bytes, is_term}
+use Rattle.leaf_search.specs.Words.{AreOrdinals, Misses, all_posted, folded_words, lists_at, phrase_posted, shows_all, shows_phrase, shows_words}
+use Rattle.leaf_search.proofs.Alone.{stands_alone, stands_nowhere}
+use Rattle.leaf_search.proofs.Listing.{no_posts, one_posts}
+use Rattle.leaf_search.proofs.Once.{all_by_any}
+use Rattle.leaf_search.proofs.Tests.{and_false}
+use Rattle.leaf_search.proofs.Phrasing.{more_ordinals, phrase_never}
 
 -- ---- the ordinals of the words
 
@@ -30,62 +34,92 @@ ordinals_step terms table field tokens at token bytes items new ordinal inside i
     subst (λ (ws : List (List ℕ)). AreOrdinals terms field ws new) (sym words)
     (subst (AreOrdinals terms field (folded_words (take at tokens) ++ token.folded ∷ [])) (sym pushed) (more_ordinals terms field (folded_words (take at tokens)) items token.folded ordinal were there))
 
-pub missing_word : (c : Columns) (field doc : ℕ) (tokens : List Token) (at : ℕ) (token : Token) (bytes : List ℕ) → at < length tokens → token ≡ get_or tokens at token → bytes ≡ token.folded
-    → ((test : ℕ → Bool) → has_word_at field bytes test (flat_of c doc) ≡ false) → shows_phrase field (folded_words tokens) (flat_of c doc) ≡ false
-missing_word c field doc tokens at token bytes inside is own never =
+pub misses_word : (terms table : List (ℕ × List ℕ)) (field : ℕ) (tokens : List Token) (at : ℕ) (token : Token) (bytes : List ℕ) → at < length tokens → token ≡ get_or tokens at token → bytes ≡ token.folded → table ≡ terms
+    → (Contains table (field, bytes) → ⊥) → Misses terms field (folded_words tokens)
+misses_word terms table field tokens at token bytes inside is own same absent =
     let folded : Token → List ℕ = λ (t : Token). t.folded in
-    phrase_never field (flat_of c doc) bytes never (folded_words tokens) at (omega (arith, inside, length-map tokens folded))
-    (get_or-map folded tokens at token [] inside ∙ ap folded (sym is) ∙ sym own)
+    let there : get_or (folded_words tokens) at bytes ≡ bytes = get_or-map folded tokens at token bytes inside ∙ ap folded (sym is) ∙ sym own in
+    (bytes, (at, omega (arith, inside, length-map tokens folded), there), subst (λ (l : List (ℕ × List ℕ)). Contains l (field, bytes) → ⊥) same absent)
 
--- ---- the set
+-- ---- a word that the field doesn't have
 
-pub phrase_made : (c : Columns) (live : LiveState) (n field : ℕ) (words : List (List ℕ)) (ordinals : List ℕ) (rarest documents : ℕ) (empty marks cuts new : List Bool) → IsLiveOver c live → documents ≡ c.documents → empty ≡ replicate documents false
-    → ((doc ordinal : ℕ) (word : List ℕ) (test : ℕ → Bool) → slice_get (terms_of c) ordinal ≡ Some (field, word) → has_word_at field word test (flat_of c doc) ≡ list_any test (values_of doc (get_or (postings_of c) ordinal [])))
-    → AreOrdinals (terms_of c) field words ordinals → Contains ordinals rarest
-    → length marks ≡ length empty → ((doc : ℕ) → doc < length empty → get_or marks doc false ≡ (get_or empty doc false || has_document doc (get_or (postings_of c) rarest [])))
-    → cuts ≡ cut n marks live.docs (flats_of c) → Keeps (lists_at (postings_of c) ordinals) cuts new → Made c live n (shows_phrase field words) new
-phrase_made c live n field words ordinals rarest documents empty marks cuts new over many none law are one long marked is keeps =
-    let lists : List (List (ℕ × List ℕ)) = lists_at (postings_of c) ordinals in
-    let started : length empty ≡ c.documents = ap length none ∙ length-replicate documents false ∙ many in
-    let long2 : length marks ≡ c.documents = long ∙ started in
-    let flats_long : length (flats_of c) ≡ c.documents = length-map-range_with_len (flat_of c) 0 c.documents in
-    let kept : Keeps lists (cut n marks live.docs (flats_of c)) new = subst (λ (l : List Bool). Keeps lists l new) is keeps in
-    record {
-      long = kept.long ∙ length_cut n marks live.docs (flats_of c) (over.documents ∙ sym long2) (flats_long ∙ sym long2) ∙ long2;
-      is = phrases_left c n live.docs marks new lists (shows_phrase field words) over.documents long2
-          (λ doc below. phrase_by_lists c field doc (law doc) words ordinals are)
-          (λ doc below says.
-          let k : ℕ = one.0 in
-          let inside : k < length ordinals = one.1 in
-          let own : get_or ordinals k rarest ≡ rarest = one.2 in
-          let posted : get_or lists k [] ≡ get_or (postings_of c) rarest [] =
-          get_or-map (λ ordinal. get_or (postings_of c) ordinal []) ordinals k rarest [] inside ∙ ap (λ (o : ℕ). get_or (postings_of c) o []) own in
-          let there : has_document doc (get_or (postings_of c) rarest []) ≡ true =
-          ap (has_document doc) (sym posted) ∙ phrase_means lists doc k says (omega (arith, inside, length-map ordinals (λ ordinal. get_or (postings_of c) ordinal []))) in
-          marked doc (omega (arith, below, started)) ∙ or_right (get_or empty doc false) (has_document doc (get_or (postings_of c) rarest [])) there)
-          kept;
-    }
+pub phrase_missed : (c : Columns) (field doc : ℕ) (words : List (List ℕ)) → ((word : List ℕ) (test : ℕ → Bool) → (Contains (terms_of c) (field, word) → ⊥) → has_word_at field word test (flat_of c doc) ≡ false)
+    → Misses (terms_of c) field words → shows_phrase field words (flat_of c doc) ≡ false
+phrase_missed c field doc words law missed =
+    let word : List ℕ = missed.0 in
+    let there = missed.1 in
+    phrase_never field (flat_of c doc) word (λ test. law word test missed.2) words there.0 there.1 (get_or_default words there.0 [] word there.1 ∙ there.2)
 
-pub phrase_nowhere : (c : Columns) (live : LiveState) (n : ℕ) (test : FlatDocument → Bool) (documents : ℕ) (empty : List Bool) → IsLiveOver c live → documents ≡ c.documents → empty ≡ replicate documents false → ((doc : ℕ) → test (flat_of c doc) ≡ false) → Made c live n test empty
-phrase_nowhere c live n test documents empty over many none never =
-    let all : empty ≡ replicate c.documents false = none ∙ ap (λ (k : ℕ). replicate k false) many in
-    record {
-      long = ap length all ∙ length-replicate c.documents false;
-      is = all ∙ none_left c n live.docs test over.documents (λ doc below. never doc);
-    }
+-- ---- terms by lists
 
--- a phrase without words stands nowhere
-pub no_words : (c : Columns) (field doc : ℕ) (words : List (List ℕ)) (ordinals : List ℕ) → AreOrdinals (terms_of c) field words ordinals → ordinals ≡ [] → shows_phrase field words (flat_of c doc) ≡ false
-no_words c field doc words ordinals are none =
-    ap (λ (ws : List (List ℕ)). shows_phrase field ws (flat_of c doc)) (no_ordinals (terms_of c) field words (subst (AreOrdinals (terms_of c) field words) none are))
+any_is : (xs : List ℕ) → is_any xs ≡ list_any (λ x. true) xs
+any_is [] = refl
+any_is (x ∷ xs) = refl
 
-pub rarest_within : (terms : List (ℕ × List ℕ)) (field : ℕ) (words : List (List ℕ)) (ordinals : List ℕ) (rarest : ℕ) → AreOrdinals terms field words ordinals → Contains ordinals rarest → rarest < length terms
-rarest_within terms field words ordinals rarest are one = All-contains (λ ordinal. ordinal < length terms) ordinals rarest (ordinals_within terms field words ordinals are) one
+any_ordinals : (terms : List (ℕ × List ℕ)) (field : ℕ) (words : List (List ℕ)) (ordinals : List ℕ) → AreOrdinals terms field words ordinals → is_any words ≡ is_any ordinals
+any_ordinals terms field [] [] are = refl
+any_ordinals terms field [] (ordinal ∷ ordinals) are = absurd are
+any_ordinals terms field (word ∷ words) [] are = absurd are
+any_ordinals terms field (word ∷ words) (ordinal ∷ ordinals) are = refl
 
--- of two terms one is kept
-pub rarer_kept : (first : ℕ) (others : List ℕ) (bound best at x new : ℕ) → Contains (first ∷ others) best × (best < bound) → at < length others → x ≡ get_or others at 0 → All (λ ordinal. ordinal < bound) others → (new ≡ best) ⊎ (new ≡ x)
-    → Contains (first ∷ others) new × (new < bound)
-rarer_kept first others bound best at x new was inside is all (inl same) = (subst (Contains (first ∷ others)) (sym same) was.0, omega (arith, same, was.1))
-rarer_kept first others bound best at x new was inside is all (inr other) =
-    let there : new ≡ get_or others at 0 = other ∙ is in
-    (subst (Contains (first ∷ others)) (sym there) (Contains-get_or (first ∷ others) (suc at) 0 (omega (arith, inside))), omega (arith, there, all at 0 inside))
+pub none_any : (xs : List ℕ) (b : Bool) → length xs ≡ 0 → (is_any xs && b) ≡ false
+none_any [] b none = refl
+none_any (x ∷ xs) b none = absurd (omega (arith, none))
+
+pub some_any : (xs : List ℕ) (b : Bool) → length xs ≢ 0 → b ≡ (is_any xs && b)
+some_any [] b some = absurd (some refl)
+some_any (x ∷ xs) b some = refl
+
+-- a phrase of no words
+pub no_phrase : (lists : List (List (ℕ × List ℕ))) (ordinals : List ℕ) (doc : ℕ) → length ordinals ≡ 0 → phrase_posted (lists_at lists ordinals) doc ≡ false
+no_phrase lists [] doc none = refl
+no_phrase lists (ordinal ∷ ordinals) doc none = absurd (omega (arith, none))
+
+-- what holds of the ordinals below a number
+pub within_kept : (bound : ℕ) (ordinals found : List ℕ) → ((test : ℕ → Bool) → list_any test found ≡ list_any test ordinals) → All (λ ordinal. ordinal < bound) ordinals → All (λ ordinal. ordinal < bound) found
+within_kept bound ordinals found same all = λ k d inside. elim (cases_Bool (nat_lt (get_or found k d) bound)) [
+  | inl below ↦ ltb-true (get_or found k d) bound below
+  | inr not_below ↦
+      let fails : ℕ → Bool = λ ordinal. not (nat_lt ordinal bound) in
+      let never : list_any fails ordinals ≡ false = list_any_none fails ordinals (λ j e within. ap not (lt-ltb (get_or ordinals j e) bound (all j e within))) in
+      let some : list_any fails found ≡ true = list_any_at fails found k d inside (ap not not_below) in
+      absurd (false≢true (sym never ∙ sym (same fails) ∙ some))
+]
+
+module _ (c : Columns) (field doc : ℕ) (law : (test : List ℕ → Bool) → list_any (posts field doc test) c.terms ≡ has_term field test (flat_of c doc)) where
+  term_by_list : (ordinal : ℕ) (word : List ℕ) → AreAscending (terms_of c) → slice_get (terms_of c) ordinal ≡ Some (field, word) → has_bytes field (flat_of c doc) word ≡ has_document doc (get_or (postings_of c) ordinal [])
+  term_by_list ordinal word ascend is =
+      sym (one_posts doc (is_term field word) c.terms ordinal (slice_get_within (terms_of c) ordinal (field, word) is) (stands_alone (terms_of c) field word ordinal ascend is) ∙ law (bytes_eq word))
+
+  all_by_ordinals : (words : List (List ℕ)) (ordinals : List ℕ) → AreAscending (terms_of c) → AreOrdinals (terms_of c) field words ordinals
+      → shows_all field words (flat_of c doc) ≡ list_all (λ ordinal. has_document doc (get_or (postings_of c) ordinal [])) ordinals
+  all_by_ordinals [] [] ascend are = refl
+  all_by_ordinals [] (ordinal ∷ ordinals) ascend are = absurd are
+  all_by_ordinals (word ∷ words) [] ascend are = absurd are
+  all_by_ordinals (word ∷ words) (ordinal ∷ ordinals) ascend are =
+      rw (term_by_list ordinal word ascend are.0, all_by_ordinals words ordinals ascend are.1) refl
+
+  -- of distinct ordinals
+  pub all_by_lists : (words : List (List ℕ)) (ordinals found : List ℕ) → AreAscending (terms_of c) → AreOrdinals (terms_of c) field words ordinals → ((test : ℕ → Bool) → list_any test found ≡ list_any test ordinals)
+      → shows_words true field words (flat_of c doc) ≡ (is_any found && all_posted (lists_at (postings_of c) found) doc)
+  all_by_lists words ordinals found ascend are same =
+      let test : ℕ → Bool = λ ordinal. has_document doc (get_or (postings_of c) ordinal []) in
+      let some : is_any words ≡ is_any found = any_ordinals (terms_of c) field words ordinals are ∙ any_is ordinals ∙ sym (same (λ x. true)) ∙ sym (any_is found) in
+      let all : shows_all field words (flat_of c doc) ≡ all_posted (lists_at (postings_of c) found) doc =
+      all_by_ordinals words ordinals ascend are
+      ∙ all_by_any test ordinals
+      ∙ ap not (sym (same (λ ordinal. not (test ordinal))))
+      ∙ sym (all_by_any test found)
+      ∙ sym (list_all-map (has_document doc) (λ ordinal. get_or (postings_of c) ordinal []) found) in
+      ap (λ (b : Bool). b && shows_all field words (flat_of c doc)) some ∙ ap (λ (b : Bool). is_any found && b) all
+
+  missed_term : (word : List ℕ) → (Contains (terms_of c) (field, word) → ⊥) → has_bytes field (flat_of c doc) word ≡ false
+  missed_term word absent = sym (law (bytes_eq word)) ∙ no_posts doc (is_term field word) c.terms (stands_nowhere (terms_of c) field word absent)
+
+  pub all_missed : (words : List (List ℕ)) → Misses (terms_of c) field words → shows_words true field words (flat_of c doc) ≡ false
+  all_missed words missed =
+      let word : List ℕ = missed.0 in
+      let there = missed.1 in
+      ap (λ (b : Bool). is_any words && b)
+      (list_all_at (has_bytes field (flat_of c doc)) words there.0 word there.1 (ap (has_bytes field (flat_of c doc)) there.2 ∙ missed_term word missed.2))
+      ∙ and_false (is_any words)

@@ -11,7 +11,6 @@ use Rattle.postings.specs.Marks.{has_document}
 use Rattle.segment.specs.Flat.{FlatDocument, flat_of, flats_of}
 use Rattle.segment.specs.Lists.{terms_of, postings_of}
 use Rattle.segment_parts.specs.declared.columns.Columns.{Columns}
-use Rattle.leaf_search.specs.Cursors.{Keeps}
 use Rattle.leaf_search.specs.Sets.{cut}
 use Rattle.segment.specs.Shows.{has_word_at, is_word_at}
 use Rattle.leaf_search.specs.Words.{AreOrdinals, lists_at, phrase_posted, run_posted, run_stands, shows_phrase}
@@ -81,10 +80,6 @@ ordinals_within terms field words ordinals are = λ k d inside. within words ord
     within (word ∷ words) (ordinal ∷ ordinals) are zero d inside = slice_get_within terms ordinal (field, word) are.0
     within (word ∷ words) (ordinal ∷ ordinals) are (suc k) d inside = within words ordinals are.1 k d (omega (arith, inside))
 
-pub no_ordinals : (terms : List (ℕ × List ℕ)) (field : ℕ) (words : List (List ℕ)) → AreOrdinals terms field words [] → words ≡ []
-no_ordinals terms field [] are = refl
-no_ordinals terms field (word ∷ words) are = absurd are
-
 pub more_ordinals : (terms : List (ℕ × List ℕ)) (field : ℕ) (words : List (List ℕ)) (ordinals : List ℕ) (word : List ℕ) (ordinal : ℕ) → AreOrdinals terms field words ordinals → slice_get terms ordinal ≡ Some (field, word)
     → AreOrdinals terms field (words ++ word ∷ []) (ordinals ++ ordinal ∷ [])
 more_ordinals terms field [] [] word ordinal are is = (is, tt)
@@ -120,7 +115,7 @@ length_cut n (mark ∷ marks) [] flats e f = absurd (omega (arith, e))
 length_cut n (mark ∷ marks) (live ∷ lives) [] e f = absurd (omega (arith, f))
 length_cut n (mark ∷ marks) (live ∷ lives) (d ∷ flats) e f = omega (arith, length_cut n marks lives flats (omega (arith, e)) (omega (arith, f)))
 
-cut_at : (n : ℕ) (marks lives : List Bool) (flats : List FlatDocument) (k : ℕ) (d : FlatDocument) → length lives ≡ length marks → length flats ≡ length marks → k < length marks
+pub cut_at : (n : ℕ) (marks lives : List Bool) (flats : List FlatDocument) (k : ℕ) (d : FlatDocument) → length lives ≡ length marks → length flats ≡ length marks → k < length marks
     → get_or (cut n marks lives flats) k false ≡ (get_or lives k false && (nat_eq (get_or flats k d).scope n && get_or marks k false))
 cut_at n [] lives flats k d e f inside = absurd (omega (arith, inside))
 cut_at n (mark ∷ marks) [] flats k d e f inside = absurd (omega (arith, e))
@@ -128,40 +123,7 @@ cut_at n (mark ∷ marks) (live ∷ lives) [] k d e f inside = absurd (omega (ar
 cut_at n (mark ∷ marks) (live ∷ lives) (own ∷ flats) zero d e f inside = refl
 cut_at n (mark ∷ marks) (live ∷ lives) (own ∷ flats) (suc k) d e f inside = cut_at n marks lives flats k d (omega (arith, e)) (omega (arith, f)) (omega (arith, inside))
 
--- ---- what is left of the documents of one of the words
-
-and_kept : (a b marked says : Bool) → (says ≡ true → marked ≡ true) → ((a && (b && marked)) && says) ≡ (a && (b && says))
-and_kept false b marked says means = refl
-and_kept true false marked says means = refl
-and_kept true true true says means = refl
-and_kept true true false false means = refl
-and_kept true true false true means = means refl
-
-pub phrases_left : (c : Columns) (n : ℕ) (lives marks new : List Bool) (lists : List (List (ℕ × List ℕ))) (test : FlatDocument → Bool)
-    → length lives ≡ c.documents → length marks ≡ c.documents
-    → ((doc : ℕ) → doc < c.documents → test (flat_of c doc) ≡ phrase_posted lists doc)
-    → ((doc : ℕ) → doc < c.documents → phrase_posted lists doc ≡ true → get_or marks doc false ≡ true)
-    → Keeps lists (cut n marks lives (flats_of c)) new
-    → new ≡ cut n (map test (flats_of c)) lives (flats_of c)
-phrases_left c n lives marks new lists test live long says means keeps =
-    let flats : List FlatDocument = flats_of c in
-    let many : length flats ≡ c.documents = length-map-range_with_len (flat_of c) 0 c.documents in
-    let tests : length (map test flats) ≡ c.documents = length-map flats test ∙ many in
-    let one : length (cut n marks lives flats) ≡ c.documents = length_cut n marks lives flats (live ∙ sym long) (many ∙ sym long) ∙ long in
-    let other : length (cut n (map test flats) lives flats) ≡ c.documents = length_cut n (map test flats) lives flats (live ∙ sym tests) (many ∙ sym tests) ∙ tests in
-    ext_get_or false new (cut n (map test flats) lives flats) (keeps.long ∙ one ∙ sym other)
-    (λ k below.
-    let inside : k < c.documents = omega (arith, below, keeps.long, one) in
-    let d : FlatDocument = flat_of c k in
-    let marked : get_or (map test flats) k false ≡ phrase_posted lists k =
-    get_or-map test flats k d false (omega (arith, inside, many))
-    ∙ ap test (get_or-map-range_with_len (flat_of c) 0 c.documents k k d inside (omega arith))
-    ∙ says k inside in
-    keeps.kept k (omega (arith, inside, one))
-    ∙ ap (λ (b : Bool). b && phrase_posted lists k) (cut_at n marks lives flats k d (live ∙ sym long) (many ∙ sym long) (omega (arith, inside, long)))
-    ∙ and_kept (get_or lives k false) (nat_eq (get_or flats k d).scope n) (get_or marks k false) (phrase_posted lists k) (means k inside)
-    ∙ ap (λ (b : Bool). get_or lives k false && (nat_eq (get_or flats k d).scope n && b)) (sym marked)
-    ∙ sym (cut_at n (map test flats) lives flats k d (live ∙ sym tests) (many ∙ sym tests) (omega (arith, inside, tests))))
+-- ---- where no document passes
 
 and_never : (a b : Bool) → (a && (b && false)) ≡ false
 and_never a b = ap (λ (t : Bool). a && t) (and_false b) ∙ and_false a

@@ -1,27 +1,18 @@
 -- Sets that are joined and met.
-use Rattle.std.proofs.Common.{◌≡◌, ◌≢◌, ℕ, zero, suc, ◌+◌, ◌<◌, ◌≤◌, Bool, true, false, ◌&&◌, ◌||◌, List, [], ◌∷◌, length, map, get_or, take, replicate, All, Some, refl, sym, ap, subst, ◌∙◌, inl, inr, arith, nat_eq}
-use Rattle.std.specs.List.{list_all}
-use Rattle.std.specs.Str.{bytes_eq}
+use Rattle.std.proofs.Common.{◌≡◌, ℕ, zero, suc, ◌<◌, ◌≤◌, Bool, false, ◌&&◌, ◌||◌, List, [], ◌∷◌, length, get_or, replicate, All, Some, refl, sym, ap, ◌∙◌, inl, inr, arith, nat_eq}
 use Rattle.std.proofs.lemmas.Bool.{cases_Bool}
-use Rattle.std.proofs.lemmas.List.{get_or_default, get_or-replicate, length-replicate, get_or_read, take_all}
+use Rattle.std.proofs.lemmas.List.{get_or_read}
 use Rattle.std.proofs.lemmas.List.Elements.{All-head, All-tail}
-use Rattle.std.proofs.lemmas.List.Folds.{list_all_more, list_all-map}
 use Rattle.std.proofs.lemmas.List.FromFn.{length-map-range_with_len}
-use denote.Ref.{Bor}
-use Rattle.analysis.specs.declared.token_list.Token.{Token}
 use Rattle.block_bits.specs.Flags.{cleared, intersection, union}
 use Rattle.segment.specs.Agree.{AreColumns}
 use Rattle.segment.specs.Fields.{column_of}
 use Rattle.segment.specs.Flat.{FlatDocument, flat_of, flats_of}
 use Rattle.segment.specs.Parts.{IsPresence}
 use Rattle.segment_parts.specs.declared.columns.Columns.{Columns}
-use Rattle.leaf_search.specs.Keys.{has_bytes}
 use Rattle.leaf_search.specs.Sets.{Gains, cut}
-use Rattle.segment.specs.Shows.{has_term, has_text, column_flag}
-use Rattle.leaf_search.specs.Words.{folded_words, shows_some, shows_all, shows_words}
+use Rattle.segment.specs.Shows.{has_text, column_flag}
 use Rattle.leaf_search.proofs.Cutting.{cut_sets, cut_none, scope_set, cleared_all, all_flats}
-use Rattle.leaf_search.proofs.Once.{lent_words}
-use Rattle.leaf_search.proofs.Gaining.{Has, has_all}
 
 -- ---- pairs of flags
 
@@ -36,7 +27,7 @@ length_union [] others e = refl
 length_union (one ∷ ones) [] e = absurd (omega (arith, e))
 length_union (one ∷ ones) (other ∷ others) e = omega (arith, length_union ones others (omega (arith, e)))
 
-meet_at : (ones others : List Bool) (at : ℕ) → at < length ones → length ones ≡ length others → get_or (intersection ones others) at false ≡ (get_or ones at false && get_or others at false)
+pub meet_at : (ones others : List Bool) (at : ℕ) → at < length ones → length ones ≡ length others → get_or (intersection ones others) at false ≡ (get_or ones at false && get_or others at false)
 meet_at [] others at below e = absurd (omega (arith, below))
 meet_at (one ∷ ones) [] at below e = absurd (omega (arith, e))
 meet_at (one ∷ ones) (other ∷ others) zero below e = refl
@@ -87,54 +78,3 @@ kept_none c n marks lives past law long live =
     cleared_all (intersection marks lives)
     ∙ ap (λ (k : ℕ). replicate k false) (length_meet marks lives (long ∙ sym live))
     ∙ sym (cut_none n marks lives (flats_of c) (all_flats c (λ (d : FlatDocument). d.scope < n) (λ doc below. omega (arith, law doc below))) (live ∙ sym long) (length-map-range_with_len (flat_of c) 0 c.documents ∙ sym long))
-
--- ---- words
-
-pub has_full : (c : Columns) (f : ℕ) → Has c (shows_all f []) (replicate c.documents true)
-has_full c f = record {
-  long = length-replicate c.documents true;
-  marked = λ doc below. get_or-replicate c.documents doc true false below;
-}
-
-pub all_more : (c : Columns) (f : ℕ) (tokens : List (Bor (List ℕ))) (at : ℕ) (token : Bor (List ℕ)) (now own : List Bool) → at < length tokens → token ≡ get_or tokens at token
-    → Has c (shows_all f (lent_words (take at tokens))) now → Gains c (has_term f (bytes_eq token.now)) (replicate c.documents false) own → Has c (shows_all f (lent_words (take (at + 1) tokens))) (intersection now own)
-all_more c f tokens at token now own inside is was gains =
-    let long : length own ≡ c.documents = gains.long ∙ length-replicate c.documents false in
-    let same : length now ≡ length own = was.long ∙ sym long in
-    record {
-      long = length_meet now own same ∙ was.long;
-      marked = λ doc below.
-          let d : FlatDocument = flat_of c doc in
-          let test : Bor (List ℕ) → Bool = λ (t : Bor (List ℕ)). has_bytes f d t.now in
-          let one : get_or own doc false ≡ test token = gains.marked doc (omega (arith, length-replicate c.documents false)) ∙ ap (λ (b : Bool). b || test token) (get_or-replicate c.documents doc false false below) in
-          meet_at now own doc (omega (arith, was.long)) same
-          ∙ ap (λ (b : Bool). b && get_or own doc false) (was.marked doc below ∙ list_all-map (has_bytes f d) (λ (t : Bor (List ℕ)). t.now) (take at tokens))
-          ∙ ap (λ (b : Bool). list_all test (take at tokens) && b) one
-          ∙ sym (list_all_more test tokens at token inside ∙ ap (λ (t : Bor (List ℕ)). list_all test (take at tokens) && test t) (sym is))
-          ∙ sym (list_all-map (has_bytes f d) (λ (t : Bor (List ℕ)). t.now) (take (at + 1) tokens));
-    }
-
-pub all_all : (c : Columns) (f : ℕ) (tokens : List (Bor (List ℕ))) (at : ℕ) (set : List Bool) → length tokens ≤ at → Has c (shows_all f (lent_words (take at tokens))) set → set ≡ map (shows_all f (lent_words tokens)) (flats_of c)
-all_all c f tokens at set past has =
-    has_all c (shows_all f (lent_words tokens)) set (subst (λ (ts : List (Bor (List ℕ))). Has c (shows_all f (lent_words ts)) set) (take_all at tokens past) has)
-
-pub all_step : (c : Columns) (f : ℕ) (tokens : List (Bor (List ℕ))) (at : ℕ) (d : Bor (List ℕ)) (now : List Bool) (documents : ℕ) (empty own new : List Bool) → at < length tokens
-    → Has c (shows_all f (lent_words (take at tokens))) now → documents ≡ c.documents → empty ≡ replicate documents false → Gains c (has_term f (bytes_eq (get_or tokens at d).now)) empty own → new ≡ intersection now own
-    → Has c (shows_all f (lent_words (take (at + 1) tokens))) new
-all_step c f tokens at d now documents empty own new inside was many none gains met =
-    let token : Bor (List ℕ) = get_or tokens at d in
-    subst (Has c (shows_all f (lent_words (take (at + 1) tokens)))) (sym met)
-    (all_more c f tokens at token now own inside (sym (get_or_default tokens at token d inside)) was (subst (λ (old : List Bool). Gains c (has_term f (bytes_eq token.now)) old own) (none ∙ ap (λ (k : ℕ). replicate k false) many) gains))
-
--- which of the two loops answers
-pub some_asked : (c : Columns) (all : Bool) (f : ℕ) (tokens : List Token) → all ≡ false → map (shows_some f (folded_words tokens)) (flats_of c) ≡ map (shows_words all f (folded_words tokens)) (flats_of c)
-some_asked c all f tokens some = ap (λ (b : Bool). map (shows_words b f (folded_words tokens)) (flats_of c)) (sym some)
-
-pub none_asked : (c : Columns) (all : Bool) (f : ℕ) (tokens : List Token) → length tokens ≡ 0 → map (shows_some f (folded_words tokens)) (flats_of c) ≡ map (shows_words all f (folded_words tokens)) (flats_of c)
-none_asked c true f [] none = refl
-none_asked c false f [] none = refl
-none_asked c all f (token ∷ tokens) none = absurd (omega (arith, none))
-
-pub all_asked : (c : Columns) (all : Bool) (f : ℕ) (tokens : List Token) → all ≡ true → length tokens ≢ 0 → map (shows_all f (folded_words tokens)) (flats_of c) ≡ map (shows_words all f (folded_words tokens)) (flats_of c)
-all_asked c all f [] every some = absurd (some refl)
-all_asked c all f (token ∷ tokens) every some = ap (λ (b : Bool). map (shows_words b f (folded_words (token ∷ tokens))) (flats_of c)) (sym every)

@@ -32,3 +32,12 @@ pub record Made (columns : Columns) (live : LiveState) (n : ℕ) (test : FlatDoc
 pub record MadeOfRoots (columns : Columns) (live : LiveState) (n : ℕ) (test : FlatRoot → Bool) (set : List Bool) : Type 0 where
   pub long : length set ≡ columns.documents
   pub is : set ≡ cut n (root_marks test (roots_of columns) (flats_of columns)) live.docs (flats_of columns)
+
+-- a set of the documents that pass
+pub record Marks (documents : ℕ) (keep : ℕ → Bool) (set : List Bool) : Type 0 where
+  pub long : length set ≡ documents
+  pub marked : (doc : ℕ) → doc < documents → slice_index_or set doc false ≡ keep doc
+
+-- the live documents of a scope that pass, for any test of flat documents that says the same
+abbrev pub MadeByLists : Columns → LiveState → ℕ → (ℕ → Bool) → List Bool → Type 0
+MadeByLists columns live n keep set = (test : FlatDocument → Bool) → ((doc : ℕ) → test (flat_of columns doc) ≡ keep doc) → Made columns live n test set

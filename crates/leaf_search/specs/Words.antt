@@ -1,8 +1,9 @@
 -- Words and phrases by what a flat document shows.
-use Rattle.std.specs.Prelude.{◌≡◌, ℕ, ◌+◌, ◌==◌, Bool, true, false, ◌&&◌, List, [], ◌∷◌, map, slice_get, slice_index_or, Some, ⊤}
-use Rattle.std.specs.List.{list_any, list_all}
+use Rattle.std.specs.Prelude.{◌≡◌, ℕ, ◌+◌, ◌-◌, ◌==◌, Bool, true, false, ◌&&◌, nat_le, List, [], ◌∷◌, length, map, slice_get, slice_index_or, Some, ⊤}
+use Rattle.std.specs.List.{list_any, list_all, Contains}
 use Rattle.analysis.specs.declared.token_list.Token.{Token}
 use Rattle.doc_values.specs.Values.{values_of}
+use Rattle.postings.specs.Marks.{has_document}
 use Rattle.query_ast.specs.Leaf.{is_any}
 use Rattle.segment.specs.Flat.{FlatDocument}
 use Rattle.segment.specs.Shows.{has_word_at}
@@ -45,6 +46,24 @@ run_posted (list ∷ lists) doc at = list_any (λ p. p == at) (values_of doc lis
 abbrev pub phrase_posted : List (List (ℕ × List ℕ)) → ℕ → Bool
 phrase_posted [] doc = false
 phrase_posted (list ∷ lists) doc = list_any (λ p. run_posted lists doc (p + 1)) (values_of doc list)
+
+-- the words before a position end there, and others begin behind it
+abbrev pub stands_around : List (List (ℕ × List ℕ)) → List (List (ℕ × List ℕ)) → ℕ → ℕ → Bool
+stands_around before behind doc at =
+    nat_le (length before) at && (run_posted before doc (at - length before) && run_posted behind doc (at + 1))
+
+-- the document has all of the words
+abbrev pub all_posted : List (List (ℕ × List ℕ)) → ℕ → Bool
+all_posted lists doc = list_all (has_document doc) lists
+
+-- it has all of them, one after the other or anywhere
+abbrev pub posted : Bool → List (List (ℕ × List ℕ)) → ℕ → Bool
+posted true lists doc = phrase_posted lists doc
+posted false lists doc = all_posted lists doc
+
+-- a field doesn't have one of some words
+abbrev pub Misses : List (ℕ × List ℕ) → ℕ → List (List ℕ) → Type 0
+Misses terms field words = (word : List ℕ) × Contains words word × (Contains terms (field, word) → ⊥)
 
 -- each word of a field with its ordinal
 abbrev pub AreOrdinals : List (ℕ × List ℕ) → ℕ → List (List ℕ) → List ℕ → Type 0

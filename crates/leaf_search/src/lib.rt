@@ -5,6 +5,7 @@
 //! objects of a scope at which the leaf holds. Begin with `leaf`, then `terms`, and for the meaning with `specs/Found`.
 #![tactic(auto)]
 
+mod conjunction;
 mod distinct;
 mod exists;
 mod ids;
@@ -14,6 +15,7 @@ mod no_memory;
 mod on_field;
 mod on_kind;
 mod on_roots;
+mod ordinals;
 mod phrase;
 mod roots;
 mod scoped;

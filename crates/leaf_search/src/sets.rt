@@ -18,7 +18,7 @@ use crate::ids::id_marks;
 use crate::roots::{RootTest, root_marks};
 use crate::scoped::keep_live;
 use crate::terms::{mark_between, mark_prefix, mark_value, mark_values};
-use crate::words::word_marks;
+use crate::words::{all_set, some_marks};
 use analysis::Token;
 use block_bits::BitSet;
 use mapping::{Bytes, Mapping};
@@ -154,7 +154,10 @@ pub(crate) fn word_set(
     requires { IsLiveOver segment.now live.now }
     ensures { IfOk result (Made segment.now live.now scope (shows_words all field (folded_words words.now))) }
 {
-    let mut set = word_marks(alloc, segment, field, words, all)?;
+    if all {
+        return Ok(all_set(alloc, segment, live, scope, field, words)?);
+    }
+    let mut set = some_marks(alloc, segment, field, words)?;
     keep_live(&mut set, segment, live, scope);
     Ok(set)
 }
