@@ -73,8 +73,7 @@ kept_scope c n marks lives own agree inside is law =
     ∙ cut_sets n marks lives (flats_of c)
 
 pub kept_none : (c : Columns) (n : ℕ) (marks lives : List Bool) → length c.scopes ≤ n → ((doc : ℕ) → doc < c.documents → (flat_of c doc).scope < length c.scopes) → length marks ≡ c.documents → length lives ≡ c.documents
-    → cleared 0 (length (intersection marks lives)) (intersection marks lives) ≡ cut n marks lives (flats_of c)
+    → cleared 0 (length marks) marks ≡ cut n marks lives (flats_of c)
 kept_none c n marks lives past law long live =
-    cleared_all (intersection marks lives)
-    ∙ ap (λ (k : ℕ). replicate k false) (length_meet marks lives (long ∙ sym live))
+    cleared_all marks
     ∙ sym (cut_none n marks lives (flats_of c) (all_flats c (λ (d : FlatDocument). d.scope < n) (λ doc below. omega (arith, law doc below))) (live ∙ sym long) (length-map-range_with_len (flat_of c) 0 c.documents ∙ sym long))

@@ -10,7 +10,7 @@ use block_bits::BitSet;
 use segment::{LiveBits, Segment, scopes_are_of_documents};
 use std::alloc::Global;
 
-/// Keeps the live documents of a scope: word by word, two passes over the set.
+/// Keeps the live documents of a scope: word by word, one pass over the set.
 pub(crate) fn keep_live(set: &mut BitSet, segment: &Segment, live: &LiveBits, scope: u32)
     requires long { length set.old ≡ segment.now.documents }
     requires live { IsLiveOver segment.now live.now }
@@ -18,10 +18,9 @@ pub(crate) fn keep_live(set: &mut BitSet, segment: &Segment, live: &LiveBits, sc
 {
     scopes_are_of_documents(segment);
     let _documents = segment.docs();
-    set.and(live.documents());
     let scopes = segment.scopes().as_slice();
     if (scope as usize) < scopes.len() {
-        set.and(&scopes[scope as usize]);
+        set.and_both(live.documents(), &scopes[scope as usize]);
     } else {
         let len = set.len();
         set.clear_range(0, len);
