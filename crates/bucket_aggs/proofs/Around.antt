@@ -10,7 +10,7 @@ use Rattle.mapping_body.specs.declared.kind.Kind.{Kind}
 use Rattle.postings.specs.Marks.{has_document}
 use Rattle.query_ast.specs.Compare.{is_same_value}
 use Rattle.query_ast.specs.Uses.{is_written}
-use Rattle.query_eval.specs.Counted.{up_marks, up_total}
+use Rattle.query_eval.specs.Counted.{up_marks}
 use Rattle.query_eval.specs.Folds.{scopes_in}
 use Rattle.query_eval.specs.Found.{AreLong}
 use Rattle.segment.specs.Flat.{bytes_at, flat_of}
@@ -24,7 +24,7 @@ use Rattle.term_table.specs.Ranges.{IsRange, is_of_field}
 use Rattle.term_table.specs.Terms.{AreAscending}
 use Rattle.tree_objects.specs.declared.field_value.FieldValue.{FieldValue}
 use Rattle.tree_objects.specs.declared.field_value.FieldValue.TheVariants.{Written}
-use Rattle.bucket_aggs.specs.Counts.{AreUps, IsTermSet, counts_of, cut_from, has_ordinal, ordinal_ups, passed_from, passed_of_view, shown_ups, shows, view_ups}
+use Rattle.bucket_aggs.specs.Counts.{AreUps, IsTermSet, counts_of, cut_from, has_ordinal, ordinal_ups, passed_from, shown_ups, shows, view_ups}
 use Rattle.bucket_aggs.proofs.Listed.{posted_same, rows_have}
 use Rattle.bucket_aggs.proofs.Lists.{Each, and_false, by_test}
 use Rattle.bucket_aggs.proofs.Numbered.{HaveKeywords, shown_text}

@@ -31,12 +31,12 @@ use Rattle.bucket_aggs.proofs.Weights.{Rows}
 weighs_more : (v : FieldValue) (row : CountRow) (rows : Rows) → weight v (row ∷ rows) ≡ weight_in v row + weight v rows
 weighs_more v row rows = sum_by-cons (weight_in v) row rows
 
-none_weighs : (v : FieldValue) (rows : Rows) → Each (λ (row : CountRow). is_same_value v row.key ≡ false) rows → weight v rows ≡ 0
+pub none_weighs : (v : FieldValue) (rows : Rows) → Each (λ (row : CountRow). is_same_value v row.key ≡ false) rows → weight v rows ≡ 0
 none_weighs v [] h = refl
 none_weighs v (row ∷ rows) h = omega (arith, weighs_more v row rows, ap (λ (b : Bool). cond b row.count 0) h.0, none_weighs v rows h.1)
 
 -- what a key weighs is the count of its row
-counts_own : (rows : Rows) → KeysAscend rows → Each (λ (row : CountRow). weight row.key rows ≡ row.count) rows
+pub counts_own : (rows : Rows) → KeysAscend rows → Each (λ (row : CountRow). weight row.key rows ≡ row.count) rows
 counts_own [] a = tt
 counts_own (row ∷ rows) a =
     let none : weight row.key rows ≡ 0 =

@@ -59,6 +59,9 @@ module _ {K : Type 0} (R : K → K → Ordering) (o : IsTotalOrder R) (exact : (
   pub less_back : (a b : K) → less a b ≡ true → same b a ≡ false
   less_back a b h = ap is_eq (o.antisymm b a ∙ ap ordering_reverse (lt_is (R a b) h))
 
+  pub less_once : (a b : K) → less a b ≡ true → less b a ≡ false
+  less_once a b h = ap is_lt (o.antisymm b a ∙ ap ordering_reverse (lt_is (R a b) h))
+
   pub less_on : (a b c : K) → less a b ≡ true → less b c ≡ true → less a c ≡ true
   less_on a b c h g = ap is_lt (o.trans a b c (lt_is (R a b) h) (lt_is (R b c) g))
 

@@ -15,6 +15,7 @@ pub mod Placed
 pub mod Listed
 pub mod Viewed
 pub mod Groups
+pub mod Searched
 pub mod Told
 pub mod Sums
 pub mod Least

@@ -13,7 +13,7 @@ ghost use Rattle.segment_parts.specs.Text.{marked_places};
 ghost use Rattle.term_table.specs.Ranges.{IsRange, is_of_field};
 ghost use Rattle.tree_objects.specs.declared.field_value.FieldValue.{FieldValue as Value};
 ghost use Rattle.postings.specs.Marks.{has_document};
-ghost use Rattle.bucket_aggs.specs.Counts.{AreCounts, AreKeys, AreUps, Counted, UpsWeighed, Weighed, cut_from, flats_of_view, is_posted, view_ups, weight};
+ghost use Rattle.bucket_aggs.specs.Counts.{AreCounts, AreKeys, AreUps, Counted, KeysAscend, UpsWeighed, Weighed, cut_from, flats_of_view, is_posted, view_ups, weight};
 
 use crate::NoMemory;
 use crate::posted::term_set;
@@ -193,18 +193,13 @@ fn count_at_once(
     Ok((u64::from(own.count()), u64::from(up)))
 }
 
-/// The sum of the counts of the rows of a key.
-pub(crate) fn count_of_key(rows: &[CountRow], key: &FieldValue) -> Result<u64, NoMemory>
-    ensures { IfOk result (λ count. count ≡ weight key.now rows.now) }
+/// The count that rows by ascending key have of a key, found by halves.
+pub(crate) fn count_of_key(rows: &[CountRow], key: &FieldValue) -> u64
+    requires { KeysAscend rows.now }
+    ensures { result ≡ weight key.now rows.now }
 {
-    let mut count: u64 = 0;
-    'rows: for row in rows {
-        if compared(key, &row.key).is_eq() {
-            let Some(more) = count.checked_add(row.count) else {
-                return Err(NoMemory);
-            };
-            count = more;
-        }
+    match rows.binary_search_by(|row| compared(&row.key, key)) {
+        Ok(at) => rows[at].count,
+        Err(_) => 0,
     }
-    Ok(count)
 }

@@ -11,13 +11,13 @@ ghost use Rattle.query_ast.specs.declared.agg.AggForm.{AggForm};
 ghost use Rattle.query_eval.specs.Found.{AreLong, IsSeen};
 ghost use Rattle.tree_objects.specs.Object.{Object};
 ghost use Rattle.tree_objects.specs.Tree.{Tree};
-ghost use Rattle.bucket_aggs.specs.Counts.{facet_of};
+ghost use Rattle.bucket_aggs.specs.Counts.{KeysAscend, facet_of};
 ghost use Rattle.bucket_aggs.specs.Given.{IsAnswer, value_by};
 
 use crate::NoMemory;
 use crate::at_once::{count_of_key, counted_at_once, is_at_once};
 use crate::columns::is_text;
-use crate::rows::{CountRow, copied, ordered, sum_of_counts};
+use crate::rows::{CountRow, copied, merged, ordered, sum_of_counts};
 use block_join::Matches;
 use mapping::Mapping;
 use query_ast::{AggForm, AggList, AggReplies, AggReply, AggValue, Bucket, BucketList};
@@ -111,6 +111,7 @@ pub(crate) fn facets(
         path,
         &mut ups,
     )?;
+    let ups = merged(alloc, ups)?;
     let sorted = ordered(rows, by_key, descending)?;
     let end = sorted.len().min(size as usize);
     let (first, others) = sorted.as_slice().split_at(end);
@@ -122,13 +123,14 @@ pub(crate) fn facets(
     })
 }
 
-/// The buckets of values, in their order, each with the sum of the counts that some rows have of it.
+/// The buckets of values, in their order, each with the count that rows by ascending key have of it.
 fn shown_facets(
     alloc: Global,
     rows: &[CountRow],
     name: &Bytes,
     ups: &[CountRow],
 ) -> Result<Vec<Bucket>, NoMemory>
+    requires { KeysAscend ups.now }
     ensures { IfOk result (λ buckets. map bucket_part buckets.items ≡ map (facet_of name.now ups.now) rows.now) }
 {
     let mut buckets = Vec::with_capacity(alloc, rows.len())?;
@@ -139,12 +141,13 @@ fn shown_facets(
     Ok(buckets)
 }
 
-/// The bucket of a value, with the sum of the counts that some rows have of it.
+/// The bucket of a value, with the count that rows by ascending key have of it.
 fn facet(alloc: Global, row: &CountRow, name: &Bytes, ups: &[CountRow]) -> Result<Bucket, NoMemory>
+    requires { KeysAscend ups.now }
     ensures { IfOk result (λ bucket. bucket_part bucket ≡ facet_of name.now ups.now row.now) }
 {
     let key = copied(alloc, &row.key)?;
-    let count = count_of_key(ups, &row.key)?;
+    let count = count_of_key(ups, &row.key);
     let name = Bytes::of(Vec::from_slice(alloc, name.as_slice())?);
     let none = AggReplies::of(Vec::new(alloc));
     let value = AggValue::Single { count, inner: none };

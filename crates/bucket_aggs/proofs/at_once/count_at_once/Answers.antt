@@ -1,4 +1,4 @@
-use Rattle.std.proofs.Common.{◌≡◌, List, [], length, get_or, ap, subst, ◌∙◌}
+use Rattle.std.proofs.Common.{◌≡◌, List, [], get_or, ap, subst, ◌∙◌}
 use Rattle.postings.specs.Postings.{ArePostings, Standing}
 use Rattle.segment_parts.specs.Lists.{postings_of}
 use Rattle.bucket_aggs.proofs.Around.{term_ups}

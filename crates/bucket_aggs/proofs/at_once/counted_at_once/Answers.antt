@@ -1,7 +1,6 @@
-use Rattle.std.proofs.Common.{◌≡◌, ◌+◌, ◌++◌, ◌<◌, ℕ, List, [], length, is_some, drop, get_or, refl, sym, ap, subst, ◌∙◌, arith}
+use Rattle.std.proofs.Common.{◌≡◌, ◌+◌, ◌++◌, List, length, is_some, get_or, ap, ◌∙◌, arith}
 use Rattle.std.proofs.lemmas.List.{length-map}
-use Rattle.tree_objects.specs.declared.field_value.FieldValue.{FieldValue}
-use Rattle.bucket_aggs.specs.Counts.{view_ups, weight}
+use Rattle.bucket_aggs.specs.Counts.{weight}
 use Rattle.bucket_aggs.specs.declared.rows.CountRow.{CountRow}
 use Rattle.bucket_aggs.proofs.Around.{ups_end, ups_step}
 use Rattle.bucket_aggs.proofs.Cuts.{entry_long}

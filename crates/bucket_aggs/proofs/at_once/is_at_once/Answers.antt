@@ -1,4 +1,4 @@
-use Rattle.std.proofs.Common.{◌<◌, List, length, ap, arith}
+use Rattle.std.proofs.Common.{List, length, ap, arith}
 use Rattle.bucket_aggs.proofs.Viewed.{Scores, long_view}
 use Rattle.bucket_aggs.proofs.at_once.is_at_once.Goals as goal
 

@@ -31,7 +31,7 @@ returns c = λ given ds is same.
     let shown : Shown m f = λ o. c.documents_show_values.ensures.shown m f o c.requires.field.0 c.requires.field.1 in
     let law : CountLaw m view path c.args.scope = λ inner those seen. c.ups_are_counted.ensures m view path c.args.scope inner those c.requires.path seen in
     let rows : List CountRow = c.in_ok-rows.rows.items in
-    let ups : List CountRow = c.counted_at_once.new.ups.items in
+    let ups : List CountRow = c.in_ok-ups.ups.items in
     let sorted : List CountRow = rows_ordered c.args.by_key c.args.descending rows in
     let counts : AreCounts (kind_at m f) f (flats_of_view view c.args.objects.now) rows =
     subst (λ (kind : Kind). AreCounts kind f (flats_of_view view c.args.objects.now) rows) c.kind.ensures c.in_ok-rows.ensures.counts in
@@ -45,7 +45,7 @@ returns c = λ given ds is same.
     ∙ ap (λ (l : List CountRow). map (facet_of name l) c.split_at.result.0.now) c.as_slice-2.ensures.value
     ∙ ap (map (facet_of name ups)) first in
     let weighed : (row : CountRow) → weight row.key ups ≡ view_ups path (kind_at m f) f view c.args.objects.now row.key =
-    λ row. c.in_ok-rows.ensures.ups row.key ∙ ap (λ (kind : Kind). view_ups path kind f view c.args.objects.now row.key) c.kind.ensures in
+    λ row. c.in_ok-ups.ensures.counts row.key ∙ c.in_ok-rows.ensures.ups row.key ∙ ap (λ (kind : Kind). view_ups path kind f view c.args.objects.now row.key) c.kind.ensures in
     let answered : IsAnswer m view c.args.scope (buckets_by m f (lone name path) (take size sorted)) given c.of.result =
     subst (λ (l : List BucketPart). IsAnswer m view c.args.scope (buckets_by m f (lone name path) (take size sorted)) given l) (sym parts)
     (facets_are m view c.args.scope f path name given c.args.objects.now laws c.requires.path shown is law ups (take size sorted) weighed) in
