@@ -18,7 +18,7 @@ use Rattle.query_eval.specs.declared.side.Side.TheVariants.{Parents, Children}
 use Rattle.segment.specs.Live.{EntryState}
 use Rattle.tree_json.specs.Value.{JsonValue}
 use Rattle.tree_objects.specs.Tree.{Tree}
-use Rattle.inner_hits.specs.Hits.{IsTold, is_below, some_below}
+use Rattle.inner_hits.specs.Hits.{IsOwner, is_below, some_below}
 use Rattle.inner_hits.specs.Kinship.{AreKin}
 use Rattle.inner_hits.specs.Answers.{Answer}
 use Rattle.inner_hits.specs.Prepared.{ArePrepared, IsAnswered, IsEvaluated, IsPrepared, is_ignored}
@@ -171,13 +171,13 @@ parents_need def r is = over_needs def (ap over_joins is)
 -- ---- what needs the source
 
 module _ (m : Mapping) (view : Seq EntryState) (trees : Seq (Seq (Marked Tree))) (n place doc : ℕ) (source : JsonValue) (d : Definition Inner) (ds : Definitions Inner) where
-  pub told_first : IsTold m view trees n place doc (some_below (with_definition d ds)) source → IsTold m view trees n place doc (is_below d) source
-  told_first told = record { stands = told.stands; kept = told.kept; hit = told.hit; holds = λ need. told.holds (or_left (is_below d) (some_below ds) need) }
+  pub owner_first : IsOwner m view trees n place doc (some_below (with_definition d ds)) source → IsOwner m view trees n place doc (is_below d) source
+  owner_first owner = record { stands = owner.stands; kept = owner.kept; hit = owner.hit; holds = λ need. owner.holds (or_left (is_below d) (some_below ds) need) }
 
-  pub told_rest : IsTold m view trees n place doc (some_below (with_definition d ds)) source → IsTold m view trees n place doc (some_below ds) source
-  told_rest told = record { stands = told.stands; kept = told.kept; hit = told.hit; holds = λ need. told.holds (or_right (is_below d) (some_below ds) need) }
+  pub owner_rest : IsOwner m view trees n place doc (some_below (with_definition d ds)) source → IsOwner m view trees n place doc (some_below ds) source
+  owner_rest owner = record { stands = owner.stands; kept = owner.kept; hit = owner.hit; holds = λ need. owner.holds (or_right (is_below d) (some_below ds) need) }
 
-pub ruleset told = (told_first, told_rest)
+pub ruleset owners = (owner_first, owner_rest)
 
 pub ruleset needs = (query_needs, sort_needs, owned_needs, children_need, parents_need)
 

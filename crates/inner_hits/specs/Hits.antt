@@ -54,8 +54,8 @@ abbrev pub some_below : Definitions Inner → Bool
 some_below no_definitions = false
 some_below (with_definition d ds) = is_below d || some_below ds
 
--- the same of a call that needs the source only where `needed` says so
-pub record IsTold (m : Mapping) (view : List EntryState) (trees : List (List (Marked Tree))) (n place doc : ℕ) (needed : Bool) (source : JsonValue) : Type 0 where
+-- the same of an owner of definitions, whose source is known only where it is `needed`
+pub record IsOwner (m : Mapping) (view : List EntryState) (trees : List (List (Marked Tree))) (n place doc : ℕ) (needed : Bool) (source : JsonValue) : Type 0 where
   pub stands : ViewStandsFor m view trees
   pub kept : AllReadBack (live_trees trees)
   pub hit : IsHitAt m n trees place doc

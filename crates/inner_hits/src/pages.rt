@@ -2,7 +2,7 @@
 ghost use Rattle.std.specs.Prelude.{◌≡◌, ◌++◌, ◌+◌, ◌<◌, ◌≤◌, ◌∷◌, [], true, false, List, get_or, length, map, Some, None, if◌then◌else◌, IfOk, OnOk};
 ghost use Rattle.flattener.specs.StandsFor.{EntryStandsFor, Marked, ViewStandsFor};
 ghost use Rattle.flattener.specs.Fits.{ViewFits};
-ghost use Rattle.inner_hits.specs.Hits.{AllReadBack, HaveSource, IsAsked, IsTold, is_below, page_in, row_at, shown_as, some_below};
+ghost use Rattle.inner_hits.specs.Hits.{AllReadBack, HaveSource, IsAsked, IsOwner, is_below, page_in, row_at, shown_as, some_below};
 ghost use Rattle.nested_sort.specs.Filters.{AreFound, filters_of};
 ghost use Rattle.std.specs.List.{All};
 ghost use Rattle.nested_sort.specs.Listed.{AreDocs, AreHits, IsCapped, IsDocOf, IsHitAt};
@@ -112,9 +112,9 @@ pub(crate) fn pages_for<L: Ledger>(
     requires prepared { ArePrepared mapping.now view.now ordinals.now (definitions_of definitions.now) (definitions_of prepared.now) }
     requires joined { some_inner_joins (definitions_of definitions.now) ≡ true → AreOrdinals view.now ordinals.now }
     requires doc { IsDocOf view.now place doc }
-    ensures pages { IfOk result (λ pages. (trees : List (List (Marked Tree))) → IsTold mapping.now view.now trees scope place doc (some_below (definitions_of definitions.now)) (seen_as source.now)
+    ensures pages { IfOk result (λ pages. (trees : List (List (Marked Tree))) → IsOwner mapping.now view.now trees scope place doc (some_below (definitions_of definitions.now)) (seen_as source.now)
         → pages ≡ inner_pages mapping.now (live_trees trees) (definitions_of definitions.now) (object_at mapping.now trees place doc)) }
-    ensures steps { (trees : List (List (Marked Tree))) → IsTold mapping.now view.now trees scope place doc (some_below (definitions_of definitions.now)) (seen_as source.now)
+    ensures steps { (trees : List (List (Marked Tree))) → IsOwner mapping.now view.now trees scope place doc (some_below (definitions_of definitions.now)) (seen_as source.now)
         → steps.new ≤ steps.old + joined_in (pages_of (inner_pages mapping.now (live_trees trees) (definitions_of definitions.now) (object_at mapping.now trees place doc))) }
 {
     let mut pages = Vec::new(alloc);
@@ -137,7 +137,7 @@ pub(crate) fn pages_for<L: Ledger>(
 
 /// Adds a page for each definition.
 #[cycle(pages)]
-#[tactic(auto, using(crate::proofs::Arms::needs, crate::proofs::Arms::told))]
+#[tactic(auto, using(crate::proofs::Arms::needs, crate::proofs::Arms::owners))]
 fn add_pages<L: Ledger>(
     alloc: Global,
     view: &View,
@@ -158,9 +158,9 @@ fn add_pages<L: Ledger>(
     requires prepared { ArePrepared mapping.now view.now ordinals.now (definitions_of (map inner_of definitions.now)) (definitions_of (map prepared_of prepared.now)) }
     requires joined { some_inner_joins (definitions_of (map inner_of definitions.now)) ≡ true → AreOrdinals view.now ordinals.now }
     requires doc { IsDocOf view.now place doc }
-    ensures pages { OnOk result ((trees : List (List (Marked Tree))) → IsTold mapping.now view.now trees scope place doc (some_below (definitions_of (map inner_of definitions.now))) (seen_as source.now)
+    ensures pages { OnOk result ((trees : List (List (Marked Tree))) → IsOwner mapping.now view.now trees scope place doc (some_below (definitions_of (map inner_of definitions.now))) (seen_as source.now)
         → map page_part pages.new.items ≡ map page_part pages.old.items ++ inner_pages mapping.now (live_trees trees) (definitions_of (map inner_of definitions.now)) (object_at mapping.now trees place doc)) }
-    ensures steps { (trees : List (List (Marked Tree))) → IsTold mapping.now view.now trees scope place doc (some_below (definitions_of (map inner_of definitions.now))) (seen_as source.now)
+    ensures steps { (trees : List (List (Marked Tree))) → IsOwner mapping.now view.now trees scope place doc (some_below (definitions_of (map inner_of definitions.now))) (seen_as source.now)
         → steps.new ≤ steps.old + joined_in (pages_of (inner_pages mapping.now (live_trees trees) (definitions_of (map inner_of definitions.now)) (object_at mapping.now trees place doc))) }
 {
     match definitions {
@@ -203,9 +203,9 @@ fn page<L: Ledger>(
     requires prepared { IsPrepared mapping.now view.now ordinals.now (inner_of def.now) (prepared_of prepared.now) }
     requires joined { inner_joins (inner_of def.now) ≡ true → AreOrdinals view.now ordinals.now }
     requires doc { IsDocOf view.now place doc }
-    ensures page { IfOk result (λ page. (trees : List (List (Marked Tree))) → IsTold mapping.now view.now trees scope place doc (is_below (inner_of def.now)) (seen_as source.now)
+    ensures page { IfOk result (λ page. (trees : List (List (Marked Tree))) → IsOwner mapping.now view.now trees scope place doc (is_below (inner_of def.now)) (seen_as source.now)
         → page_part page ≡ inner_page mapping.now (live_trees trees) (inner_of def.now) (object_at mapping.now trees place doc)) }
-    ensures steps { (trees : List (List (Marked Tree))) → IsTold mapping.now view.now trees scope place doc (is_below (inner_of def.now)) (seen_as source.now)
+    ensures steps { (trees : List (List (Marked Tree))) → IsOwner mapping.now view.now trees scope place doc (is_below (inner_of def.now)) (seen_as source.now)
         → steps.new ≤ steps.old + joined_among (inner_page mapping.now (live_trees trees) (inner_of def.now) (object_at mapping.now trees place doc)).hits }
 {
     match def.over {
@@ -248,9 +248,9 @@ fn below_page<L: Ledger>(
     requires prepared { IsPrepared mapping.now view.now ordinals.now (inner_of def.now) (prepared_of prepared.now) }
     requires joined { inner_joins (inner_of def.now) ≡ true → AreOrdinals view.now ordinals.now }
     requires doc { IsDocOf view.now place doc }
-    ensures page { IfOk result (λ page. (trees : List (List (Marked Tree))) → IsTold mapping.now view.now trees scope place doc (is_below (inner_of def.now)) (seen_as source.now)
+    ensures page { IfOk result (λ page. (trees : List (List (Marked Tree))) → IsOwner mapping.now view.now trees scope place doc (is_below (inner_of def.now)) (seen_as source.now)
         → page_part page ≡ inner_page mapping.now (live_trees trees) (inner_of def.now) (object_at mapping.now trees place doc)) }
-    ensures steps { (trees : List (List (Marked Tree))) → IsTold mapping.now view.now trees scope place doc (is_below (inner_of def.now)) (seen_as source.now)
+    ensures steps { (trees : List (List (Marked Tree))) → IsOwner mapping.now view.now trees scope place doc (is_below (inner_of def.now)) (seen_as source.now)
         → steps.new ≤ steps.old + joined_among (inner_page mapping.now (live_trees trees) (inner_of def.now) (object_at mapping.now trees place doc)).hits }
 {
     scopes_form_chains();
@@ -285,9 +285,9 @@ fn children_page<L: Ledger>(
     requires prepared { IsPrepared mapping.now view.now ordinals.now (inner_of def.now) (prepared_of prepared.now) }
     requires joined { inner_joins (inner_of def.now) ≡ true → AreOrdinals view.now ordinals.now }
     requires doc { IsDocOf view.now place doc }
-    ensures page { IfOk result (λ page. (trees : List (List (Marked Tree))) → IsTold mapping.now view.now trees scope place doc (is_below (inner_of def.now)) (seen_as source.now)
+    ensures page { IfOk result (λ page. (trees : List (List (Marked Tree))) → IsOwner mapping.now view.now trees scope place doc (is_below (inner_of def.now)) (seen_as source.now)
         → page_part page ≡ inner_page mapping.now (live_trees trees) (inner_of def.now) (object_at mapping.now trees place doc)) }
-    ensures steps { (trees : List (List (Marked Tree))) → IsTold mapping.now view.now trees scope place doc (is_below (inner_of def.now)) (seen_as source.now)
+    ensures steps { (trees : List (List (Marked Tree))) → IsOwner mapping.now view.now trees scope place doc (is_below (inner_of def.now)) (seen_as source.now)
         → steps.new ≤ steps.old + joined_among (inner_page mapping.now (live_trees trees) (inner_of def.now) (object_at mapping.now trees place doc)).hits }
 {
     if scope != 0 {
@@ -324,9 +324,9 @@ fn parents_page<L: Ledger>(
     requires prepared { IsPrepared mapping.now view.now ordinals.now (inner_of def.now) (prepared_of prepared.now) }
     requires joined { inner_joins (inner_of def.now) ≡ true → AreOrdinals view.now ordinals.now }
     requires doc { IsDocOf view.now place doc }
-    ensures page { IfOk result (λ page. (trees : List (List (Marked Tree))) → IsTold mapping.now view.now trees scope place doc (is_below (inner_of def.now)) (seen_as source.now)
+    ensures page { IfOk result (λ page. (trees : List (List (Marked Tree))) → IsOwner mapping.now view.now trees scope place doc (is_below (inner_of def.now)) (seen_as source.now)
         → page_part page ≡ inner_page mapping.now (live_trees trees) (inner_of def.now) (object_at mapping.now trees place doc)) }
-    ensures steps { (trees : List (List (Marked Tree))) → IsTold mapping.now view.now trees scope place doc (is_below (inner_of def.now)) (seen_as source.now)
+    ensures steps { (trees : List (List (Marked Tree))) → IsOwner mapping.now view.now trees scope place doc (is_below (inner_of def.now)) (seen_as source.now)
         → steps.new ≤ steps.old + joined_among (inner_page mapping.now (live_trees trees) (inner_of def.now) (object_at mapping.now trees place doc)).hits }
 {
     if scope != 0 {

@@ -22,7 +22,7 @@ use Rattle.query_ast.specs.Inner.View.{inner_of}
 use Rattle.query_ast.specs.Pages.View.{hit_part, page_part}
 use Rattle.query_ast.specs.declared.hit.InnerHit.{InnerHit}
 use Rattle.tree_json.specs.Reading.{reading}
-use Rattle.inner_hits.specs.Hits.{HaveSource, IsTold, ReadsBack, over_below, row_at, shown_as, some_below}
+use Rattle.inner_hits.specs.Hits.{HaveSource, IsOwner, ReadsBack, over_below, row_at, shown_as, some_below}
 use Rattle.inner_hits.specs.Kinship.{AreKin}
 use Rattle.inner_hits.specs.Steps.{joined_among, joined_in}
 use Rattle.inner_hits.specs.declared.joined.Kin.{Kin}
@@ -451,7 +451,7 @@ tree_hit-returns-clause-hit g t c = λ trees stands kept hit.
     let there = standing_of m view trees place entry c.segment-segment.result.now stands at c.segment-segment.ensures in
     let text = c.in_ok-text.ensures.source m entry.live ts there in
     let reads : ReadsBack (tree_of o) = kept_root m (λ trees doc is low. c.documents_are_of_objects.ensures.trees m trees doc is low) view trees place doc stands kept hit in
-    let asked : IsTold m view trees 0 place doc _ _ = record { stands = stands; kept = kept; hit = hit; holds = λ need. c.in_ok-source.ensures (tree_of o).source (sym (ap (λ (ds : List (Definition Inner)). some_below (definitions_of ds)) c.as_slice-3.ensures) ∙ need) (ap reading (c.as_slice-2.ensures.value ∙ text) ∙ reads) } in
+    let asked : IsOwner m view trees 0 place doc _ _ = record { stands = stands; kept = kept; hit = hit; holds = λ need. c.in_ok-source.ensures (tree_of o).source (sym (ap (λ (ds : List (Definition Inner)). some_below (definitions_of ds)) c.as_slice-3.ensures) ∙ need) (ap reading (c.as_slice-2.ensures.value ∙ text) ∙ reads) } in
     hit_is m trees c.args.def.now c.args.hit c.in_ok-root_id.field-0 c.of.result c.if_asked.result c.of-2.result
     (c.in_ok-root_id.ensures m entry.live ts there)
     (c.of.ensures ∙ c.new.ensures.items ∙ sym (ap (levels_of m) in_root))
@@ -475,7 +475,7 @@ tree_hit-returns-clause-steps g t c = λ trees stands kept hit.
     let there = standing_of m view trees place entry c.segment-segment.result.now stands at c.segment-segment.ensures in
     let text = c.in_ok-text.ensures.source m entry.live ts there in
     let reads : ReadsBack (tree_of o) = kept_root m (λ trees doc is low. c.documents_are_of_objects.ensures.trees m trees doc is low) view trees place doc stands kept hit in
-    let asked : IsTold m view trees 0 place doc _ _ = record { stands = stands; kept = kept; hit = hit; holds = λ need. c.in_ok-source.ensures (tree_of o).source (sym (ap (λ (ds : List (Definition Inner)). some_below (definitions_of ds)) c.as_slice-3.ensures) ∙ need) (ap reading (c.as_slice-2.ensures.value ∙ text) ∙ reads) } in
+    let asked : IsOwner m view trees 0 place doc _ _ = record { stands = stands; kept = kept; hit = hit; holds = λ need. c.in_ok-source.ensures (tree_of o).source (sym (ap (λ (ds : List (Definition Inner)). some_below (definitions_of ds)) c.as_slice-3.ensures) ∙ need) (ap reading (c.as_slice-2.ensures.value ∙ text) ∙ reads) } in
     omega (
       arith,
       c.in_ok-text.ensures.step,
@@ -499,7 +499,7 @@ tree_hit-returns-in_err-add_pages-clause-steps g t c = λ trees stands kept hit.
     let there = standing_of m view trees place entry c.segment-segment.result.now stands at c.segment-segment.ensures in
     let text = c.in_ok-text.ensures.source m entry.live ts there in
     let reads : ReadsBack (tree_of o) = kept_root m (λ trees doc is low. c.documents_are_of_objects.ensures.trees m trees doc is low) view trees place doc stands kept hit in
-    let asked : IsTold m view trees 0 place doc _ _ = record { stands = stands; kept = kept; hit = hit; holds = λ need. c.in_ok-source.ensures (tree_of o).source (sym (ap (λ (ds : List (Definition Inner)). some_below (definitions_of ds)) c.as_slice-3.ensures) ∙ need) (ap reading (c.as_slice-2.ensures.value ∙ text) ∙ reads) } in
+    let asked : IsOwner m view trees 0 place doc _ _ = record { stands = stands; kept = kept; hit = hit; holds = λ need. c.in_ok-source.ensures (tree_of o).source (sym (ap (λ (ds : List (Definition Inner)). some_below (definitions_of ds)) c.as_slice-3.ensures) ∙ need) (ap reading (c.as_slice-2.ensures.value ∙ text) ∙ reads) } in
     omega (
       arith,
       c.in_ok-text.ensures.step,
@@ -523,7 +523,7 @@ tree_hit-returns-in_err-root_id-clause-steps g t c = λ trees stands kept hit.
     let there = standing_of m view trees place entry c.segment-segment.result.now stands at c.segment-segment.ensures in
     let text = c.in_ok-text.ensures.source m entry.live ts there in
     let reads : ReadsBack (tree_of o) = kept_root m (λ trees doc is low. c.documents_are_of_objects.ensures.trees m trees doc is low) view trees place doc stands kept hit in
-    let asked : IsTold m view trees 0 place doc _ _ = record { stands = stands; kept = kept; hit = hit; holds = λ need. c.in_ok-source.ensures (tree_of o).source (sym (ap (λ (ds : List (Definition Inner)). some_below (definitions_of ds)) c.as_slice-3.ensures) ∙ need) (ap reading (c.as_slice-2.ensures.value ∙ text) ∙ reads) } in
+    let asked : IsOwner m view trees 0 place doc _ _ = record { stands = stands; kept = kept; hit = hit; holds = λ need. c.in_ok-source.ensures (tree_of o).source (sym (ap (λ (ds : List (Definition Inner)). some_below (definitions_of ds)) c.as_slice-3.ensures) ∙ need) (ap reading (c.as_slice-2.ensures.value ∙ text) ∙ reads) } in
     omega (
       arith,
       c.in_ok-text.ensures.step,
