@@ -1,12 +1,13 @@
 -- A definition by what it is over: what was resolved, and what was evaluated.
-use Rattle.std.proofs.Common.{◌≡◌, ℕ, ◌<◌, ◌≤◌, ◌+◌, ◌||◌, Bool, true, false, List as Seq, [], ◌∷◌, length, Option, refl, sym, ap, ◌∙◌}
+use Rattle.std.proofs.Common.{◌≡◌, ℕ, ◌<◌, ◌||◌, Bool, true, false, List as Seq, length, Option, refl, sym, ap, ◌∙◌}
 use Rattle.std.proofs.lemmas.Bool.{true≢false}
 use Rattle.std.specs.List.{list_any}
-use Rattle.join_ordinals.specs.Ordinals.{AreOrdinals, Ordinals}
+use Rattle.flattener.specs.StandsFor.{Marked}
+use Rattle.join_ordinals.specs.Ordinals.{Ordinals}
 use Rattle.mapping.specs.Mapping.{IsAbove, Mapping}
 use Rattle.nested_sort.specs.Filters.{AreFound, filters_of}
 use Rattle.query_eval.specs.Found.{AreLong}
-use Rattle.query_ast.specs.Definition.{definitions_of}
+use Rattle.query_ast.specs.Definition.{Definition, Definitions, definitions_of, with_definition}
 use Rattle.query_ast.specs.Inner.{Inner}
 use Rattle.query_ast.specs.Inner.View.{inner_of}
 use Rattle.query_ast.specs.Joins.{inner_joins, joins, over_joins, some_inner_joins, sort_joins}
@@ -15,6 +16,9 @@ use Rattle.query_ast.specs.declared.inner.InnerDef.{InnerDef}
 use Rattle.query_ast.specs.declared.inner.InnerOver.TheVariants.{Below, Children as ChildTrees, Parents as ParentTrees, Ignored}
 use Rattle.query_eval.specs.declared.side.Side.TheVariants.{Parents, Children}
 use Rattle.segment.specs.Live.{EntryState}
+use Rattle.tree_json.specs.Value.{JsonValue}
+use Rattle.tree_objects.specs.Tree.{Tree}
+use Rattle.inner_hits.specs.Hits.{IsOwner, is_below, some_below}
 use Rattle.inner_hits.specs.Kinship.{AreKin}
 use Rattle.inner_hits.specs.Answers.{Answer}
 use Rattle.inner_hits.specs.Prepared.{ArePrepared, IsAnswered, IsEvaluated, IsPrepared, is_ignored}
@@ -163,6 +167,17 @@ children_need def r is = over_needs def (ap over_joins is)
 
 pub parents_need : (def : InnerDef) (r : ℕ) → def.over ≡ ParentTrees r → inner_joins (inner_of def) ≡ true
 parents_need def r is = over_needs def (ap over_joins is)
+
+-- ---- what needs the source
+
+module _ (m : Mapping) (view : Seq EntryState) (trees : Seq (Seq (Marked Tree))) (n place doc : ℕ) (source : JsonValue) (d : Definition Inner) (ds : Definitions Inner) where
+  pub owner_first : IsOwner m view trees n place doc (some_below (with_definition d ds)) source → IsOwner m view trees n place doc (is_below d) source
+  owner_first owner = record { stands = owner.stands; kept = owner.kept; hit = owner.hit; holds = λ need. owner.holds (or_left (is_below d) (some_below ds) need) }
+
+  pub owner_rest : IsOwner m view trees n place doc (some_below (with_definition d ds)) source → IsOwner m view trees n place doc (some_below ds) source
+  owner_rest owner = record { stands = owner.stands; kept = owner.kept; hit = owner.hit; holds = λ need. owner.holds (or_right (is_below d) (some_below ds) need) }
+
+pub ruleset owners = (owner_first, owner_rest)
 
 pub ruleset needs = (query_needs, sort_needs, owned_needs, children_need, parents_need)
 

@@ -2,7 +2,7 @@
 ghost use Rattle.std.specs.Prelude.{◌≡◌, ◌++◌, ◌+◌, ◌<◌, ◌≤◌, ◌∷◌, [], true, false, List, get_or, length, map, Some, None, if◌then◌else◌, IfOk, OnOk};
 ghost use Rattle.flattener.specs.StandsFor.{EntryStandsFor, Marked, ViewStandsFor};
 ghost use Rattle.flattener.specs.Fits.{ViewFits};
-ghost use Rattle.inner_hits.specs.Hits.{AllReadBack, HaveSource, IsAsked, page_in, row_at, shown_as};
+ghost use Rattle.inner_hits.specs.Hits.{AllReadBack, HaveSource, IsAsked, IsOwner, is_below, page_in, row_at, shown_as, some_below};
 ghost use Rattle.nested_sort.specs.Filters.{AreFound, filters_of};
 ghost use Rattle.std.specs.List.{All};
 ghost use Rattle.nested_sort.specs.Listed.{AreDocs, AreHits, IsCapped, IsDocOf, IsHitAt};
@@ -77,6 +77,46 @@ pub fn inner<L: Ledger>(
     ensures steps { (trees : List (List (Marked Tree))) → IsAsked mapping.now view.now trees scope place doc (seen_as source.now)
         → steps.new ≤ steps.old + joined_in (pages_of (inner_pages mapping.now (live_trees trees) (definitions_of definitions.now) (object_at mapping.now trees place doc))) }
 {
+    Ok(pages_for(
+        alloc,
+        view,
+        mapping,
+        ordinals,
+        definitions,
+        prepared,
+        scope,
+        place,
+        doc,
+        source,
+        steps,
+    )?)
+}
+
+/// The same, where `source` is that of the tree only if some definition is over a nested path.
+pub(crate) fn pages_for<L: Ledger>(
+    alloc: Global,
+    view: &View,
+    mapping: &Mapping,
+    ordinals: &JoinOrdinals,
+    definitions: &InnerList,
+    prepared: &PreparedList,
+    scope: u32,
+    place: u64,
+    doc: u32,
+    source: &Json,
+    steps: &mut Steps<L>,
+) -> Result<InnerPageList, NoMemory>
+    requires fits { ViewFits mapping.now view.now }
+    requires scope { scope < length mapping.now.scopes }
+    requires resolved { AreInnerDefinitions mapping.now scope (definitions_of definitions.now) }
+    requires prepared { ArePrepared mapping.now view.now ordinals.now (definitions_of definitions.now) (definitions_of prepared.now) }
+    requires joined { some_inner_joins (definitions_of definitions.now) ≡ true → AreOrdinals view.now ordinals.now }
+    requires doc { IsDocOf view.now place doc }
+    ensures pages { IfOk result (λ pages. (trees : List (List (Marked Tree))) → IsOwner mapping.now view.now trees scope place doc (some_below (definitions_of definitions.now)) (seen_as source.now)
+        → pages ≡ inner_pages mapping.now (live_trees trees) (definitions_of definitions.now) (object_at mapping.now trees place doc)) }
+    ensures steps { (trees : List (List (Marked Tree))) → IsOwner mapping.now view.now trees scope place doc (some_below (definitions_of definitions.now)) (seen_as source.now)
+        → steps.new ≤ steps.old + joined_in (pages_of (inner_pages mapping.now (live_trees trees) (definitions_of definitions.now) (object_at mapping.now trees place doc))) }
+{
     let mut pages = Vec::new(alloc);
     add_pages(
         alloc,
@@ -97,7 +137,7 @@ pub fn inner<L: Ledger>(
 
 /// Adds a page for each definition.
 #[cycle(pages)]
-#[tactic(auto, using(crate::proofs::Arms::needs))]
+#[tactic(auto, using(crate::proofs::Arms::needs, crate::proofs::Arms::owners))]
 fn add_pages<L: Ledger>(
     alloc: Global,
     view: &View,
@@ -118,9 +158,9 @@ fn add_pages<L: Ledger>(
     requires prepared { ArePrepared mapping.now view.now ordinals.now (definitions_of (map inner_of definitions.now)) (definitions_of (map prepared_of prepared.now)) }
     requires joined { some_inner_joins (definitions_of (map inner_of definitions.now)) ≡ true → AreOrdinals view.now ordinals.now }
     requires doc { IsDocOf view.now place doc }
-    ensures pages { OnOk result ((trees : List (List (Marked Tree))) → IsAsked mapping.now view.now trees scope place doc (seen_as source.now)
+    ensures pages { OnOk result ((trees : List (List (Marked Tree))) → IsOwner mapping.now view.now trees scope place doc (some_below (definitions_of (map inner_of definitions.now))) (seen_as source.now)
         → map page_part pages.new.items ≡ map page_part pages.old.items ++ inner_pages mapping.now (live_trees trees) (definitions_of (map inner_of definitions.now)) (object_at mapping.now trees place doc)) }
-    ensures steps { (trees : List (List (Marked Tree))) → IsAsked mapping.now view.now trees scope place doc (seen_as source.now)
+    ensures steps { (trees : List (List (Marked Tree))) → IsOwner mapping.now view.now trees scope place doc (some_below (definitions_of (map inner_of definitions.now))) (seen_as source.now)
         → steps.new ≤ steps.old + joined_in (pages_of (inner_pages mapping.now (live_trees trees) (definitions_of (map inner_of definitions.now)) (object_at mapping.now trees place doc))) }
 {
     match definitions {
@@ -163,9 +203,9 @@ fn page<L: Ledger>(
     requires prepared { IsPrepared mapping.now view.now ordinals.now (inner_of def.now) (prepared_of prepared.now) }
     requires joined { inner_joins (inner_of def.now) ≡ true → AreOrdinals view.now ordinals.now }
     requires doc { IsDocOf view.now place doc }
-    ensures page { IfOk result (λ page. (trees : List (List (Marked Tree))) → IsAsked mapping.now view.now trees scope place doc (seen_as source.now)
+    ensures page { IfOk result (λ page. (trees : List (List (Marked Tree))) → IsOwner mapping.now view.now trees scope place doc (is_below (inner_of def.now)) (seen_as source.now)
         → page_part page ≡ inner_page mapping.now (live_trees trees) (inner_of def.now) (object_at mapping.now trees place doc)) }
-    ensures steps { (trees : List (List (Marked Tree))) → IsAsked mapping.now view.now trees scope place doc (seen_as source.now)
+    ensures steps { (trees : List (List (Marked Tree))) → IsOwner mapping.now view.now trees scope place doc (is_below (inner_of def.now)) (seen_as source.now)
         → steps.new ≤ steps.old + joined_among (inner_page mapping.now (live_trees trees) (inner_of def.now) (object_at mapping.now trees place doc)).hits }
 {
     match def.over {
@@ -208,9 +248,9 @@ fn below_page<L: Ledger>(
     requires prepared { IsPrepared mapping.now view.now ordinals.now (inner_of def.now) (prepared_of prepared.now) }
     requires joined { inner_joins (inner_of def.now) ≡ true → AreOrdinals view.now ordinals.now }
     requires doc { IsDocOf view.now place doc }
-    ensures page { IfOk result (λ page. (trees : List (List (Marked Tree))) → IsAsked mapping.now view.now trees scope place doc (seen_as source.now)
+    ensures page { IfOk result (λ page. (trees : List (List (Marked Tree))) → IsOwner mapping.now view.now trees scope place doc (is_below (inner_of def.now)) (seen_as source.now)
         → page_part page ≡ inner_page mapping.now (live_trees trees) (inner_of def.now) (object_at mapping.now trees place doc)) }
-    ensures steps { (trees : List (List (Marked Tree))) → IsAsked mapping.now view.now trees scope place doc (seen_as source.now)
+    ensures steps { (trees : List (List (Marked Tree))) → IsOwner mapping.now view.now trees scope place doc (is_below (inner_of def.now)) (seen_as source.now)
         → steps.new ≤ steps.old + joined_among (inner_page mapping.now (live_trees trees) (inner_of def.now) (object_at mapping.now trees place doc)).hits }
 {
     scopes_form_chains();
@@ -245,9 +285,9 @@ fn children_page<L: Ledger>(
     requires prepared { IsPrepared mapping.now view.now ordinals.now (inner_of def.now) (prepared_of prepared.now) }
     requires joined { inner_joins (inner_of def.now) ≡ true → AreOrdinals view.now ordinals.now }
     requires doc { IsDocOf view.now place doc }
-    ensures page { IfOk result (λ page. (trees : List (List (Marked Tree))) → IsAsked mapping.now view.now trees scope place doc (seen_as source.now)
+    ensures page { IfOk result (λ page. (trees : List (List (Marked Tree))) → IsOwner mapping.now view.now trees scope place doc (is_below (inner_of def.now)) (seen_as source.now)
         → page_part page ≡ inner_page mapping.now (live_trees trees) (inner_of def.now) (object_at mapping.now trees place doc)) }
-    ensures steps { (trees : List (List (Marked Tree))) → IsAsked mapping.now view.now trees scope place doc (seen_as source.now)
+    ensures steps { (trees : List (List (Marked Tree))) → IsOwner mapping.now view.now trees scope place doc (is_below (inner_of def.now)) (seen_as source.now)
         → steps.new ≤ steps.old + joined_among (inner_page mapping.now (live_trees trees) (inner_of def.now) (object_at mapping.now trees place doc)).hits }
 {
     if scope != 0 {
@@ -284,9 +324,9 @@ fn parents_page<L: Ledger>(
     requires prepared { IsPrepared mapping.now view.now ordinals.now (inner_of def.now) (prepared_of prepared.now) }
     requires joined { inner_joins (inner_of def.now) ≡ true → AreOrdinals view.now ordinals.now }
     requires doc { IsDocOf view.now place doc }
-    ensures page { IfOk result (λ page. (trees : List (List (Marked Tree))) → IsAsked mapping.now view.now trees scope place doc (seen_as source.now)
+    ensures page { IfOk result (λ page. (trees : List (List (Marked Tree))) → IsOwner mapping.now view.now trees scope place doc (is_below (inner_of def.now)) (seen_as source.now)
         → page_part page ≡ inner_page mapping.now (live_trees trees) (inner_of def.now) (object_at mapping.now trees place doc)) }
-    ensures steps { (trees : List (List (Marked Tree))) → IsAsked mapping.now view.now trees scope place doc (seen_as source.now)
+    ensures steps { (trees : List (List (Marked Tree))) → IsOwner mapping.now view.now trees scope place doc (is_below (inner_of def.now)) (seen_as source.now)
         → steps.new ≤ steps.old + joined_among (inner_page mapping.now (live_trees trees) (inner_of def.now) (object_at mapping.now trees place doc)).hits }
 {
     if scope != 0 {
@@ -494,7 +534,7 @@ fn root_id(alloc: Global, segment: &Segment, doc: u32) -> Result<Bytes, NoMemory
     Ok(Bytes::of(Vec::from_slice(alloc, segment.root_id(root))?))
 }
 
-/// A joined tree as it is shown. Its source is read where it is shown, or where the pages inside it want contents.
+/// A joined tree as it is shown. Its source is parsed only where the pages inside it show objects of it.
 #[cycle(pages)]
 fn tree_hit<L: Ledger>(
     alloc: Global,
@@ -524,7 +564,7 @@ fn tree_hit<L: Ledger>(
     }
     let _scopes = mapping.scope_count();
     let text = fetched(alloc, segment, hit.doc, steps)?;
-    let source = source_in(alloc, text.as_slice())?;
+    let source = source_for(alloc, &def.owned, text.as_slice())?;
     let mut pages = Vec::new(alloc);
     add_pages(
         alloc,
@@ -617,6 +657,40 @@ pub(crate) fn fetched<L: Ledger>(
         .sources()
         .fetch(root_of(segment, doc), &mut text, steps)?;
     Ok(text)
+}
+
+/// A stored source as a value, where some definition is over a nested path; no other needs it, and nothing is parsed.
+pub(crate) fn source_for(
+    alloc: Global,
+    definitions: &InnerList,
+    text: &[u8],
+) -> Result<Json, NoMemory>
+    ensures { IfOk result (λ source. (v : JsonValue) → some_below (definitions_of definitions.now) ≡ true → reading text.now ≡ value v → seen_as source ≡ v) }
+{
+    if !some_below(definitions.as_slice()) {
+        return Ok(Json::Null);
+    }
+    Ok(source_in(alloc, text)?)
+}
+
+/// Whether some definition is over a nested path.
+fn some_below(definitions: &[InnerDef]) -> bool
+    ensures { result ≡ some_below (definitions_of (map inner_of definitions.now)) }
+{
+    match definitions {
+        [] => false,
+        [def, rest @ ..] => is_below(def) || some_below(rest),
+    }
+}
+
+/// Whether a definition is over a nested path.
+fn is_below(def: &InnerDef) -> bool
+    ensures { result ≡ is_below (inner_of def.now) }
+{
+    match def.over {
+        InnerOver::Below(_) => true,
+        InnerOver::Children(_) | InnerOver::Parents(_) | InnerOver::Ignored => false,
+    }
 }
 
 /// A stored source as a value. Sources of trees that were read from lines are read again as what they are; of any other

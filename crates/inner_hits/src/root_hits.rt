@@ -20,7 +20,7 @@ ghost use Rattle.tree_objects.specs.Tree.{Tree};
 ghost use Rattle.view_objects.specs.Hits.{document_object, live_trees, object_at};
 
 use crate::NoMemory;
-use crate::pages::{fetched, if_asked, if_wanted, inner, source_in};
+use crate::pages::{fetched, if_asked, if_wanted, pages_for, source_for};
 use crate::prepared::PreparedList;
 use join_ordinals::JoinOrdinals;
 use mapping::Mapping;
@@ -41,7 +41,7 @@ pub struct ShownTree {
 }
 
 /// What is shown of the tree of a root's document. Its stored source is read at most once, and not where neither it nor inner
-/// hits are asked for.
+/// hits are asked for; it is parsed only where some definition is over a nested path.
 ///
 /// What was prepared is that of the definitions over this view, and the definitions were resolved at the scope of roots.
 pub fn shown<L: Ledger>(
@@ -74,8 +74,8 @@ pub fn shown<L: Ledger>(
     }
     let _scopes = mapping.scope_count();
     let text = fetched(alloc, segment, doc, steps)?;
-    let whole = source_in(alloc, text.as_slice())?;
-    let pages = inner(
+    let whole = source_for(alloc, definitions, text.as_slice())?;
+    let pages = pages_for(
         alloc,
         view,
         mapping,

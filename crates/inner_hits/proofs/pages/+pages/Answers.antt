@@ -1,7 +1,7 @@
-use Rattle.std.proofs.Common.{◌≡◌, ℕ, ◌+◌, ◌<◌, ◌≤◌, ◌++◌, List, [], length, map, get_or, true, refl, Some, None, if◌then◌else◌, sym, ap, subst, ◌∙◌, arith}
+use Rattle.std.proofs.Common.{◌≡◌, ℕ, ◌<◌, ◌++◌, List, [], length, map, get_or, Some, None, if◌then◌else◌, sym, ap, subst, ◌∙◌, arith}
 use Rattle.std.proofs.lemmas.List.{drop_more}
 use Rattle.std.specs.List.{All, Contains}
-use Rattle.nested_sort.specs.Listed.{AreDocs, AreHits, IsDocOf, IsHitAt}
+use Rattle.nested_sort.specs.Listed.{AreHits, IsHitAt}
 use Rattle.query_ast.specs.Definition.{Definition, definitions_of}
 use Rattle.query_ast.specs.Inner.{Inner}
 use Rattle.query_ast.specs.InnerHits.{inner_pages, levels_of}
@@ -15,14 +15,14 @@ use Rattle.tree_json.specs.Value.{JsonValue}
 use Rattle.query_eval.specs.Found.{score_by}
 use Rattle.query_eval.specs.declared.side.Side.TheVariants.{Children, Parents}
 use Rattle.tree_json.specs.View.{view as seen_as}
-use Rattle.tree_objects.specs.Object.{Object, content, root, tree_of}
+use Rattle.tree_objects.specs.Object.{content, root, tree_of}
 use Rattle.view_objects.specs.Hits.{live_trees, object_at}
 use Rattle.view_objects.specs.declared.hit.Hit.{Hit}
 use Rattle.query_ast.specs.Inner.View.{inner_of}
 use Rattle.query_ast.specs.Pages.View.{hit_part, page_part}
 use Rattle.query_ast.specs.declared.hit.InnerHit.{InnerHit}
 use Rattle.tree_json.specs.Reading.{reading}
-use Rattle.inner_hits.specs.Hits.{HaveSource, IsAsked, ReadsBack, row_at, shown_as}
+use Rattle.inner_hits.specs.Hits.{HaveSource, IsOwner, ReadsBack, over_below, row_at, shown_as, some_below}
 use Rattle.inner_hits.specs.Kinship.{AreKin}
 use Rattle.inner_hits.specs.Steps.{joined_among, joined_in}
 use Rattle.inner_hits.specs.declared.joined.Kin.{Kin}
@@ -44,7 +44,7 @@ below_page-returns-clause-page g t c = λ trees asked.
     let above = below_above m c.args.scope def c.args.path c.requires.over c.requires.resolved in
     let are = c.in_ok-hits.ensures.objects m c.args.path (score_by m def.query) trees asked.stands above asked.hit found in
     let those = c.in_ok-hits.ensures.hits m c.args.path (score_by m def.query) trees asked.stands found in
-    let source = below_source m trees (score_by m def.query (live_trees trees)) (seen_as c.args.source.now) o c.args.path hits asked.holds are in
+    let source = below_source m trees (score_by m def.query (live_trees trees)) (seen_as c.args.source.now) o c.args.path hits (asked.holds (ap over_below c.requires.over)) are in
     c.in_ok-shown_page.ensures.page trees asked.stands asked.kept those source ∙ page_below m trees def o hits c.args.path c.requires.over are
 
 pub below_page-returns-clause-steps : goal.below_page-returns-clause-steps
@@ -58,7 +58,7 @@ below_page-returns-clause-steps g t c = λ trees asked.
     let above = below_above m c.args.scope def c.args.path c.requires.over c.requires.resolved in
     let are = c.in_ok-hits.ensures.objects m c.args.path (score_by m def.query) trees asked.stands above asked.hit found in
     let those = c.in_ok-hits.ensures.hits m c.args.path (score_by m def.query) trees asked.stands found in
-    let source = below_source m trees (score_by m def.query (live_trees trees)) (seen_as c.args.source.now) o c.args.path hits asked.holds are in
+    let source = below_source m trees (score_by m def.query (live_trees trees)) (seen_as c.args.source.now) o c.args.path hits (asked.holds (ap over_below c.requires.over)) are in
     let least = c.in_ok-shown_page.ensures.steps trees asked.stands asked.kept those source in
     let same = ap (λ (p : PagePart). joined_among p.hits) (page_below m trees def o hits c.args.path c.requires.over are) in
     omega (arith, least, same)
@@ -74,7 +74,7 @@ below_page-returns-in_err-shown_page-clause-steps g t c = λ trees asked.
     let above = below_above m c.args.scope def c.args.path c.requires.over c.requires.resolved in
     let are = c.in_ok-hits.ensures.objects m c.args.path (score_by m def.query) trees asked.stands above asked.hit found in
     let those = c.in_ok-hits.ensures.hits m c.args.path (score_by m def.query) trees asked.stands found in
-    let source = below_source m trees (score_by m def.query (live_trees trees)) (seen_as c.args.source.now) o c.args.path hits asked.holds are in
+    let source = below_source m trees (score_by m def.query (live_trees trees)) (seen_as c.args.source.now) o c.args.path hits (asked.holds (ap over_below c.requires.over)) are in
     let least = c.in_err-shown_page.ensures.steps trees asked.stands asked.kept those source in
     let same = ap (λ (p : PagePart). joined_among p.hits) (page_below m trees def o hits c.args.path c.requires.over are) in
     omega (arith, least, same)
@@ -331,7 +331,7 @@ nested_hit-returns-clause-hit g t c = λ trees asked.
     hit_is m trees c.args.def.now hit c.in_ok-root_id.field-0 c.of.result c.in_ok-text.text c.of-2.result
     (c.in_ok-root_id.ensures m entry.live ts there) (c.of.ensures ∙ found.levels)
     (c.in_ok-text.ensures ∙ ap (λ (v : JsonValue). if c.args.def.now.source then Some (compact v) else None) found.holds)
-    (c.of-2.ensures ∙ c.in_ok-add_pages.ensures.pages trees asked
+    (c.of-2.ensures ∙ c.in_ok-add_pages.ensures.pages trees (record { stands = asked.stands; kept = asked.kept; hit = asked.hit; holds = λ need. asked.holds })
     ∙ ap (λ (l : List InnerPage). map page_part l ++ inner_pages m (live_trees trees) (definitions_of (map inner_of c.as_slice.result.now)) o) c.new-pages.ensures.items
     ∙ ap (λ (ds : List (Definition Inner)). inner_pages m (live_trees trees) (definitions_of ds) o) c.as_slice.ensures)
 
@@ -339,19 +339,19 @@ pub nested_hit-returns-clause-steps : goal.nested_hit-returns-clause-steps
 nested_hit-returns-clause-steps g t c = λ trees asked.
     let m = c.args.mapping.now in
     let o = object_at m trees c.args.hit.place c.args.hit.doc in
-    omega (arith, c.in_ok-add_pages.ensures.steps trees asked, joined_shown m trees c.args.def.now c.args.hit, ap (λ (ds : List (Definition Inner)). joined_in (pages_of (inner_pages m (live_trees trees) (definitions_of ds) o))) c.as_slice.ensures)
+    omega (arith, c.in_ok-add_pages.ensures.steps trees (record { stands = asked.stands; kept = asked.kept; hit = asked.hit; holds = λ need. asked.holds }), joined_shown m trees c.args.def.now c.args.hit, ap (λ (ds : List (Definition Inner)). joined_in (pages_of (inner_pages m (live_trees trees) (definitions_of ds) o))) c.as_slice.ensures)
 
 pub nested_hit-returns-in_err-add_pages-clause-steps : goal.nested_hit-returns-in_err-add_pages-clause-steps
 nested_hit-returns-in_err-add_pages-clause-steps g t c = λ trees asked.
     let m = c.args.mapping.now in
     let o = object_at m trees c.args.hit.place c.args.hit.doc in
-    omega (arith, c.in_err-add_pages.ensures.steps trees asked, joined_shown m trees c.args.def.now c.args.hit, ap (λ (ds : List (Definition Inner)). joined_in (pages_of (inner_pages m (live_trees trees) (definitions_of ds) o))) c.as_slice.ensures)
+    omega (arith, c.in_err-add_pages.ensures.steps trees (record { stands = asked.stands; kept = asked.kept; hit = asked.hit; holds = λ need. asked.holds }), joined_shown m trees c.args.def.now c.args.hit, ap (λ (ds : List (Definition Inner)). joined_in (pages_of (inner_pages m (live_trees trees) (definitions_of ds) o))) c.as_slice.ensures)
 
 pub nested_hit-returns-in_err-root_id-clause-steps : goal.nested_hit-returns-in_err-root_id-clause-steps
 nested_hit-returns-in_err-root_id-clause-steps g t c = λ trees asked.
     let m = c.args.mapping.now in
     let o = object_at m trees c.args.hit.place c.args.hit.doc in
-    omega (arith, c.in_ok-add_pages.ensures.steps trees asked, joined_shown m trees c.args.def.now c.args.hit, ap (λ (ds : List (Definition Inner)). joined_in (pages_of (inner_pages m (live_trees trees) (definitions_of ds) o))) c.as_slice.ensures)
+    omega (arith, c.in_ok-add_pages.ensures.steps trees (record { stands = asked.stands; kept = asked.kept; hit = asked.hit; holds = λ need. asked.holds }), joined_shown m trees c.args.def.now c.args.hit, ap (λ (ds : List (Definition Inner)). joined_in (pages_of (inner_pages m (live_trees trees) (definitions_of ds) o))) c.as_slice.ensures)
 
 pub shown_hit-returns-clause-hit : goal.shown_hit-returns-clause-hit
 shown_hit-returns-clause-hit g t c = λ trees stands kept hit holds.
@@ -451,7 +451,7 @@ tree_hit-returns-clause-hit g t c = λ trees stands kept hit.
     let there = standing_of m view trees place entry c.segment-segment.result.now stands at c.segment-segment.ensures in
     let text = c.in_ok-text.ensures.source m entry.live ts there in
     let reads : ReadsBack (tree_of o) = kept_root m (λ trees doc is low. c.documents_are_of_objects.ensures.trees m trees doc is low) view trees place doc stands kept hit in
-    let asked : IsAsked m view trees 0 place doc _ = record { stands = stands; kept = kept; hit = hit; holds = c.in_ok-source.ensures (tree_of o).source (ap reading (c.as_slice-2.ensures.value ∙ text) ∙ reads) } in
+    let asked : IsOwner m view trees 0 place doc _ _ = record { stands = stands; kept = kept; hit = hit; holds = λ need. c.in_ok-source.ensures (tree_of o).source (sym (ap (λ (ds : List (Definition Inner)). some_below (definitions_of ds)) c.as_slice-3.ensures) ∙ need) (ap reading (c.as_slice-2.ensures.value ∙ text) ∙ reads) } in
     hit_is m trees c.args.def.now c.args.hit c.in_ok-root_id.field-0 c.of.result c.if_asked.result c.of-2.result
     (c.in_ok-root_id.ensures m entry.live ts there)
     (c.of.ensures ∙ c.new.ensures.items ∙ sym (ap (levels_of m) in_root))
@@ -475,7 +475,7 @@ tree_hit-returns-clause-steps g t c = λ trees stands kept hit.
     let there = standing_of m view trees place entry c.segment-segment.result.now stands at c.segment-segment.ensures in
     let text = c.in_ok-text.ensures.source m entry.live ts there in
     let reads : ReadsBack (tree_of o) = kept_root m (λ trees doc is low. c.documents_are_of_objects.ensures.trees m trees doc is low) view trees place doc stands kept hit in
-    let asked : IsAsked m view trees 0 place doc _ = record { stands = stands; kept = kept; hit = hit; holds = c.in_ok-source.ensures (tree_of o).source (ap reading (c.as_slice-2.ensures.value ∙ text) ∙ reads) } in
+    let asked : IsOwner m view trees 0 place doc _ _ = record { stands = stands; kept = kept; hit = hit; holds = λ need. c.in_ok-source.ensures (tree_of o).source (sym (ap (λ (ds : List (Definition Inner)). some_below (definitions_of ds)) c.as_slice-3.ensures) ∙ need) (ap reading (c.as_slice-2.ensures.value ∙ text) ∙ reads) } in
     omega (
       arith,
       c.in_ok-text.ensures.step,
@@ -499,7 +499,7 @@ tree_hit-returns-in_err-add_pages-clause-steps g t c = λ trees stands kept hit.
     let there = standing_of m view trees place entry c.segment-segment.result.now stands at c.segment-segment.ensures in
     let text = c.in_ok-text.ensures.source m entry.live ts there in
     let reads : ReadsBack (tree_of o) = kept_root m (λ trees doc is low. c.documents_are_of_objects.ensures.trees m trees doc is low) view trees place doc stands kept hit in
-    let asked : IsAsked m view trees 0 place doc _ = record { stands = stands; kept = kept; hit = hit; holds = c.in_ok-source.ensures (tree_of o).source (ap reading (c.as_slice-2.ensures.value ∙ text) ∙ reads) } in
+    let asked : IsOwner m view trees 0 place doc _ _ = record { stands = stands; kept = kept; hit = hit; holds = λ need. c.in_ok-source.ensures (tree_of o).source (sym (ap (λ (ds : List (Definition Inner)). some_below (definitions_of ds)) c.as_slice-3.ensures) ∙ need) (ap reading (c.as_slice-2.ensures.value ∙ text) ∙ reads) } in
     omega (
       arith,
       c.in_ok-text.ensures.step,
@@ -523,7 +523,7 @@ tree_hit-returns-in_err-root_id-clause-steps g t c = λ trees stands kept hit.
     let there = standing_of m view trees place entry c.segment-segment.result.now stands at c.segment-segment.ensures in
     let text = c.in_ok-text.ensures.source m entry.live ts there in
     let reads : ReadsBack (tree_of o) = kept_root m (λ trees doc is low. c.documents_are_of_objects.ensures.trees m trees doc is low) view trees place doc stands kept hit in
-    let asked : IsAsked m view trees 0 place doc _ = record { stands = stands; kept = kept; hit = hit; holds = c.in_ok-source.ensures (tree_of o).source (ap reading (c.as_slice-2.ensures.value ∙ text) ∙ reads) } in
+    let asked : IsOwner m view trees 0 place doc _ _ = record { stands = stands; kept = kept; hit = hit; holds = λ need. c.in_ok-source.ensures (tree_of o).source (sym (ap (λ (ds : List (Definition Inner)). some_below (definitions_of ds)) c.as_slice-3.ensures) ∙ need) (ap reading (c.as_slice-2.ensures.value ∙ text) ∙ reads) } in
     omega (
       arith,
       c.in_ok-text.ensures.step,

@@ -1,4 +1,4 @@
-use Rattle.std.proofs.Common.{◌≡◌, ◌<◌, ℕ, List, [], get_or, Some, None, if◌then◌else◌, ap, subst, sym, ◌∙◌, arith, rules}
+use Rattle.std.proofs.Common.{◌≡◌, ◌<◌, ℕ, List, [], get_or, Some, None, if◌then◌else◌, ap, subst, sym, ◌∙◌, arith}
 use Rattle.query_ast.specs.Definition.{Definition, definitions_of}
 use Rattle.query_ast.specs.Inner.{Inner}
 use Rattle.query_ast.specs.InnerHits.{inner_pages}
@@ -9,7 +9,7 @@ use Rattle.tree_json.specs.Text.{compact}
 use Rattle.tree_json.specs.Value.{JsonValue}
 use Rattle.tree_objects.specs.Object.{content, root, tree_of}
 use Rattle.view_objects.specs.Hits.{live_trees, object_at}
-use Rattle.inner_hits.specs.Hits.{IsAsked, ReadsBack}
+use Rattle.inner_hits.specs.Hits.{IsOwner, ReadsBack}
 use Rattle.inner_hits.proofs.Between.{doc_low, entry_at}
 use Rattle.inner_hits.proofs.Standing.{at_root, kept_root, standing_of}
 use Rattle.inner_hits.proofs.root_hits.shown.Goals as goal
@@ -45,7 +45,7 @@ returns-in_err-pages-clause-steps g c = λ trees stands kept hit.
     let there = standing_of m view trees place entry c.segment-segment.result.now stands at c.segment-segment.ensures in
     let text = c.in_ok-text.ensures.source m entry.live (get_or trees place []) there in
     let reads : ReadsBack (tree_of o) = kept_root m (λ trees doc is low. c.documents_are_of_objects.ensures.trees m trees doc is low) view trees place doc stands kept hit in
-    let asked : IsAsked m view trees 0 place doc _ = record { stands = stands; kept = kept; hit = hit; holds = c.in_ok-whole.ensures (tree_of o).source (ap reading (c.as_slice-2.ensures.value ∙ text) ∙ reads) } in
+    let asked : IsOwner m view trees 0 place doc _ _ = record { stands = stands; kept = kept; hit = hit; holds = λ need. c.in_ok-whole.ensures (tree_of o).source need (ap reading (c.as_slice-2.ensures.value ∙ text) ∙ reads) } in
     omega (arith, c.in_ok-text.ensures.step, c.in_err-pages.ensures.steps trees asked)
 
 pub returns-clause-shown : goal.returns-clause-shown
@@ -61,7 +61,7 @@ returns-clause-shown g c = λ trees stands kept hit.
     let there = standing_of m view trees place entry c.segment-segment.result.now stands at c.segment-segment.ensures in
     let text = c.in_ok-text.ensures.source m entry.live (get_or trees place []) there in
     let reads : ReadsBack (tree_of o) = kept_root m (λ trees doc is low. c.documents_are_of_objects.ensures.trees m trees doc is low) view trees place doc stands kept hit in
-    let asked : IsAsked m view trees 0 place doc _ = record { stands = stands; kept = kept; hit = hit; holds = c.in_ok-whole.ensures (tree_of o).source (ap reading (c.as_slice-2.ensures.value ∙ text) ∙ reads) } in (
+    let asked : IsOwner m view trees 0 place doc _ _ = record { stands = stands; kept = kept; hit = hit; holds = λ need. c.in_ok-whole.ensures (tree_of o).source need (ap reading (c.as_slice-2.ensures.value ∙ text) ∙ reads) } in (
       c.if_asked.ensures ∙ ap (λ (s : List ℕ). if c.args.source then Some s else None) text ∙ ap (λ (v : JsonValue). if c.args.source then Some (compact v) else None) (sym (ap content in_root)),
       c.in_ok-pages.ensures.pages trees asked,
     )
@@ -78,7 +78,7 @@ returns-clause-steps g c = λ trees stands kept hit.
     let there = standing_of m view trees place entry c.segment-segment.result.now stands at c.segment-segment.ensures in
     let text = c.in_ok-text.ensures.source m entry.live (get_or trees place []) there in
     let reads : ReadsBack (tree_of o) = kept_root m (λ trees doc is low. c.documents_are_of_objects.ensures.trees m trees doc is low) view trees place doc stands kept hit in
-    let asked : IsAsked m view trees 0 place doc _ = record { stands = stands; kept = kept; hit = hit; holds = c.in_ok-whole.ensures (tree_of o).source (ap reading (c.as_slice-2.ensures.value ∙ text) ∙ reads) } in
+    let asked : IsOwner m view trees 0 place doc _ _ = record { stands = stands; kept = kept; hit = hit; holds = λ need. c.in_ok-whole.ensures (tree_of o).source need (ap reading (c.as_slice-2.ensures.value ∙ text) ∙ reads) } in
     omega (arith, c.in_ok-text.ensures.step, c.in_ok-pages.ensures.steps trees asked)
 
 pub bare-requires-clause-doc : goal.bare-requires-clause-doc
