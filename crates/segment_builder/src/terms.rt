@@ -7,29 +7,41 @@ ghost use Rattle.segment_builder.specs.Made.{all_terms};
 ghost use Rattle.segment_builder.specs.Terms.{terms_at, unless_same, once_after, once, keyword_terms, keys_kept, number_terms};
 
 use crate::NoMemory;
-use crate::entries::words_of;
+use crate::entries::{Counts, keywords_of, numbers_of, words_of};
 use flattener::{Document, Keyword};
 use std::alloc::Global;
 use term_table::number_key;
 
-/// The terms of documents: their words, their keywords, and numbers by their keys. The keywords are those of the documents,
-/// and `room` is for so many terms.
+/// The terms of documents: their words, their keywords, and numbers by their keys.
 pub(crate) fn terms_of<'a>(
     alloc: Global,
     documents: &[&'a Document],
-    keywords: &[(u32, (u32, &'a [Keyword]))],
     keys: &'a [(u32, (u32, [u8; 8]))],
-    room: usize,
+    counts: Counts,
 ) -> Result<Vec<((u32, &'a [u8]), (u32, &'a [u32]))>, NoMemory>
     requires few { length documents.now < 2 ^ 32 }
-    requires keywords { keywords_lent keywords.now ≡ (entries_in (flats_lent documents.now)).keywords }
     requires keys { keys_kept keys.now ≡ number_terms (entries_in (flats_lent documents.now)).numbers }
     ensures { IfOk result (λ terms. words_lent terms.items ≡ all_terms (entries_in (flats_lent documents.now))) }
 {
-    let mut terms = words_of(alloc, documents, room)?;
-    add_keyword_terms(keywords, &mut terms)?;
+    let room = counts.words.saturating_add(counts.keywords);
+    let mut terms = words_of(alloc, documents, room.saturating_add(keys.len()))?;
+    let keywords = keywords_of(alloc, documents, counts.keywords)?;
+    add_keyword_terms(keywords.as_slice(), &mut terms)?;
     add_number_terms(keys, &mut terms)?;
     Ok(terms)
+}
+
+/// The keys of the numbers of documents, each once in a document.
+pub(crate) fn keys_of(
+    alloc: Global,
+    documents: &[&Document],
+    counts: Counts,
+) -> Result<Vec<(u32, (u32, [u8; 8]))>, NoMemory>
+    requires { length documents.now < 2 ^ 32 }
+    ensures { IfOk result (λ keys. keys_kept keys.items ≡ number_terms (entries_in (flats_lent documents.now)).numbers) }
+{
+    let numbers = numbers_of(alloc, documents, counts.numbers)?;
+    Ok(number_keys(alloc, numbers.as_slice())?)
 }
 
 /// Adds keywords to terms, each once in a document.
@@ -114,7 +126,7 @@ fn add_term<'a>(
 }
 
 /// The keys of numbers, each once in a document.
-pub(crate) fn keys_of(
+fn number_keys(
     alloc: Global,
     numbers: &[(u32, (u32, &[i64]))],
 ) -> Result<Vec<(u32, (u32, [u8; 8]))>, NoMemory>

@@ -7,19 +7,15 @@ use Rattle.segment.specs.Flat.{FlatDocument}
 use Rattle.segment_parts.specs.declared.columns.Columns.{Columns}
 use Rattle.term_table.specs.Terms.{term_cmp}
 use Rattle.segment_builder.specs.Columns.{column_terms, named_group, ordinal_column, terms_in, terms_lent}
-use Rattle.segment_builder.specs.Entries.{EntriesState, entries_in, flats_in, flats_lent, no_entries, numbers_lent, with_blocks}
+use Rattle.segment_builder.specs.Entries.{EntriesState, entries_in, flats_in, flats_lent, no_entries, with_blocks}
 use Rattle.segment_builder.specs.Groups.{AreGroups}
 use Rattle.segment_builder.specs.Made.{AreSetsOf, IsMade, all_terms, marked_groups}
 use Rattle.segment_builder.specs.Taken.{AreValueEntries}
-use Rattle.segment_builder.specs.Terms.{keys_kept, number_terms, row_group, rows_in}
+use Rattle.segment_builder.specs.Terms.{row_group, rows_in}
 use Rattle.segment_builder.proofs.Agreeing.{fit_roots}
 use Rattle.segment_builder.proofs.Put.{all_put, entries_are, keywords_fit, numbers_fit, scopes_fit, terms_fit, texts_fit}
 use Rattle.segment_builder.proofs.Stored.{roots_fit, roots_seen}
 use Rattle.segment_builder.proofs.assemble.bytes_of.Goals as goal
-
-pub sorted_terms-requires-clause-keys : goal.sorted_terms-requires-clause-keys
-sorted_terms-requires-clause-keys c =
-    ap keys_kept c.as_slice-3.ensures.value ∙ c.in_ok-keys.ensures ∙ ap number_terms (ap numbers_lent c.as_slice.ensures.value ∙ c.in_ok-numbers.ensures)
 
 pub put_head-requires-clause-below : goal.put_head-requires-clause-below
 put_head-requires-clause-below c =
@@ -41,7 +37,7 @@ put_terms-requires c =
 pub put_ordinals-requires-clause-entries : goal.put_ordinals-requires-clause-entries
 put_ordinals-requires-clause-entries c =
     let flats = ap flats_lent c.as_slice-documents.ensures.value ∙ c.in_ok-list.ensures in
-    let terms : terms_lent c.as_slice-4.result.now ≡ terms_in (rows_in c.in_ok-entries.entries.items) = ap terms_lent c.as_slice-4.ensures.value ∙ c.in_ok-terms.ensures.terms in (
+    let terms : terms_lent c.as_slice-2.result.now ≡ terms_in (rows_in c.in_ok-entries.entries.items) = ap terms_lent c.as_slice-2.ensures.value ∙ c.in_ok-terms.ensures.terms in (
       length (flats_in (map block_seen c.args.blocks.now)),
       rw c.in_ok-keywords.ensures
           (subst (λ own. AreValueEntries (slice_cmp nat_cmp) (λ field bytes. Contains own (field, bytes)) (length (flats_in (map block_seen c.args.blocks.now))) (entries_in (flats_lent c.as_slice-documents.result.now)).keywords) (sym terms)
@@ -71,7 +67,7 @@ returns c =
     let head = c.in_ok-put_head.ensures in
     let count = length c.as_slice-documents.result.now in
     let sets = subst (λ (e : EntriesState). AreSetsOf e.scopes head.0) same head.1 in
-    let terms : terms_lent c.as_slice-4.result.now ≡ terms_in rows = ap terms_lent c.as_slice-4.ensures.value ∙ c.in_ok-terms.ensures.terms in
+    let terms : terms_lent c.as_slice-2.result.now ≡ terms_in rows = ap terms_lent c.as_slice-2.ensures.value ∙ c.in_ok-terms.ensures.terms in
     let columns : Columns = record {
       documents = count;
       scopes = head.0;
