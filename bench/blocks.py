@@ -179,7 +179,7 @@ fn main(rt: HostRuntime) -> Result<(), Fault> {
 NAME = "block_times"
 BELOW = (
     "flattener layout block_bits segment segment_parts stored_sources tree_objects mapping_growth mapping_body"
-    " mapping tree_json analysis itoa json serde_json"
+    " mapping tree_json analysis itoa json serde_json smallvec"
 )
 HERE = os.path.dirname(os.path.dirname(os.path.abspath(__file__)))
 
