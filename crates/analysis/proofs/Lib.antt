@@ -1,3 +1,4 @@
+pub mod Ascii
 mod Examples
 pub mod Lengths
 pub mod Fewer

@@ -1,6 +1,6 @@
 //! Texts and their words, by the rules and the examples of Unicode Standard Annex #29 (section 4) and
 //! the full mappings of the Unicode file `CaseFolding.txt`.
-use crate::{has_short_tokens, tokens};
+use crate::{has_short_tokens, push_words, tokens};
 use std::test::Fail;
 
 /// Each expected word stands after a `|`, which is in no text.
@@ -51,6 +51,14 @@ fn words_of_texts(rt: HostRuntime) -> Result<(), Fail> {
         for token in tokens.as_slice() {
             found.push(b'|')?;
             found.extend_from_slice(token.folded.as_slice())?;
+        }
+        assert_eq!(rt; found.as_slice(), words.as_bytes(), "{text}");
+        let mut numbered = Vec::new(rt.alloc());
+        push_words(rt.alloc(), text, 7, &mut numbered)?;
+        found.clear();
+        for (word, _) in numbered.as_slice() {
+            found.push(b'|')?;
+            found.extend_from_slice(word.as_slice())?;
         }
         assert_eq!(rt; found.as_slice(), words.as_bytes(), "{text}");
     }

@@ -1,7 +1,11 @@
 //! Tokens, and the list of a text's tokens.
 ghost use Rattle.std.specs.Prelude.{◌≡◌, ℕ, List};
 
+use smallvec::SmallVec;
 use std::marker::Model;
+
+/// The bytes of a folded word. Most are few, and take no memory of their own.
+pub type FoldedWord = SmallVec<u8, 16>;
 
 /// The bytes of a folded word, which are UTF-8.
 #[derive(Debug, Drop)]

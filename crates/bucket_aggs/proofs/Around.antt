@@ -1,9 +1,10 @@
 -- Documents of a scope that those of a set lead to, by the ordinals and by the values that these have.
-use Rattle.std.proofs.Common.{◌≡◌, ℕ, zero, suc, ◌+◌, ◌-◌, ◌<◌, ◌≤◌, ◌==◌, Bool, true, false, ◌&&◌, cond, List, [], ◌∷◌, ◌++◌, length, map, drop, get_or, count_by, Option, Some, None, is_some, refl, sym, ap, ap₂, subst, ◌∙◌, arith}
+use Rattle.std.proofs.Common.{◌≡◌, ℕ, zero, suc, ◌+◌, ◌-◌, ◌<◌, ◌≤◌, ◌==◌, Bool, true, false, ◌&&◌, cond, List, [], ◌∷◌, ◌++◌, length, map, drop, get_or, count_by, replicate, Option, Some, None, is_some, refl, sym, ap, ap₂, subst, ◌∙◌, arith}
 use Rattle.std.specs.List.{list_any}
 use Rattle.std.proofs.lemmas.Bool.{eqb-true}
+use Rattle.std.proofs.lemmas.List.{length-replicate}
 use Rattle.block_bits.specs.Blocks.{documents_of}
-use Rattle.block_bits.specs.Flags.{is_marked}
+use Rattle.block_bits.specs.Flags.{difference, is_marked}
 use Rattle.block_join.specs.Kept.{reached}
 use Rattle.doc_values.specs.Values.{values_of}
 use Rattle.mapping_body.specs.declared.kind.Kind.{Kind}
@@ -19,17 +20,18 @@ use Rattle.segment.specs.Shows.{column_values}
 use Rattle.segment_parts.specs.Agree.{AreColumns}
 use Rattle.segment_parts.specs.Fields.{column_of}
 use Rattle.segment_parts.specs.Lists.{postings_of, terms_of}
+use Rattle.segment_parts.specs.Text.{marked_places}
 use Rattle.segment_parts.specs.declared.columns.Columns.{Columns}
 use Rattle.term_table.specs.Ranges.{IsRange, is_of_field}
 use Rattle.term_table.specs.Terms.{AreAscending}
 use Rattle.tree_objects.specs.declared.field_value.FieldValue.{FieldValue}
 use Rattle.tree_objects.specs.declared.field_value.FieldValue.TheVariants.{Written}
-use Rattle.bucket_aggs.specs.Counts.{AreUps, IsTermSet, counts_of, cut_from, has_ordinal, ordinal_ups, passed_from, shown_ups, shows, view_ups}
+use Rattle.bucket_aggs.specs.Counts.{AreUps, Counted, IsTermSet, counts_of, cut_from, has_ordinal, ordinal_ups, passed_from, shown_ups, shows, view_ups}
 use Rattle.bucket_aggs.proofs.Listed.{posted_same, rows_have}
 use Rattle.bucket_aggs.proofs.Lists.{Each, and_false, by_test}
 use Rattle.bucket_aggs.proofs.Numbered.{HaveKeywords, shown_text}
-use Rattle.bucket_aggs.proofs.Rowed.{count_cons}
-use Rattle.bucket_aggs.proofs.Termed.{IsOf, TermList, ordinals_of, parts_by}
+use Rattle.bucket_aggs.proofs.Rowed.{count_cons, count_mapped, count_same}
+use Rattle.bucket_aggs.proofs.Termed.{IsOf, TermList, of_range, ordinals_of, parts_by}
 use Rattle.bucket_aggs.proofs.Viewed.{Scores, View}
 
 -- ---- sets cut by a test
@@ -75,11 +77,22 @@ never_up columns to test never flags = none_reached (documents_of (scopes_in col
 
 -- ---- by postings
 
-pub term_ups : (columns : Columns) (to : ℕ) (flags own : List Bool) (o : ℕ) → IsTermSet columns flags o own → up_marks columns to own ≡ up_marks columns to (cut_from (λ doc. has_document doc (get_or (postings_of columns) o [])) 0 flags)
-term_ups columns to flags own o is =
-    ap (up_marks columns to)
-    (cut_is (λ doc. has_document doc (get_or (postings_of columns) o [])) 0 flags own is.long
-    (λ k low. let here : k ≡ 0 + k = omega arith in is.marked k low ∙ ap (λ (i : ℕ). get_or flags k false && has_document i (get_or (postings_of columns) o [])) here))
+pub term_cut : (columns : Columns) (flags own : List Bool) (o : ℕ) → IsTermSet columns flags o own → own ≡ cut_from (λ doc. has_document doc (get_or (postings_of columns) o [])) 0 flags
+term_cut columns flags own o is =
+    cut_is (λ doc. has_document doc (get_or (postings_of columns) o [])) 0 flags own is.long
+    (λ k low. let here : k ≡ 0 + k = omega arith in is.marked k low ∙ ap (λ (i : ℕ). get_or flags k false && has_document i (get_or (postings_of columns) o [])) here)
+
+-- what is cut of a set without that set is none
+pub cut_emptied : (test : ℕ → Bool) (start : ℕ) (flags : List Bool) → difference (cut_from test start flags) flags ≡ replicate (length flags) false
+cut_emptied test start [] = refl
+cut_emptied test start (true ∷ flags) = ap₂ (λ (b : Bool) (l : List Bool). b ∷ l) (and_false (test start)) (cut_emptied test (start + 1) flags)
+cut_emptied test start (false ∷ flags) = ap (λ (l : List Bool). false ∷ l) (cut_emptied test (start + 1) flags)
+
+-- as many are cut as pass
+cut_counted : (test : ℕ → Bool) (start : ℕ) (flags : List Bool) → count_by is_marked (cut_from test start flags) ≡ count_by test (marked_places start flags)
+cut_counted test start [] = refl
+cut_counted test start (true ∷ flags) = omega (arith, count_cons is_marked (test start) (cut_from test (start + 1) flags), count_cons test start (marked_places (start + 1) flags), cut_counted test (start + 1) flags)
+cut_counted test start (false ∷ flags) = omega (arith, count_cons is_marked false (cut_from test (start + 1) flags), cut_counted test (start + 1) flags)
 
 pub posted_ups : (columns : Columns) (to f : ℕ) (found : List (ℕ × List ℕ)) (flags : List Bool) → AreColumns columns → column_of f columns.ordinals ≡ Some found → (o : ℕ) → IsOf (terms_of columns) f o
     → up_marks columns to (cut_from (λ doc. has_document doc (get_or (postings_of columns) o [])) 0 flags) ≡ ordinal_ups columns to found flags o
@@ -87,6 +100,41 @@ posted_ups columns to f found flags are is o of =
     let ps = get_or (postings_of columns) o [] in
     ap (up_marks columns to)
     (cut_same (λ doc. has_document doc ps) (λ doc. has_ordinal o (values_of doc found)) (λ doc. sym (rows_have o doc ps) ∙ posted_same columns f found flags are is o of doc) 0 flags)
+
+-- and so many documents have the ordinal
+posted_marks : (columns : Columns) (f : ℕ) (found : List (ℕ × List ℕ)) (flags : List Bool) → AreColumns columns → column_of f columns.ordinals ≡ Some found → (o : ℕ) → IsOf (terms_of columns) f o
+    → count_by is_marked (cut_from (λ doc. has_document doc (get_or (postings_of columns) o [])) 0 flags) ≡ count_by (has_ordinal o) (map (λ doc. values_of doc found) (marked_places 0 flags))
+posted_marks columns f found flags are is o of =
+    let ps = get_or (postings_of columns) o [] in
+    cut_counted (λ doc. has_document doc ps) 0 flags
+    ∙ count_same (λ doc. has_document doc ps) (λ doc. has_ordinal o (values_of doc found)) (λ doc. sym (rows_have o doc ps) ∙ posted_same columns f found flags are is o of doc) (marked_places 0 flags)
+    ∙ sym (count_mapped (has_ordinal o) (λ doc. values_of doc found) (marked_places 0 flags))
+
+same_at : (z n k : ℕ) → get_or (replicate n z) k z ≡ z
+same_at z zero k = refl
+same_at z (suc n) zero = refl
+same_at z (suc n) (suc k) = same_at z n k
+
+-- the counts of the sets of a field's terms
+pub sets_counted : (columns : Columns) (f : ℕ) (found : List (ℕ × List ℕ)) (flags : List Bool) → AreColumns columns → column_of f columns.ordinals ≡ Some found
+    → (first end : ℕ) (counts : List ℕ) → AreAscending (terms_of columns) → first ≤ end → end ≤ length (terms_of columns) → IsRange (is_of_field f) (terms_of columns) first end → length counts ≡ end - first
+    → ((k : ℕ) → k < end - first → get_or counts k 0 ≡ count_by is_marked (cut_from (λ doc. has_document doc (get_or (postings_of columns) (first + k) [])) 0 flags))
+    → Counted first (map (λ doc. values_of doc found) (marked_places 0 flags)) (replicate (end - first) 0) counts
+sets_counted columns f found flags are is first end counts up ordered within range long each =
+    let n : ℕ = end - first in
+    let whole : first + n ≡ end = omega (arith, ordered) in
+    let there : IsRange (is_of_field f) (terms_of columns) first (first + n) = subst (λ (e : ℕ). IsRange (is_of_field f) (terms_of columns) first e) (sym whole) range in
+    record {
+      long = long ∙ sym (length-replicate {A = ℕ} n 0);
+      each = λ k low.
+          let inside : k < n = omega (arith, low, length-replicate {A = ℕ} n 0) in
+          omega (
+            arith,
+            each k inside,
+            posted_marks columns f found flags are is (first + k) (of_range (terms_of columns) f first n up there (omega (arith, within, whole)) k inside),
+            same_at 0 n k,
+          );
+    }
 
 -- ---- by values
 

@@ -25,3 +25,6 @@ pub mod Texts
 pub mod Rooted
 pub mod Around
 pub mod Faceted
+pub mod Ranged
+pub mod Parents
+pub mod Evaluating

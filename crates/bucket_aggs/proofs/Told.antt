@@ -1,11 +1,12 @@
 -- What the marked documents have, row by row.
-use Rattle.std.proofs.Common.{◌≡◌, ℕ, zero, suc, ◌+◌, ◌-◌, ◌==◌, ◌<◌, ◌≤◌, Bool, true, false, cond, List, [], ◌∷◌, ◌++◌, length, drop, get_or, slice_get, sum_by, Some, refl, sym, ap, ◌∙◌, arith}
-use Rattle.std.specs.List.{flat_map}
+use Rattle.std.proofs.Common.{◌≡◌, ℕ, zero, suc, ◌+◌, ◌-◌, ◌==◌, ◌<◌, ◌≤◌, Bool, true, false, cond, List, [], ◌∷◌, ◌++◌, length, drop, get_or, slice_get, sum_by, Some, inl, inr, refl, sym, ap, ◌∙◌, arith}
+use Rattle.std.specs.List.{All, flat_map}
 use Rattle.std.specs.List.Sorted.{IsStrictlyIncreasing}
-use Rattle.std.proofs.lemmas.Bool.{eqb-false, eqb-true, ne_eqb}
-use Rattle.std.proofs.lemmas.List.{length-append}
+use Rattle.std.proofs.lemmas.Bool.{cases_lt, eqb-false, eqb-true, ne_eqb}
+use Rattle.std.proofs.lemmas.List.{get_or-map, get_or_default, length-append, length-map}
 use Rattle.std.proofs.lemmas.List.Sums.{sum_by-cons}
-use Rattle.std.proofs.lemmas.Option.{same_Some}
+use Rattle.std.proofs.lemmas.Map.Keys.{below_from_sorted, sorted_from_strictly_increasing}
+use Rattle.std.proofs.lemmas.Option.{get_or_from_slice_get, same_Some}
 use Rattle.doc_values.specs.Values.{documents, values_of}
 use Rattle.segment_parts.specs.Text.{marked_places}
 use Rattle.bucket_aggs.proofs.Lists.{Each, by_test, each_as}
@@ -112,14 +113,31 @@ module _ {A : Type 0} where
   rows_told flags rows up = marked_told flags 0 rows (behind_all rows) (ascend_of rows up)
 
   -- what is left from a row on
+  pub told_own : (flags : List Bool) (rows : RowsOf A) (at doc : ℕ) (values : List A) → at < length rows → slice_get rows at ≡ Some (doc, values)
+      → flat_map (told flags 0) (drop at rows) ≡ cond (get_or flags doc false) values [] ++ flat_map (told flags 0) (drop (at + 1) rows)
+  told_own flags [] at doc values low is = absurd (omega (arith, low))
+  told_own flags (row ∷ rows) zero doc values low is =
+      let same : doc - 0 ≡ doc = omega arith in
+      ap (λ (r : ℕ × List A). told flags 0 r ++ flat_map (told flags 0) rows) (same_Some row (doc, values) is)
+      ∙ ap (λ (d : ℕ). cond (get_or flags d false) values [] ++ flat_map (told flags 0) rows) same
+  told_own flags (row ∷ rows) (suc at) doc values low is = let next : suc at + 1 ≡ suc (at + 1) = omega arith in rw next (told_own flags rows at doc values (omega (arith, low)) is)
+
   pub told_next : (flags : List Bool) (rows : RowsOf A) (at doc : ℕ) (values : List A) → at < length rows → doc ≡ get_or (documents rows) at 0 → slice_get rows at ≡ Some (get_or (documents rows) at 0, values)
       → flat_map (told flags 0) (drop at rows) ≡ cond (get_or flags doc false) values [] ++ flat_map (told flags 0) (drop (at + 1) rows)
-  told_next flags [] at doc values low here is = absurd (omega (arith, low))
-  told_next flags (row ∷ rows) zero doc values low here is =
-      let own : row ≡ (row.0, values) = cc in
-      ap (λ (r : ℕ × List A). told flags 0 r ++ flat_map (told flags 0) rows) own
-      ∙ ap (λ (d : ℕ). cond (get_or flags d false) values [] ++ flat_map (told flags 0) rows) (omega (arith, here))
-  told_next flags (row ∷ rows) (suc at) doc values low here is = let next : suc at + 1 ≡ suc (at + 1) = omega arith in rw next (told_next flags rows at doc values (omega (arith, low)) here is)
+  told_next flags rows at doc values low here is =
+      told_own flags rows at (get_or (documents rows) at 0) values low is
+      ∙ ap (λ (d : ℕ). cond (get_or flags d false) values [] ++ flat_map (told flags 0) (drop (at + 1) rows)) (sym here)
+
+  -- the document of a row
+  pub document_of : (rows : RowsOf A) (at doc : ℕ) (values : List A) → at < length rows → slice_get rows at ≡ Some (doc, values) → doc ≡ get_or (documents rows) at 0
+  document_of rows at doc values low is =
+      let d : ℕ × List A = (0, []) in
+      ap (λ (row : ℕ × List A). row.0) (sym (get_or_from_slice_get rows at (doc, values) d is)) ∙ sym (get_or-map (λ (row : ℕ × List A). row.0) rows at d 0 low)
+
+  pub document_below : (rows : RowsOf A) (at doc end : ℕ) (values : List A) → at < length rows → slice_get rows at ≡ Some (doc, values) → All (λ d. d < end) (documents rows) → doc < end
+  document_below rows at doc end values low is within =
+      let own : get_or (documents rows) at 0 < end = within at 0 (omega (arith, low, length-map rows (λ (row : ℕ × List A). row.0))) in
+      omega (arith, own, document_of rows at doc values low is)
 
   pub told_skip : (flags : List Bool) (rows : RowsOf A) (at doc : ℕ) → at < length rows → doc ≡ get_or (documents rows) at 0 → get_or flags doc false ≡ false → flat_map (told flags 0) (drop at rows) ≡ flat_map (told flags 0) (drop (at + 1) rows)
   told_skip flags [] at doc low here off = absurd (omega (arith, low))
@@ -163,3 +181,26 @@ module _ {A : Type 0} where
         length-append (cond here values []) (flat_map (told flags 0) (drop (at + 1) rows)),
         length_if here values,
       )
+
+  -- a row of one value
+  pub told_one : (flags : List Bool) (rows : RowsOf A) (at doc : ℕ) (value : A) → at < length rows → slice_get rows at ≡ Some (doc, value ∷ [])
+      → length (flat_map (told flags 0) (drop at rows)) ≡ cond (get_or flags doc false) 1 0 + length (flat_map (told flags 0) (drop (at + 1) rows))
+  told_one flags rows at doc value low is =
+      let here : Bool = get_or flags doc false in
+      omega (
+        arith,
+        ap length (told_own flags rows at doc (value ∷ []) low is),
+        length-append (cond here (value ∷ []) []) (flat_map (told flags 0) (drop (at + 1) rows)),
+        length_if here (value ∷ []),
+      )
+
+-- where the last of ascending documents is below an end, each is
+pub all_within : (docs : List ℕ) (end : ℕ) → IsStrictlyIncreasing docs → get_or docs (length docs - 1) 0 < end → All (λ d. d < end) docs
+all_within docs end up last = λ k d below. elim (cases_lt k (length docs - 1)) [
+  | inl earlier ↦
+      let less : get_or docs k 0 < get_or docs (length docs - 1) 0 = below_from_sorted docs k (length docs - 1) 0 (sorted_from_strictly_increasing docs up) earlier (omega (arith, below)) in
+      omega (arith, less, last, get_or_default docs k d 0 below)
+  | inr from ↦
+      let same : get_or docs k 0 ≡ get_or docs (length docs - 1) 0 = ap (λ i. get_or docs i 0) (omega (arith, from, below)) in
+      omega (arith, same, last, get_or_default docs k d 0 below)
+]

@@ -1,6 +1,6 @@
 //! The answers to definitions of buckets.
 
-ghost use Rattle.std.specs.Prelude.{◌≡◌, ◌<◌, ℕ, true, List, [], Option, Some, None, map, pos, IfOk, OnOk};
+ghost use Rattle.std.specs.Prelude.{◌≡◌, ◌<◌, ℕ, true, List, [], Option, Some, None, map, IfOk, IfSome, OnOk};
 ghost use Rattle.join_ordinals.specs.Ordinals.{AreOrdinals};
 ghost use Rattle.query_ast.specs.Agg.View.{agg_of};
 ghost use Rattle.query_ast.specs.Definition.{definitions_of, no_definitions};
@@ -10,18 +10,24 @@ ghost use Rattle.query_ast.specs.declared.agg.AggForm.{AggForm};
 ghost use Rattle.query_ast.specs.Replies.View.{bucket_part, reply_part, value_of};
 ghost use Rattle.query_ast.specs.Resolved.{AreAggDefinitions, IsAggDefinition, IsChildRelation, IsForm, IsResolved, IsUse, scope_of_form};
 ghost use Rattle.query_ast.specs.Uses.{IsValueOf};
-ghost use Rattle.mapping.specs.Mapping.{Mapping as Meaning, IsAbove, kind_at};
-ghost use Rattle.query_eval.specs.Found.{AreLong, IsSeen};
+ghost use Rattle.mapping.specs.Mapping.{IsAbove, kind_at};
+ghost use Rattle.query_eval.specs.Found.{AreLong, IsFound, IsSeen};
+ghost use Rattle.query_eval.specs.Keyed.{AreChildRoots, AreParentRoots};
 ghost use Rattle.tree_objects.specs.Object.{Object};
 ghost use Rattle.tree_objects.specs.Tree.{Tree};
 ghost use Rattle.bucket_aggs.specs.Counts.{AreKeys, AreKnown};
-ghost use Rattle.bucket_aggs.specs.Given.{AreOfValue, AreReplies, IsAnswer, bucket_by, buckets_by, count_by_field, greatest_by, least_by, more_replies, reply_by, single_by, sum_by_field, value_by};
+ghost use Rattle.bucket_aggs.specs.Given.{AreOfValue, AreReplies, IsAnswer, bucket_by, buckets_by, more_replies, reply_by, single_by, value_by};
+ghost use Rattle.bucket_aggs.specs.Once.{IsKnown};
+ghost use Rattle.bucket_aggs.specs.Once.Ready.{AreReady, IsReady};
 ghost use Rattle.bucket_aggs.specs.Sums.{IsKept};
 
 use crate::NoMemory;
+use crate::across::{children_across, parents_across};
 use crate::facets::{facet_asked, facets};
-use crate::metrics::{FieldSummary, summed, value_count};
+use crate::metric_answers::{count, greatest, least, sum};
+use crate::metrics::FieldSummary;
 use crate::objects::{alike, count_of, filtered, have_one_score, inside_of};
+use crate::once::{Evaluated, Known, evaluate, known_hits, known_roots, opened, parted};
 use crate::posted::TermSet;
 use crate::rows::{CountRow, copied, ordered, sum_of_counts};
 use crate::showing::showing;
@@ -32,7 +38,7 @@ use mapping::Mapping;
 use query_ast::{
     AggDef, AggForm, AggList, AggReplies, AggReply, AggValue, Bucket, BucketList, Query, QueryBox,
 };
-use query_eval::{kept_hits, up_count, ups, with_children, with_parent_by};
+use query_eval::{KeyedRoots, kept_hits, up_count, ups};
 use score_math::ScoreMode;
 use segment_view::{Entry, View};
 use source_steps::Steps;
@@ -41,6 +47,10 @@ use std::sync::ledger::Ledger;
 use tree_joins::objects_are_parted;
 use tree_objects::{Bytes, FieldValue, objects_nest};
 use view_objects::{documents_show_values, hits_are_objects};
+
+/// From so many buckets on it costs less to bring the roots that they join into the order of their keys than to look at each root
+/// of the view for every bucket.
+const MANY_BUCKETS: usize = 16;
 
 /// The answers to definitions of buckets over the objects of a scope that the documents of hits stand for, in the order of the
 /// definitions. No source is read.
@@ -71,6 +81,7 @@ pub fn buckets<L: Ledger>(
             mapping,
             ordinals,
             aggs.as_slice(),
+            None,
             scope,
             hits,
         )?;
@@ -83,6 +94,7 @@ pub fn buckets<L: Ledger>(
         mapping,
         ordinals,
         aggs.as_slice(),
+        None,
         scope,
         &objects,
     )?;
@@ -97,18 +109,20 @@ fn replies(
     mapping: &Mapping,
     ordinals: &JoinOrdinals,
     aggs: &[AggDef],
+    once: Option<&[Evaluated]>,
     scope: u32,
     objects: &Matches,
 ) -> Result<Vec<AggReply>, NoMemory>
     requires resolved { AreAggDefinitions mapping.now scope (definitions_of (map agg_of aggs.now)) }
     requires joined { some_agg_joins (definitions_of (map agg_of aggs.now)) ≡ true → AreOrdinals entries.now ordinals.now }
+    requires once { IfSome once (λ made. AreReady mapping.now entries.now ordinals.now scope (definitions_of (map agg_of aggs.now)) made.now) }
     requires long { AreLong entries.now objects.now }
     ensures { (given : List Tree → Object → Option ℕ) → IsSeen mapping.now entries.now scope given objects.now → IfOk result (λ made. AreReplies mapping.now entries.now scope (definitions_of (map agg_of aggs.now)) given (map reply_part made.items)) }
 {
     let none = Vec::new(alloc);
     let mut kept = None;
     Ok(further(
-        alloc, entries, mapping, ordinals, aggs, scope, objects, none, &mut kept,
+        alloc, entries, mapping, ordinals, aggs, once, scope, objects, none, &mut kept,
     )?)
 }
 
@@ -121,6 +135,7 @@ fn further(
     mapping: &Mapping,
     ordinals: &JoinOrdinals,
     aggs: &[AggDef],
+    once: Option<&[Evaluated]>,
     scope: u32,
     objects: &Matches,
     mut made: Vec<AggReply>,
@@ -128,6 +143,7 @@ fn further(
 ) -> Result<Vec<AggReply>, NoMemory>
     requires resolved { AreAggDefinitions mapping.now scope (definitions_of (map agg_of aggs.now)) }
     requires joined { some_agg_joins (definitions_of (map agg_of aggs.now)) ≡ true → AreOrdinals entries.now ordinals.now }
+    requires once { IfSome once (λ made. AreReady mapping.now entries.now ordinals.now scope (definitions_of (map agg_of aggs.now)) made.now) }
     requires long { AreLong entries.now objects.now }
     requires kept { IsKept entries.now objects.now kept.old }
     ensures { (given : List Tree → Object → Option ℕ) → IsSeen mapping.now entries.now scope given objects.now → IfOk result (λ all. IsAnswer mapping.now entries.now scope (more_replies mapping.now (definitions_of (map agg_of aggs.now)) (map reply_part made.items)) given (map reply_part all.items)) }
@@ -135,10 +151,13 @@ fn further(
     match aggs {
         [] => Ok(made),
         [def, rest @ ..] => {
-            let own = reply(alloc, entries, mapping, ordinals, def, scope, objects, kept)?;
+            let (known, others) = parted(once);
+            let own = reply(
+                alloc, entries, mapping, ordinals, def, known, scope, objects, kept,
+            )?;
             made.push(own)?;
             Ok(further(
-                alloc, entries, mapping, ordinals, rest, scope, objects, made, kept,
+                alloc, entries, mapping, ordinals, rest, others, scope, objects, made, kept,
             )?)
         }
     }
@@ -152,19 +171,22 @@ fn reply(
     mapping: &Mapping,
     ordinals: &JoinOrdinals,
     def: &AggDef,
+    known: Option<&Evaluated>,
     scope: u32,
     objects: &Matches,
     kept: &mut Option<FieldSummary>,
 ) -> Result<AggReply, NoMemory>
     requires resolved { IsAggDefinition mapping.now scope (agg_of def.now) }
     requires joined { agg_joins (agg_of def.now) ≡ true → AreOrdinals entries.now ordinals.now }
+    requires known { IfSome known (λ own. IsReady mapping.now entries.now ordinals.now scope (agg_of def.now) own.now) }
     requires long { AreLong entries.now objects.now }
     requires kept { IsKept entries.now objects.now kept.old }
     ensures reply { (given : List Tree → Object → Option ℕ) → IsSeen mapping.now entries.now scope given objects.now → IfOk result (λ reply. IsAnswer mapping.now entries.now scope (reply_by mapping.now (agg_of def.now)) given (reply_part reply)) }
     ensures kept { OnOk result (IsKept entries.now objects.now kept.new) }
 {
+    let (own, once) = opened(known);
     let answer = value(
-        alloc, entries, mapping, ordinals, &def.form, &def.inner, scope, objects, kept,
+        alloc, entries, mapping, ordinals, &def.form, own, &def.inner, once, scope, objects, kept,
     )?;
     let name = Bytes::of(Vec::from_slice(alloc, def.name.as_slice())?);
     Ok(AggReply {
@@ -181,7 +203,9 @@ fn value(
     mapping: &Mapping,
     ordinals: &JoinOrdinals,
     form: &AggForm,
+    known: Option<&Known>,
     inner: &AggList,
+    once: Option<&[Evaluated]>,
     scope: u32,
     objects: &Matches,
     kept: &mut Option<FieldSummary>,
@@ -190,27 +214,38 @@ fn value(
     requires inner { AreAggDefinitions mapping.now (scope_of_form scope form.now) (definitions_of inner.now) }
     requires joined { form_joins form.now ≡ true → AreOrdinals entries.now ordinals.now }
     requires joined_inside { some_agg_joins (definitions_of inner.now) ≡ true → AreOrdinals entries.now ordinals.now }
+    requires known { IfSome known (λ known. IsKnown mapping.now entries.now ordinals.now scope form.now known.now) }
+    requires once { IfSome once (λ made. AreReady mapping.now entries.now ordinals.now (scope_of_form scope form.now) (definitions_of inner.now) made.now) }
     requires long { AreLong entries.now objects.now }
     requires kept { IsKept entries.now objects.now kept.old }
     ensures value { (given : List Tree → Object → Option ℕ) → IsSeen mapping.now entries.now scope given objects.now → IfOk result (λ value. IsAnswer mapping.now entries.now scope (value_by mapping.now form.now (definitions_of inner.now)) given (value_of value)) }
     ensures kept { OnOk result (IsKept entries.now objects.now kept.new) }
 {
     match form {
-        AggForm::Filter(query) => Ok(hitting(
-            alloc, entries, mapping, ordinals, query, inner, scope, objects,
-        )?),
+        AggForm::Filter(query) => {
+            let hits = known_hits(known);
+            Ok(hitting(
+                alloc, entries, mapping, ordinals, query, hits, inner, once, scope, objects,
+            )?)
+        }
         AggForm::Nested(path) => Ok(inside(
-            alloc, entries, mapping, ordinals, *path, inner, scope, objects,
+            alloc, entries, mapping, ordinals, *path, inner, once, scope, objects,
         )?),
         AggForm::ReverseNested(path) => Ok(around(
-            alloc, entries, mapping, ordinals, *path, inner, scope, objects,
+            alloc, entries, mapping, ordinals, *path, inner, once, scope, objects,
         )?),
-        AggForm::Children(relation) => Ok(children(
-            alloc, entries, mapping, ordinals, *relation, inner, scope, objects,
-        )?),
-        AggForm::Parent(relation) => Ok(parents(
-            alloc, entries, mapping, ordinals, *relation, inner, scope, objects,
-        )?),
+        AggForm::Children(relation) => {
+            let roots = known_roots(known);
+            Ok(children(
+                alloc, entries, mapping, ordinals, *relation, roots, inner, once, scope, objects,
+            )?)
+        }
+        AggForm::Parent(relation) => {
+            let roots = known_roots(known);
+            Ok(parents(
+                alloc, entries, mapping, ordinals, *relation, roots, inner, once, scope, objects,
+            )?)
+        }
         AggForm::Terms {
             field,
             size,
@@ -226,6 +261,7 @@ fn value(
             *by_key,
             *descending,
             inner,
+            once,
             scope,
             objects,
         )?),
@@ -246,7 +282,9 @@ fn hitting(
     mapping: &Mapping,
     ordinals: &JoinOrdinals,
     query: &QueryBox,
+    hits: Option<&Matches>,
     inner: &AggList,
+    once: Option<&[Evaluated]>,
     scope: u32,
     objects: &Matches,
 ) -> Result<AggValue, NoMemory>
@@ -254,6 +292,8 @@ fn hitting(
     requires joins { joins query.now ≡ true → AreOrdinals entries.now ordinals.now }
     requires inner { AreAggDefinitions mapping.now scope (definitions_of inner.now) }
     requires joined_inside { some_agg_joins (definitions_of inner.now) ≡ true → AreOrdinals entries.now ordinals.now }
+    requires hits { IfSome hits (λ hits. IsFound mapping.now entries.now scope query.now hits.now) }
+    requires once { IfSome once (λ made. AreReady mapping.now entries.now ordinals.now scope (definitions_of inner.now) made.now) }
     requires long { AreLong entries.now objects.now }
     ensures { (given : List Tree → Object → Option ℕ) → IsSeen mapping.now entries.now scope given objects.now → IfOk result (λ value. IsAnswer mapping.now entries.now scope (value_by mapping.now (AggForm.Filter query.now) (definitions_of inner.now)) given (value_of value)) }
 {
@@ -263,10 +303,13 @@ fn hitting(
         mapping,
         ordinals,
         query.get(),
+        hits,
         scope,
         objects,
     )?;
-    Ok(single(alloc, entries, mapping, ordinals, inner, scope, &those)?)
+    Ok(single(
+        alloc, entries, mapping, ordinals, inner, once, scope, &those,
+    )?)
 }
 
 /// `nested`: the objects of a path inside them.
@@ -278,17 +321,19 @@ fn inside(
     ordinals: &JoinOrdinals,
     path: u32,
     inner: &AggList,
+    once: Option<&[Evaluated]>,
     scope: u32,
     objects: &Matches,
 ) -> Result<AggValue, NoMemory>
     requires path { IsAbove mapping.now scope path }
     requires inner { AreAggDefinitions mapping.now path (definitions_of inner.now) }
     requires joined_inside { some_agg_joins (definitions_of inner.now) ≡ true → AreOrdinals entries.now ordinals.now }
+    requires once { IfSome once (λ made. AreReady mapping.now entries.now ordinals.now path (definitions_of inner.now) made.now) }
     requires long { AreLong entries.now objects.now }
     ensures { (given : List Tree → Object → Option ℕ) → IsSeen mapping.now entries.now scope given objects.now → IfOk result (λ value. IsAnswer mapping.now entries.now scope (value_by mapping.now (AggForm.Nested path) (definitions_of inner.now)) given (value_of value)) }
 {
     let those = inside_of(alloc, entries, mapping, ordinals, scope, path, objects)?;
-    Ok(single(alloc, entries, mapping, ordinals, inner, path, &those)?)
+    Ok(single(alloc, entries, mapping, ordinals, inner, once, path, &those)?)
 }
 
 /// `reverse_nested`: the objects of a path around them, each once.
@@ -300,12 +345,14 @@ fn around(
     ordinals: &JoinOrdinals,
     path: u32,
     inner: &AggList,
+    once: Option<&[Evaluated]>,
     scope: u32,
     objects: &Matches,
 ) -> Result<AggValue, NoMemory>
     requires path { IsAbove mapping.now path scope }
     requires inner { AreAggDefinitions mapping.now path (definitions_of inner.now) }
     requires joined_inside { some_agg_joins (definitions_of inner.now) ≡ true → AreOrdinals entries.now ordinals.now }
+    requires once { IfSome once (λ made. AreReady mapping.now entries.now ordinals.now path (definitions_of inner.now) made.now) }
     requires long { AreLong entries.now objects.now }
     ensures { (given : List Tree → Object → Option ℕ) → IsSeen mapping.now entries.now scope given objects.now → IfOk result (λ value. IsAnswer mapping.now entries.now scope (value_by mapping.now (AggForm.ReverseNested path) (definitions_of inner.now)) given (value_of value)) }
 {
@@ -316,7 +363,7 @@ fn around(
     objects_are_parted();
     let _scopes = mapping.scope_count();
     let those = ups(alloc, entries, objects, path, ScoreMode::Max)?;
-    Ok(single(alloc, entries, mapping, ordinals, inner, path, &those)?)
+    Ok(single(alloc, entries, mapping, ordinals, inner, once, path, &those)?)
 }
 
 /// `reverse_nested` with nothing inside: it is counted alone.
@@ -350,21 +397,25 @@ fn children(
     mapping: &Mapping,
     ordinals: &JoinOrdinals,
     relation: u32,
+    roots: Option<&KeyedRoots>,
     inner: &AggList,
+    once: Option<&[Evaluated]>,
     scope: u32,
     objects: &Matches,
 ) -> Result<AggValue, NoMemory>
     requires root { scope ≡ 0 }
     requires relation { IsChildRelation mapping.now relation }
+    requires roots { IfSome roots (λ roots. AreChildRoots mapping.now ordinals.now relation entries.now roots.now) }
     requires joined { AreOrdinals entries.now ordinals.now }
     requires inner { AreAggDefinitions mapping.now 0 (definitions_of inner.now) }
+    requires once { IfSome once (λ made. AreReady mapping.now entries.now ordinals.now 0 (definitions_of inner.now) made.now) }
     requires long { AreLong entries.now objects.now }
     ensures { (given : List Tree → Object → Option ℕ) → IsSeen mapping.now entries.now scope given objects.now → IfOk result (λ value. IsAnswer mapping.now entries.now scope (value_by mapping.now (AggForm.Children relation) (definitions_of inner.now)) given (value_of value)) }
 {
     hits_are_objects();
     let _scopes = mapping.scope_count();
-    let those = with_parent_by(alloc, entries, mapping, ordinals, objects, relation)?;
-    Ok(single(alloc, entries, mapping, ordinals, inner, 0, &those)?)
+    let those = children_across(alloc, entries, mapping, ordinals, relation, roots, objects)?;
+    Ok(single(alloc, entries, mapping, ordinals, inner, once, 0, &those)?)
 }
 
 /// `parent`: the parent trees of the roots, each once; the relation is the children's.
@@ -375,31 +426,25 @@ fn parents(
     mapping: &Mapping,
     ordinals: &JoinOrdinals,
     relation: u32,
+    roots: Option<&KeyedRoots>,
     inner: &AggList,
+    once: Option<&[Evaluated]>,
     scope: u32,
     objects: &Matches,
 ) -> Result<AggValue, NoMemory>
     requires root { scope ≡ 0 }
     requires relation { IsChildRelation mapping.now relation }
+    requires roots { IfSome roots (λ roots. AreParentRoots mapping.now ordinals.now relation entries.now roots.now) }
     requires joined { AreOrdinals entries.now ordinals.now }
     requires inner { AreAggDefinitions mapping.now 0 (definitions_of inner.now) }
+    requires once { IfSome once (λ made. AreReady mapping.now entries.now ordinals.now 0 (definitions_of inner.now) made.now) }
     requires long { AreLong entries.now objects.now }
     ensures { (given : List Tree → Object → Option ℕ) → IsSeen mapping.now entries.now scope given objects.now → IfOk result (λ value. IsAnswer mapping.now entries.now scope (value_by mapping.now (AggForm.Parent relation) (definitions_of inner.now)) given (value_of value)) }
 {
     hits_are_objects();
     let _scopes = mapping.scope_count();
-    let those = with_children(
-        alloc,
-        entries,
-        mapping,
-        ordinals,
-        objects,
-        relation,
-        ScoreMode::Max,
-        1,
-        None,
-    )?;
-    Ok(single(alloc, entries, mapping, ordinals, inner, 0, &those)?)
+    let those = parents_across(alloc, entries, mapping, ordinals, relation, roots, objects)?;
+    Ok(single(alloc, entries, mapping, ordinals, inner, once, 0, &those)?)
 }
 
 /// One bucket of all the objects.
@@ -410,11 +455,13 @@ fn single(
     mapping: &Mapping,
     ordinals: &JoinOrdinals,
     inner: &AggList,
+    once: Option<&[Evaluated]>,
     scope: u32,
     objects: &Matches,
 ) -> Result<AggValue, NoMemory>
     requires resolved { AreAggDefinitions mapping.now scope (definitions_of inner.now) }
     requires joined { some_agg_joins (definitions_of inner.now) ≡ true → AreOrdinals entries.now ordinals.now }
+    requires once { IfSome once (λ made. AreReady mapping.now entries.now ordinals.now scope (definitions_of inner.now) made.now) }
     requires long { AreLong entries.now objects.now }
     ensures { (given : List Tree → Object → Option ℕ) → IsSeen mapping.now entries.now scope given objects.now → IfOk result (λ value. IsAnswer mapping.now entries.now scope (single_by mapping.now (definitions_of inner.now)) given (value_of value)) }
 {
@@ -425,6 +472,7 @@ fn single(
         mapping,
         ordinals,
         inner.as_slice(),
+        once,
         scope,
         objects,
     )?;
@@ -446,18 +494,20 @@ fn terms(
     by_key: bool,
     descending: bool,
     inner: &AggList,
+    once: Option<&[Evaluated]>,
     scope: u32,
     objects: &Matches,
 ) -> Result<AggValue, NoMemory>
     requires field { IsUse (λ u. u.sorted) mapping.now field }
     requires resolved { AreAggDefinitions mapping.now scope (definitions_of inner.now) }
     requires joined { some_agg_joins (definitions_of inner.now) ≡ true → AreOrdinals entries.now ordinals.now }
+    requires once { IfSome once (λ made. AreReady mapping.now entries.now ordinals.now scope (definitions_of inner.now) made.now) }
     requires long { AreLong entries.now objects.now }
     ensures { (given : List Tree → Object → Option ℕ) → IsSeen mapping.now entries.now scope given objects.now → IfOk result (λ value. IsAnswer mapping.now entries.now scope (value_by mapping.now (AggForm.Terms field size by_key descending) (definitions_of inner.now)) given (value_of value)) }
 {
     match field {
         Some(field) => Ok(field_terms(
-            alloc, entries, mapping, ordinals, field, size, by_key, descending, inner, scope,
+            alloc, entries, mapping, ordinals, field, size, by_key, descending, inner, once, scope,
             objects,
         )?),
         None => Ok(no_buckets(alloc)),
@@ -477,12 +527,14 @@ fn field_terms(
     by_key: bool,
     descending: bool,
     inner: &AggList,
+    once: Option<&[Evaluated]>,
     scope: u32,
     objects: &Matches,
 ) -> Result<AggValue, NoMemory>
     requires field { IsUse (λ u. u.sorted) mapping.now (Some field) }
     requires resolved { AreAggDefinitions mapping.now scope (definitions_of inner.now) }
     requires joined { some_agg_joins (definitions_of inner.now) ≡ true → AreOrdinals entries.now ordinals.now }
+    requires once { IfSome once (λ made. AreReady mapping.now entries.now ordinals.now scope (definitions_of inner.now) made.now) }
     requires long { AreLong entries.now objects.now }
     ensures { (given : List Tree → Object → Option ℕ) → IsSeen mapping.now entries.now scope given objects.now → IfOk result (λ value. IsAnswer mapping.now entries.now scope (value_by mapping.now (AggForm.Terms (Some field) size by_key descending) (definitions_of inner.now)) given (value_of value)) }
 {
@@ -491,7 +543,7 @@ fn field_terms(
             alloc, entries, mapping, field, size, by_key, descending, name, path, scope, objects,
         )?),
         None => Ok(mapped_terms(
-            alloc, entries, mapping, ordinals, field, size, by_key, descending, inner, scope,
+            alloc, entries, mapping, ordinals, field, size, by_key, descending, inner, once, scope,
             objects,
         )?),
     }
@@ -519,12 +571,14 @@ fn mapped_terms(
     by_key: bool,
     descending: bool,
     inner: &AggList,
+    once: Option<&[Evaluated]>,
     scope: u32,
     objects: &Matches,
 ) -> Result<AggValue, NoMemory>
     requires field { IsUse (λ u. u.sorted) mapping.now (Some field) }
     requires resolved { AreAggDefinitions mapping.now scope (definitions_of inner.now) }
     requires joined { some_agg_joins (definitions_of inner.now) ≡ true → AreOrdinals entries.now ordinals.now }
+    requires once { IfSome once (λ made. AreReady mapping.now entries.now ordinals.now scope (definitions_of inner.now) made.now) }
     requires long { AreLong entries.now objects.now }
     ensures { (given : List Tree → Object → Option ℕ) → IsSeen mapping.now entries.now scope given objects.now → IfOk result (λ value. IsAnswer mapping.now entries.now scope (value_by mapping.now (AggForm.Terms (Some field) size by_key descending) (definitions_of inner.now)) given (value_of value)) }
 {
@@ -545,13 +599,50 @@ fn mapped_terms(
     let (first, others) = sorted.as_slice().split_at(end);
     let other = sum_of_counts(others)?;
     let found = found.as_slice();
-    let buckets = shown(
-        alloc, entries, mapping, ordinals, field, first, inner, scope, objects, found,
+    let buckets = ready_shown(
+        alloc, entries, mapping, ordinals, field, first, inner, once, scope, objects, found,
     )?;
     Ok(AggValue::Buckets {
         buckets: BucketList::of(buckets),
         other,
     })
+}
+
+/// The buckets of values, in their order. What they all ask for is evaluated before the first of several, if it was not yet.
+#[cycle(answers)]
+fn ready_shown(
+    alloc: Global,
+    entries: &[Entry],
+    mapping: &Mapping,
+    ordinals: &JoinOrdinals,
+    field: u32,
+    rows: &[CountRow],
+    inner: &AggList,
+    once: Option<&[Evaluated]>,
+    scope: u32,
+    objects: &Matches,
+    found: &[TermSet],
+) -> Result<Vec<Bucket>, NoMemory>
+    requires field { IsUse (λ u. u.sorted) mapping.now (Some field) }
+    requires found { AreKnown entries.now objects.now found.now }
+    requires keys { AreKeys (kind_at mapping.now field) rows.now }
+    requires resolved { AreAggDefinitions mapping.now scope (definitions_of inner.now) }
+    requires joined { some_agg_joins (definitions_of inner.now) ≡ true → AreOrdinals entries.now ordinals.now }
+    requires once { IfSome once (λ made. AreReady mapping.now entries.now ordinals.now scope (definitions_of inner.now) made.now) }
+    requires long { AreLong entries.now objects.now }
+    ensures { (given : List Tree → Object → Option ℕ) → IsSeen mapping.now entries.now scope given objects.now → IfOk result (λ buckets. IsAnswer mapping.now entries.now scope (buckets_by mapping.now field (definitions_of inner.now) rows.now) given (map bucket_part buckets.items)) }
+{
+    if once.is_some() || rows.len() < 2 {
+        return Ok(shown(
+            alloc, entries, mapping, ordinals, field, rows, inner, once, scope, objects, found,
+        )?);
+    }
+    let many = rows.len() >= MANY_BUCKETS;
+    let made = evaluate(alloc, entries, mapping, ordinals, inner, many, scope)?;
+    let once = Some(made.as_slice());
+    Ok(shown(
+        alloc, entries, mapping, ordinals, field, rows, inner, once, scope, objects, found,
+    )?)
 }
 
 /// The buckets of values, in their order.
@@ -564,6 +655,7 @@ fn shown(
     field: u32,
     rows: &[CountRow],
     inner: &AggList,
+    once: Option<&[Evaluated]>,
     scope: u32,
     objects: &Matches,
     found: &[TermSet],
@@ -573,13 +665,14 @@ fn shown(
     requires keys { AreKeys (kind_at mapping.now field) rows.now }
     requires resolved { AreAggDefinitions mapping.now scope (definitions_of inner.now) }
     requires joined { some_agg_joins (definitions_of inner.now) ≡ true → AreOrdinals entries.now ordinals.now }
+    requires once { IfSome once (λ made. AreReady mapping.now entries.now ordinals.now scope (definitions_of inner.now) made.now) }
     requires long { AreLong entries.now objects.now }
     ensures { (given : List Tree → Object → Option ℕ) → IsSeen mapping.now entries.now scope given objects.now → IfOk result (λ buckets. IsAnswer mapping.now entries.now scope (buckets_by mapping.now field (definitions_of inner.now) rows.now) given (map bucket_part buckets.items)) }
 {
     let mut buckets = Vec::with_capacity(alloc, rows.len())?;
     'rows: for at in 0..rows.len() {
         let bucket = bucket(
-            alloc, entries, mapping, ordinals, field, &rows[at], inner, scope, objects, found,
+            alloc, entries, mapping, ordinals, field, &rows[at], inner, once, scope, objects, found,
         )?;
         buckets.push(bucket)?;
     }
@@ -596,6 +689,7 @@ fn bucket(
     field: u32,
     row: &CountRow,
     inner: &AggList,
+    once: Option<&[Evaluated]>,
     scope: u32,
     objects: &Matches,
     found: &[TermSet],
@@ -605,6 +699,7 @@ fn bucket(
     requires key { IsValueOf (kind_at mapping.now field) row.now.key }
     requires resolved { AreAggDefinitions mapping.now scope (definitions_of inner.now) }
     requires joined { some_agg_joins (definitions_of inner.now) ≡ true → AreOrdinals entries.now ordinals.now }
+    requires once { IfSome once (λ made. AreReady mapping.now entries.now ordinals.now scope (definitions_of inner.now) made.now) }
     requires long { AreLong entries.now objects.now }
     ensures { (given : List Tree → Object → Option ℕ) → IsSeen mapping.now entries.now scope given objects.now → IfOk result (λ bucket. IsAnswer mapping.now entries.now scope (bucket_by mapping.now field (definitions_of inner.now) row.now) given (bucket_part bucket)) }
 {
@@ -626,6 +721,7 @@ fn bucket(
         mapping,
         ordinals,
         inner.as_slice(),
+        once,
         scope,
         &those,
     )?;
@@ -669,102 +765,4 @@ fn of_value(
             Ok(kept_hits(alloc, entries, mapping, &query, scope, objects)?)
         }
     }
-}
-
-/// The least value of a field; None where there is none.
-fn least(
-    entries: &[Entry],
-    field: Option<u32>,
-    objects: &Matches,
-    kept: &mut Option<FieldSummary>,
-) -> Result<Option<i64>, NoMemory>
-    requires long { AreLong entries.now objects.now }
-    requires kept { IsKept entries.now objects.now kept.old }
-    ensures answer { (m : Meaning) (n : ℕ) (given : List Tree → Object → Option ℕ) → IsUse (λ u. u.summed) m field → IsSeen m entries.now n given objects.now → IfOk result (IsAnswer m entries.now n (least_by m field) given) }
-    ensures kept { OnOk result (IsKept entries.now objects.now kept.new) }
-{
-    documents_show_values();
-    match field {
-        Some(field) => {
-            let sums = summed(entries, field, objects, kept)?;
-            Ok(sums.least)
-        }
-        None => Ok(None),
-    }
-}
-
-/// The greatest value of a field; None where there is none.
-fn greatest(
-    entries: &[Entry],
-    field: Option<u32>,
-    objects: &Matches,
-    kept: &mut Option<FieldSummary>,
-) -> Result<Option<i64>, NoMemory>
-    requires long { AreLong entries.now objects.now }
-    requires kept { IsKept entries.now objects.now kept.old }
-    ensures answer { (m : Meaning) (n : ℕ) (given : List Tree → Object → Option ℕ) → IsUse (λ u. u.summed) m field → IsSeen m entries.now n given objects.now → IfOk result (IsAnswer m entries.now n (greatest_by m field) given) }
-    ensures kept { OnOk result (IsKept entries.now objects.now kept.new) }
-{
-    documents_show_values();
-    match field {
-        Some(field) => {
-            let sums = summed(entries, field, objects, kept)?;
-            Ok(sums.greatest)
-        }
-        None => Ok(None),
-    }
-}
-
-/// The sum of the values of a field, clamped to 64 bits; 0 where there is none.
-fn sum(
-    entries: &[Entry],
-    field: Option<u32>,
-    objects: &Matches,
-    kept: &mut Option<FieldSummary>,
-) -> Result<i64, NoMemory>
-    requires long { AreLong entries.now objects.now }
-    requires kept { IsKept entries.now objects.now kept.old }
-    ensures answer { (m : Meaning) (n : ℕ) (given : List Tree → Object → Option ℕ) → IsUse (λ u. u.summed) m field → IsSeen m entries.now n given objects.now → IfOk result (IsAnswer m entries.now n (sum_by_field m field) given) }
-    ensures kept { OnOk result (IsKept entries.now objects.now kept.new) }
-{
-    documents_show_values();
-    match field {
-        Some(field) => {
-            let sums = summed(entries, field, objects, kept)?;
-            Ok(sums.sum())
-        }
-        None => Ok(0),
-    }
-}
-
-/// How many values of a field there are, repeats included.
-fn count(
-    entries: &[Entry],
-    mapping: &Mapping,
-    field: Option<u32>,
-    objects: &Matches,
-) -> Result<i64, NoMemory>
-    requires field { IsUse (λ u. u.sorted) mapping.now field }
-    requires long { AreLong entries.now objects.now }
-    ensures { (n : ℕ) (given : List Tree → Object → Option ℕ) → IsSeen mapping.now entries.now n given objects.now → IfOk result (IsAnswer mapping.now entries.now n (count_by_field mapping.now field) given) }
-{
-    documents_show_values();
-    match field {
-        Some(field) => {
-            let count = value_count(entries, mapping.kind(field), field, objects)?;
-            let number = as_number(count)?;
-            Ok(number)
-        }
-        None => Ok(0),
-    }
-}
-
-/// A count as a number. `NoMemory` where it has more than 63 bits.
-fn as_number(count: u64) -> Result<i64, NoMemory>
-    ensures { IfOk result (λ number. number ≡ pos count) }
-{
-    if count > i64::MAX as u64 {
-        return Err(NoMemory);
-    }
-    Ok(count as i64)
 }

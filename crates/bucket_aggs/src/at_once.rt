@@ -1,8 +1,8 @@
 //! The terms of a keyword field, counted at once with the objects of a path around those that show them.
 
-ghost use Rattle.std.specs.Prelude.{◌≡◌, ◌-◌, ◌<◌, ◌≤◌, [], true, length, map, replicate, count_by, slice_index_or, IfOk, OnOk, Some};
+ghost use Rattle.std.specs.Prelude.{◌≡◌, ◌-◌, ◌<◌, ◌≤◌, [], true, false, length, map, replicate, count_by, slice_index_or, IfOk, OnOk, Some};
 ghost use Rattle.doc_values.specs.Values.{values_of};
-ghost use Rattle.postings.specs.Postings.{ArePostings};
+ghost use Rattle.block_bits.specs.Flags.{is_marked};
 ghost use Rattle.query_ast.specs.Uses.{is_written};
 ghost use Rattle.query_eval.specs.Counted.{up_marks};
 ghost use Rattle.query_eval.specs.Found.{AreLong};
@@ -13,10 +13,11 @@ ghost use Rattle.segment_parts.specs.Text.{marked_places};
 ghost use Rattle.term_table.specs.Ranges.{IsRange, is_of_field};
 ghost use Rattle.tree_objects.specs.declared.field_value.FieldValue.{FieldValue as Value};
 ghost use Rattle.postings.specs.Marks.{has_document};
-ghost use Rattle.bucket_aggs.specs.Counts.{AreCounts, AreKeys, AreUps, Counted, KeysAscend, UpsWeighed, Weighed, cut_from, flats_of_view, is_posted, view_ups, weight};
+ghost use Rattle.bucket_aggs.specs.Counts.{AreCounts, AreKeys, AreUps, Counted, KeysAscend, UpsWeighed, Weighed, cut_from, flats_of_view, view_ups, weight};
 
 use crate::NoMemory;
-use crate::posted::term_set;
+use crate::posted::mark_term;
+use crate::ranges::terms_of_field;
 use crate::rows::{CountRow, compared, merged};
 use crate::terms::put_terms;
 use block_bits::BitSet;
@@ -56,7 +57,7 @@ fn work_of(segment: &Segment, field: u32, documents: u32) -> u64 {
     let Some(column) = segment.ordinals(field) else {
         return 0;
     };
-    let (first, end) = segment.terms().field_range(field);
+    let (first, end) = terms_of_field(&segment.terms(), field, &column);
     let terms = end - first;
     if terms > MOST_TERMS {
         return u64::MAX;
@@ -82,6 +83,10 @@ pub(crate) fn counted_at_once(
     ensures ups { (v : Value) → OnOk result (weight v ups.new.items ≡ view_ups to kind field entries.now objects.now v) }
 {
     let objects = objects.as_slice();
+    let mut counts = TermCounts {
+        own: Vec::new(alloc),
+        around: Vec::new(alloc),
+    };
     let mut rows = Vec::new(alloc);
     'entries: for at in 0..entries.len() {
         add_at_once(
@@ -91,11 +96,20 @@ pub(crate) fn counted_at_once(
             field,
             objects[at].set(),
             to,
+            &mut counts,
             &mut rows,
             ups,
         )?;
     }
     Ok(merged(alloc, rows)?)
+}
+
+/// How many documents have each term of a field in a segment, by ordinal, and how many documents of a scope are around those; the
+/// memory serves one segment after the other.
+#[derive(Drop)]
+struct TermCounts {
+    own: Vec<u64>,
+    around: Vec<u64>,
 }
 
 /// Adds the values that the documents of a set show, and the objects around those.
@@ -106,6 +120,7 @@ fn add_at_once(
     field: u32,
     set: &BitSet,
     to: u32,
+    counts: &mut TermCounts,
     rows: &mut Vec<CountRow>,
     ups: &mut Vec<CountRow>,
 ) -> Result<(), NoMemory>
@@ -122,21 +137,12 @@ fn add_at_once(
     };
     let terms = segment.terms();
     let _ascending = terms.count();
-    let (first, end) = terms.field_range(field);
-    let mut around = Vec::with_capacity(alloc, (end - first) as usize)?;
-    let counts = counts_at_once(
-        alloc,
-        segment,
-        field,
-        set,
-        &column,
-        first,
-        end,
-        to,
-        &mut around,
-    )?;
-    put_terms(alloc, &terms, first, counts.as_slice(), rows)?;
-    put_terms(alloc, &terms, first, around.as_slice(), ups)?;
+    let (first, end) = terms_of_field(&terms, field, &column);
+    counts.own.clear();
+    counts.around.clear();
+    counts_at_once(alloc, segment, field, set, &column, first, end, to, counts)?;
+    put_terms(alloc, &terms, first, counts.own.as_slice(), rows)?;
+    put_terms(alloc, &terms, first, counts.around.as_slice(), ups)?;
     Ok(())
 }
 
@@ -151,46 +157,51 @@ fn counts_at_once(
     first: u64,
     end: u64,
     to: u32,
-    around: &mut Vec<u64>,
-) -> Result<Vec<u64>, NoMemory>
+    counts: &mut TermCounts,
+) -> Result<(), NoMemory>
     requires column { column_of _field segment.now.ordinals ≡ Some _column.now }
     requires long { length set.now ≡ segment.now.documents }
-    requires none { around.old.items ≡ [] }
+    requires none { counts.old.own.items ≡ [] }
+    requires none_around { counts.old.around.items ≡ [] }
     requires ordered { first ≤ end }
     requires within { end ≤ length (terms_of segment.now) }
     requires range { IsRange (is_of_field _field) (terms_of segment.now) first end }
-    ensures counted { IfOk result (λ counts. Counted first (map (λ doc. values_of doc _column.now) (marked_places 0 set.now)) (replicate (end - first) 0) counts.items) }
-    ensures ups { OnOk result (AreUps segment.now to _column.now set.now first (end - first) around.new.items) }
+    ensures counted { OnOk result (Counted first (map (λ doc. values_of doc _column.now) (marked_places 0 set.now)) (replicate (end - first) 0) counts.new.own.items) }
+    ensures ups { OnOk result (AreUps segment.now to _column.now set.now first (end - first) counts.new.around.items) }
 {
     let _documents = segment.docs();
     let _ascending = segment.terms().count();
-    let mut counts = Vec::with_capacity(alloc, (end - first) as usize)?;
+    let mut marks = BitSet::empty(alloc, set.len())?;
     'terms: for ordinal in first..end {
-        let both = count_at_once(alloc, segment, set, ordinal, to)?;
-        counts.push(both.0)?;
-        around.push(both.1)?;
+        let both = count_at_once(alloc, segment, set, ordinal, to, &mut marks)?;
+        counts.own.push(both.0)?;
+        counts.around.push(both.1)?;
     }
-    Ok(counts)
+    Ok(())
 }
 
-/// How many documents of a set have a term, and how many documents of a scope are around those.
+/// How many documents of a set have a term, and how many documents of a scope are around those; `own` is a set of none, and is
+/// left so, since no document of the term's that is left in it lies out of the set.
 fn count_at_once(
     alloc: Global,
     segment: &Segment,
     set: &BitSet,
     ordinal: u64,
     to: u32,
+    own: &mut BitSet,
 ) -> Result<(u64, u64), NoMemory>
     requires documents { length set.now ≡ segment.now.documents }
     requires ordinal { ordinal < length (terms_of segment.now) }
-    ensures count { IfOk result (λ both. both.0 ≡ count_by (is_posted set.now) (slice_index_or (postings_of segment.now) ordinal [])) }
-    ensures are { ArePostings (slice_index_or (postings_of segment.now) ordinal []) }
+    requires none { own.old ≡ replicate (length set.now) false }
+    ensures count { IfOk result (λ both. both.0 ≡ count_by is_marked (cut_from (λ doc. has_document doc (slice_index_or (postings_of segment.now) ordinal [])) 0 set.now)) }
     ensures ups { IfOk result (λ both. both.1 ≡ up_marks segment.now to (cut_from (λ doc. has_document doc (slice_index_or (postings_of segment.now) ordinal [])) 0 set.now)) }
+    ensures none { OnOk result (own.new ≡ replicate (length set.now) false) }
 {
-    let _first = segment.postings().cursor(ordinal).doc();
-    let own = term_set(alloc, segment, set, ordinal)?;
-    let up = marked_ups(alloc, segment, &own, to)?;
-    Ok((u64::from(own.count()), u64::from(up)))
+    mark_term(segment, set, ordinal, own);
+    let up = marked_ups(alloc, segment, own, to)?;
+    let count = own.count();
+    own.and_not(set);
+    Ok((u64::from(count), u64::from(up)))
 }
 
 /// The count that rows by ascending key have of a key, found by halves.

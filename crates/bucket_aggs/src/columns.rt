@@ -1,9 +1,11 @@
 //! The ordinals that documents have in the column of a field of texts, counted.
 
-ghost use Rattle.std.specs.Prelude.{◌≡◌, [], ◌∷◌, false, map, slice_index_or, OnOk};
-ghost use Rattle.std.specs.List.Sorted.{IsSorted};
+ghost use Rattle.std.specs.Prelude.{◌≡◌, ◌<◌, [], ◌∷◌, false, length, map, slice_index_or, IfSome, IsTrue, OnOk};
+ghost use Rattle.std.specs.List.{All};
+ghost use Rattle.std.specs.List.Sorted.{IsSorted, IsStrictlyIncreasing};
 ghost use Rattle.std.specs.Ordering.{nat_cmp};
-ghost use Rattle.doc_values.specs.Values.{values_of};
+ghost use Rattle.doc_values.specs.Single.{AreSingle};
+ghost use Rattle.doc_values.specs.Values.{documents, values_of};
 ghost use Rattle.query_ast.specs.Uses.{is_written};
 ghost use Rattle.segment_parts.specs.Text.{marked_places};
 ghost use Rattle.bucket_aggs.specs.Counts.{Counted};
@@ -11,7 +13,7 @@ ghost use Rattle.bucket_aggs.specs.Counts.{Counted};
 use crate::NoMemory;
 use crate::distinct::is_again;
 use block_bits::BitSet;
-use doc_values::{Column, ColumnValue, OrdinalColumn, Values};
+use doc_values::{Column, ColumnValue, OrdinalColumn, SingleRows, Values};
 use mapping::Kind;
 
 /// How many rows of a column there may be for each document of a set where all rows are walked over.
@@ -20,6 +22,31 @@ const ROWS_EACH: u32 = 2;
 /// Whether a set has so many of a column's documents that its rows are walked over.
 pub(crate) fn has_most<T: ColumnValue>(set: &BitSet, column: &Column<T>) -> bool {
     column.rows() / ROWS_EACH < set.count()
+}
+
+/// The rows of a column, if each document has one value there, and a place in a set.
+pub(crate) fn single_rows<'a, T: ColumnValue>(
+    set: &BitSet,
+    column: &Column<'a, T>,
+) -> Option<SingleRows<'a, T>>
+    ensures rows { IfSome result (λ rows. (rows ≡ column.now) × AreSingle rows) }
+    ensures ascending { IfSome result (λ rows. IsStrictlyIncreasing (documents rows)) }
+    ensures within { IfSome result (λ rows. All (λ doc. doc < length set.now) (documents rows)) }
+{
+    if have_places(set, column) {
+        column.single_rows()
+    } else {
+        None
+    }
+}
+
+/// Whether the documents of a column are known to have places in a set: the last has one, if there is any.
+fn have_places<T: ColumnValue>(set: &BitSet, column: &Column<T>) -> bool
+    ensures within { IsTrue result → All (λ doc. doc < length set.now) (documents column.now) }
+    ensures ascending { IsStrictlyIncreasing (documents column.now) }
+{
+    let count = column.rows();
+    count == 0 || column.doc(count - 1) < set.len()
 }
 
 /// Adds the documents of a set to the counts of the ordinals that they have; the first count is that of the ordinal `first`.
@@ -33,10 +60,12 @@ pub(crate) fn count_ordinals(
 ) -> Result<(), NoMemory>
     ensures { OnOk result (Counted first (map (λ doc. values_of doc column.now) (marked_places 0 set.now)) counts.old.items counts.new.items) }
 {
-    if has_most(set, column) {
-        count_rows(set, column, first, counts)
-    } else {
-        count_documents(set, column, first, counts)
+    if !has_most(set, column) {
+        return count_documents(set, column, first, counts);
+    }
+    match single_rows(set, column) {
+        Some(rows) => count_single_rows(set, &rows, first, counts),
+        None => count_rows(set, column, first, counts),
     }
 }
 
@@ -72,6 +101,26 @@ fn count_rows(
         let doc = column.doc(row);
         if is_in(set, doc) {
             count_values(column.row_values(row), first, counts)?;
+        }
+    }
+    Ok(())
+}
+
+/// The same over rows of one value each.
+fn count_single_rows(
+    set: &BitSet,
+    rows: &SingleRows<u64>,
+    first: u64,
+    counts: &mut Vec<u64>,
+) -> Result<(), NoMemory>
+    requires ascending { IsStrictlyIncreasing (documents rows.now) }
+    requires within { All (λ doc. doc < length set.now) (documents rows.now) }
+    ensures { OnOk result (Counted first (map (λ doc. values_of doc rows.now) (marked_places 0 set.now)) counts.old.items counts.new.items) }
+{
+    'rows: for at in 0..rows.len() {
+        let own = rows.row(at);
+        if set.has(own.0) {
+            count_one(own.1, first, counts)?;
         }
     }
     Ok(())

@@ -5,16 +5,20 @@
 //! others use is that of `found_buckets`, the answers over all that a search found; `found_count` says how many they are. Begin with `specs/Given`, then `answers`.
 #![tactic(auto)]
 
+mod across;
 mod answers;
 mod at_once;
 mod columns;
 mod distinct;
 mod facets;
 mod found;
+mod metric_answers;
 mod metrics;
 mod no_memory;
 mod objects;
+mod once;
 mod posted;
+mod ranges;
 mod rows;
 mod showing;
 mod terms;

@@ -1,7 +1,8 @@
 //! What the values of a field come to over all objects.
 
 ghost use Rattle.std.specs.Prelude.{◌≡◌, ◌<◌, ◌+◌, ◌^◌, ◌++◌, ℕ, ℤ, pos, List, [], ◌∷◌, false, if◌then◌else◌, map, length, slice_get, slice_index, slice_index_or, sum_by, IfOk, OnOk, Some, None};
-ghost use Rattle.std.specs.List.{flat_map};
+ghost use Rattle.std.specs.List.{All, flat_map};
+ghost use Rattle.std.specs.List.Sorted.{IsStrictlyIncreasing};
 ghost use Rattle.std.specs.Int.{saturate_signed, w64};
 ghost use Rattle.doc_values.specs.Values.{documents, values_of};
 ghost use Rattle.query_eval.specs.Found.{AreLong};
@@ -12,10 +13,10 @@ ghost use Rattle.bucket_aggs.specs.Sums.{HasRoom, IsAdded, IsKept, IsSummary, ab
 ghost use Rattle.bucket_aggs.specs.declared.metrics.Running.{Running};
 
 use crate::NoMemory;
-use crate::columns::{has_most, is_in, is_text};
+use crate::columns::{has_most, is_in, is_text, single_rows};
 use block_bits::BitSet;
 use block_join::Matches;
-use doc_values::{Column, ColumnValue, NumberColumn, Values};
+use doc_values::{Column, ColumnValue, NumberColumn, SingleRows, Values};
 use mapping::Kind;
 use segment::{Segment, values_are_of_documents};
 use segment_view::Entry;
@@ -207,11 +208,30 @@ fn added(set: &BitSet, column: &NumberColumn, start: Running) -> Running
     requires { start.total ≡ pos 0 }
     ensures { IsAdded start (flat_map (λ doc. values_of doc column.now) (marked_places 0 set.now)) result }
 {
-    if has_most(set, column) {
-        with_rows(set, column, start)
-    } else {
-        with_documents(set, column, start)
+    if !has_most(set, column) {
+        return with_documents(set, column, start);
     }
+    match single_rows(set, column) {
+        Some(rows) => with_single_rows(set, &rows, start),
+        None => with_rows(set, column, start),
+    }
+}
+
+/// The same over rows of one value each.
+fn with_single_rows(set: &BitSet, rows: &SingleRows<i64>, start: Running) -> Running
+    requires zero { start.total ≡ pos 0 }
+    requires ascending { IsStrictlyIncreasing (documents rows.now) }
+    requires within { All (λ doc. doc < length set.now) (documents rows.now) }
+    ensures { IsAdded start (flat_map (λ doc. values_of doc rows.now) (marked_places 0 set.now)) result }
+{
+    let mut sums = start;
+    'rows: for at in 0..rows.len() {
+        let own = rows.row(at);
+        if set.has(own.0) {
+            sums.add(own.1);
+        }
+    }
+    sums
 }
 
 /// The same, row by row.
@@ -319,11 +339,28 @@ fn own_count(segment: &Segment, kind: Kind, field: u32, set: &BitSet) -> Result<
 fn column_count<T: ColumnValue>(set: &BitSet, column: &Column<T>) -> Result<u64, NoMemory>
     ensures { IfOk result (λ count. count ≡ sum_by (λ doc. length (values_of doc column.now)) (marked_places 0 set.now)) }
 {
-    if has_most(set, column) {
-        rows_count(set, column)
-    } else {
-        documents_count(set, column)
+    if !has_most(set, column) {
+        return documents_count(set, column);
     }
+    match single_rows(set, column) {
+        Some(rows) => Ok(single_rows_count(set, &rows)),
+        None => rows_count(set, column),
+    }
+}
+
+/// The same over rows of one value each: how many have a document of the set.
+fn single_rows_count<T: ColumnValue>(set: &BitSet, rows: &SingleRows<T>) -> u64
+    requires ascending { IsStrictlyIncreasing (documents rows.now) }
+    requires within { All (λ doc. doc < length set.now) (documents rows.now) }
+    ensures { result ≡ sum_by (λ doc. length (values_of doc rows.now)) (marked_places 0 set.now) }
+{
+    let mut count: u64 = 0;
+    'rows: for at in 0..rows.len() {
+        if set.has(rows.row(at).0) {
+            count += 1;
+        }
+    }
+    count
 }
 
 /// The same, row by row.

@@ -1,6 +1,6 @@
 //! The objects that the documents of a view stand for, as sets of documents.
 
-ghost use Rattle.std.specs.Prelude.{◌≡◌, ℕ, true, List, Option, sum_by, IfOk};
+ghost use Rattle.std.specs.Prelude.{◌≡◌, ℕ, true, List, Option, sum_by, IfOk, IfSome};
 ghost use Rattle.block_join.specs.declared.rule.Rule.{Rule};
 ghost use Rattle.bucket_aggs.specs.Counts.{marked_count};
 ghost use Rattle.bucket_aggs.specs.Given.{AreAll, AreInside, as_ones};
@@ -110,24 +110,31 @@ pub(crate) fn inside_of(
     }
 }
 
-/// Of the objects those that hit.
+/// Of the objects those that hit; what the query finds is known where it was evaluated before.
 pub(crate) fn filtered(
     alloc: Global,
     entries: &[Entry],
     mapping: &Mapping,
     ordinals: &JoinOrdinals,
     query: &Query,
+    known: Option<&Matches>,
     scope: u32,
     objects: &Matches,
 ) -> Result<Matches, NoMemory>
     requires resolved { IsResolved mapping.now scope (clause_of query.now) }
     requires joined { joins (clause_of query.now) ≡ true → AreOrdinals entries.now ordinals.now }
+    requires known { IfSome known (λ hits. IsFound mapping.now entries.now scope (clause_of query.now) hits.now) }
     requires long { AreLong entries.now objects.now }
     ensures long { IfOk result (AreLong entries.now) }
     ensures seen { (given : List Tree → Object → Option ℕ) → IsSeen mapping.now entries.now scope given objects.now → IfOk result (IsSeen mapping.now entries.now scope (paired_by Rule.Kept given (score_by mapping.now (clause_of query.now)))) }
 {
-    let hits = found(alloc, entries, mapping, ordinals, query, scope)?;
-    Ok(merged_hits(alloc, entries, objects, &hits, Rule::Kept)?)
+    match known {
+        Some(hits) => Ok(merged_hits(alloc, entries, objects, hits, Rule::Kept)?),
+        None => {
+            let hits = found(alloc, entries, mapping, ordinals, query, scope)?;
+            Ok(merged_hits(alloc, entries, objects, &hits, Rule::Kept)?)
+        }
+    }
 }
 
 /// How many objects there are.

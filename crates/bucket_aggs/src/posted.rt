@@ -1,6 +1,6 @@
 //! The terms of a field, each counted by its postings.
 
-ghost use Rattle.std.specs.Prelude.{◌≡◌, ◌+◌, ◌-◌, ◌<◌, ◌≤◌, ℕ, [], length, count_by, get_or, slice_index_or, IfOk, OnOk};
+ghost use Rattle.std.specs.Prelude.{◌≡◌, ◌+◌, ◌-◌, ◌<◌, ◌≤◌, ℕ, false, [], length, replicate, count_by, get_or, slice_index_or, IfOk, OnOk};
 ghost use Rattle.postings.specs.Postings.{ArePostings};
 ghost use Rattle.segment_parts.specs.Lists.{postings_of, terms_of};
 ghost use Rattle.bucket_aggs.specs.Counts.{AreFound, IsTermSet, is_posted};
@@ -83,11 +83,21 @@ pub(crate) fn term_set(
     requires ordinal { ordinal < length (terms_of segment.now) }
     ensures { IfOk result (IsTermSet segment.now set.now ordinal) }
 {
-    terms_are_of_documents(segment);
     let mut own = BitSet::empty(alloc, set.len())?;
-    segment.postings().mark(ordinal, &mut own);
-    own.and(set);
+    mark_term(segment, set, ordinal, &mut own);
     Ok(own)
+}
+
+/// Puts the documents of a set that have a term into a set of none.
+pub(crate) fn mark_term(segment: &Segment, set: &BitSet, ordinal: u64, own: &mut BitSet)
+    requires documents { length set.now ≡ segment.now.documents }
+    requires ordinal { ordinal < length (terms_of segment.now) }
+    requires none { own.old ≡ replicate (length set.now) false }
+    ensures { IsTermSet segment.now set.now ordinal own.new }
+{
+    terms_are_of_documents(segment);
+    segment.postings().mark(ordinal, own);
+    own.and(set);
 }
 
 /// Of how many documents of a set each term is, by ordinal from `first` up to `end`. It costs all postings of these terms.

@@ -18,6 +18,7 @@ use crate::NoMemory;
 use crate::columns::{count_ordinals, has_most, is_text};
 use crate::distinct::distinct_values;
 use crate::posted::{TermSet, posting_counts, posting_sets};
+use crate::ranges::terms_of_field;
 use crate::rows::{CountRow, add, add_text, merged};
 use block_bits::BitSet;
 use block_join::Matches;
@@ -115,7 +116,7 @@ fn add_texts(
     };
     let terms = segment.terms();
     let _ascending = terms.count();
-    let (first, end) = terms.field_range(field);
+    let (first, end) = terms_of_field(&terms, field, &column);
     let few = u64::from(set.count()) < (end - first) / TERMS_EACH;
     if few {
         let _sorted = column.values(0);

@@ -14,6 +14,7 @@ pub struct StdinSource<R: Read> {
 }
 
 impl<R: Read> StdinSource<R> {
+    /// The reader, before any read of it has failed.
     pub fn over(reader: R) -> StdinSource<R> {
         StdinSource { reader, failed: 0 }
     }
@@ -43,6 +44,7 @@ pub struct StdoutSink<W: Write> {
 }
 
 impl<W: Write> StdoutSink<W> {
+    /// The writer, before any write to it has failed.
     pub fn over(writer: W) -> StdoutSink<W> {
         StdoutSink { writer, failed: 0 }
     }

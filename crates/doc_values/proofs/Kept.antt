@@ -1,5 +1,5 @@
 -- A column in place, by its rows.
-use Rattle.std.proofs.Common.{◌≡◌, ℕ, ◌+◌, ◌/◌, ◌<◌, ◌≤◌, ◌^◌, List, [], ◌∷◌, ◌++◌, length, get_or, drop, map, Some, refl, sym, ap, subst, ◌∙◌, arith, append_assoc, Contains, slice_get}
+use Rattle.std.proofs.Common.{◌≡◌, ℕ, ◌+◌, ◌*◌, ◌/◌, ◌<◌, ◌≤◌, ◌^◌, List, [], ◌∷◌, ◌++◌, length, get_or, drop, map, Some, refl, sym, ap, subst, ◌∙◌, arith, append_assoc, Contains, slice_get}
 use Rattle.std.specs.List.{All, flat_map}
 use Rattle.std.specs.declared.cmp.Ordering.{Ordering}
 use Rattle.std.proofs.lemmas.List.{drop_at, drop-drop, length-append, get_or-map}
@@ -13,7 +13,7 @@ use Rattle.doc_values.specs.Values.{documents, values_of}
 use Rattle.doc_values.specs.Text.{entry_text}
 use Rattle.doc_values.specs.Stands.{Stands, Belong}
 use Rattle.doc_values.specs.Kept.{values_in, entry_of, column_rows, documents_in, IsKept}
-use Rattle.doc_values.proofs.Numbers.{values_text, length-values_in}
+use Rattle.doc_values.proofs.Numbers.{values_text, length-values_in, length-values_text}
 use Rattle.doc_values.proofs.Entries.{length-column_rows, get_or-column_rows, documents-column_rows}
 use Rattle.doc_values.proofs.Lookups.{documents_at, values_of-at, values_of-missing}
 
@@ -66,6 +66,32 @@ belong_rows {X} cmp Fits text front bytes places column written belong =
     ∙ ap (map (entry_of front)) (rows_of-places_from (entry_text text) (belong.at + 8) rows bytes (drop belong.end bytes) there)
     ∙ entries_back text front Fits rows written it.is.entries.numbered it.is.entries.fit
 
+-- an entry is as long as its document, its number and its values, of which it has some
+entry_long : {X : Type 0} (cmp : X → X → Ordering) (Fits : X → Type 0) (text : X → List ℕ) (front : List ℕ → X) (bytes places : List ℕ) (column : ℕ × List (ℕ × List X)) → AreWritten text front Fits → Belong cmp Fits text bytes places column
+    → (at : ℕ) → at + 1 < length places → (count : ℕ) × (0 < count) × (length (row places bytes at) ≡ 8 + 8 * count)
+entry_long {X} cmp Fits text front bytes places column written belong at below =
+    let it = belong.stands in
+    let rows : List (ℕ × List X) = column.1 in
+    let there = entries_there cmp Fits text bytes belong.at column places belong.end it in
+    let one : at < length rows = omega (arith, below, ap length it.placed, length-places_from (entry_text text) (belong.at + 8) rows) in
+    let own : ℕ × List X = get_or rows at (0, []) in
+    let some : 0 < length own.1 = (it.is.entries.rows_are.valued at (0, []) one).some in
+    let text_is : row places bytes at ≡ entry_text text own =
+    sym (get_or-rows_of places bytes at [] below)
+    ∙ ap (λ own. get_or (rows_of own bytes) at []) it.placed
+    ∙ ap (λ own. get_or own at []) (rows_of-places_from (entry_text text) (belong.at + 8) rows bytes (drop belong.end bytes) there)
+    ∙ get_or-map (entry_text text) rows at (0, []) [] one in
+    let long : length (row places bytes at) ≡ 8 + 8 * length own.1 = omega (
+      arith,
+      ap length text_is,
+      length-append (u32_text own.0) (u32_text (length own.1) ++ flat_map text own.1),
+      length-append (u32_text (length own.1)) (flat_map text own.1),
+      length-u32_text own.0,
+      length-u32_text (length own.1),
+      length-values_text text own.1 written.long,
+    )
+    in (length own.1, some, long)
+
 pub belong_kept : {X : Type 0} (cmp : X → X → Ordering) (Fits : X → Type 0) (text : X → List ℕ) (front : List ℕ → X) (bytes places : List ℕ) (column : ℕ × List (ℕ × List X)) → AreWritten text front Fits → Belong cmp Fits text bytes places column
     → IsKept cmp front places bytes
 belong_kept {X} cmp Fits text front bytes places column written belong =
@@ -86,22 +112,8 @@ belong_kept {X} cmp Fits text front bytes places column written belong =
     in record {
       entries = record {
         places_are = rw it.placed (places_are (entry_text text) (belong.at + 8) rows bytes (drop belong.end bytes) inside there);
-        whole = λ at below.
-            let one : at < length rows = omega (arith, below, ap length it.placed, length-places_from (entry_text text) (belong.at + 8) rows) in
-            let own = get_or rows at (0, []) in
-            let text_is : row places bytes at ≡ entry_text text own =
-            sym (get_or-rows_of places bytes at [] below)
-            ∙ ap (λ own. get_or (rows_of own bytes) at []) it.placed
-            ∙ ap (λ own. get_or own at []) (rows_of-places_from (entry_text text) (belong.at + 8) rows bytes (drop belong.end bytes) there)
-            ∙ get_or-map (entry_text text) rows at (0, []) [] one in
-            omega (
-              arith,
-              ap length text_is,
-              length-append (u32_text own.0) (u32_text (length own.1) ++ flat_map text own.1),
-              length-append (u32_text (length own.1)) (flat_map text own.1),
-              length-u32_text own.0,
-              length-u32_text (length own.1),
-            );
+        whole = λ at below. let own = entry_long cmp Fits text front bytes places column written belong at below in omega (arith, own.1, own.2);
+        eights = λ at below. let own = entry_long cmp Fits text front bytes places column written belong at below in omega (arith, own.2);
         ascending = rw (← documents-column_rows front places bytes, same) it.is.entries.rows_are.ascending;
       };
       rows_are = rw same it.is.entries.rows_are;

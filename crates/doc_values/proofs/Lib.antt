@@ -3,3 +3,4 @@ pub mod Numbers
 pub mod Entries
 pub mod Kept
 pub mod Found
+pub mod Singles

@@ -1,16 +1,18 @@
 //! The column of one field, read in place.
 
-ghost use Rattle.std.specs.Prelude.{◌≡◌, ℕ, ◌<◌, ◌↔◌, ◌++◌, List, length, drop, Some, slice_get, slice_index, Contains, IfSome, IsNone, IfOk, OnOk, OnErr};
+ghost use Rattle.std.specs.Prelude.{◌≡◌, ℕ, ◌<◌, ◌↔◌, ◌++◌, List, length, drop, Some, slice_get, slice_index, Contains, IfSome, IfNone, IsNone, IfOk, OnOk, OnErr};
 ghost use Rattle.std.specs.List.Sorted.{IsStrictlyIncreasing, IsSorted};
 ghost use Rattle.doc_values.specs.Values.{documents, values_of, AreRows};
+ghost use Rattle.doc_values.specs.Single.{AreSingle};
 ghost use Rattle.doc_values.specs.Text.{column_text};
 ghost use Rattle.doc_values.specs.Stands.{IsColumn, Stands, Belong};
 
 use crate::placing::{from_place, placed_entries};
 use crate::search::{document, index_near, index_of, value_bytes};
+use crate::single::single_bytes;
 use crate::walk::head_at;
 use crate::written::put_column;
-use crate::{ColumnValue, RowList, Values};
+use crate::{ColumnValue, RowList, SingleRows, Values};
 use part_text::{NoMemory, PlaceList};
 use std::alloc::Global;
 use std::marker::{Model, PhantomData};
@@ -133,6 +135,17 @@ impl<'a, T: ColumnValue> Column<'a, T> {
         ensures ascending { IsStrictlyIncreasing (documents self.now) }
     {
         (self.places.len() - 1) as u32
+    }
+
+    /// The rows, if each document has one value; None exactly where one has more (Lucene's `DocValues.unwrapSingleton`).
+    pub fn single_rows(&self) -> Option<SingleRows<'a, T>>
+        ensures some { IfSome result (λ rows. (rows ≡ self.now) × AreSingle self.now) }
+        ensures none { IfNone result (¬ AreSingle self.now) }
+    {
+        match single_bytes(self.places, self.bytes) {
+            Some(bytes) => Some(SingleRows::over(bytes)),
+            None => None,
+        }
     }
 
     /// The document of row `row`.

@@ -4,13 +4,14 @@
 //! `org.apache.lucene.index`; here a value is repeated as often as it stands there). A column is read in place, from the
 //! bytes of a segment; texts and places come from `part_text`. It is seen as the list of rows that its text is of: `count`,
 //! `value` and `values` give the values of a document, ascending, and none where it has no row; `values_near` gives them for
-//! documents in order. Begin reading with `specs/Values.antt` and `specs/Text.antt`.
+//! documents in order, and `single_rows` gives the rows of a column where each document has one. Begin reading with `specs/Values.antt` and `specs/Text.antt`.
 #![tactic(auto)]
 
 mod column;
 mod placing;
 mod rows;
 mod search;
+mod single;
 #[cfg(test)]
 mod tests;
 mod value;
@@ -21,6 +22,7 @@ mod written;
 pub use column::Column;
 pub use part_text::{NoMemory, PlaceList};
 pub use rows::{RowList, ValueList, columns_have_one_text};
+pub use single::SingleRows;
 pub use value::ColumnValue;
 pub use values::Values;
 

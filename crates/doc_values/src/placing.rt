@@ -24,7 +24,7 @@ pub(crate) fn from_place(bytes: &[u8], at: u64) -> Option<&[u8]>
 }
 
 /// The bytes of the shortest entry: its document, the number of its values, and one value.
-const SHORTEST_ENTRY: usize = 16;
+pub(crate) const SHORTEST_ENTRY: usize = 16;
 
 /// So many entries, or as many as bytes can hold where these are fewer.
 fn most_entries(count: u32, bytes: &[u8]) -> usize

@@ -58,6 +58,7 @@ fn numbers(rt: HostRuntime) -> Result<(), Fail> {
             let none = column.values_near(2, &mut near);
             let one = column.values_near(4, &mut near);
             assert_eq!(rt; (none.len(), one.len()), (0, 1));
+            assert!(rt; column.single_rows().is_none());
             let mut own = column.values(1);
             assert_eq!(rt;
                 (own.next(), own.next(), own.next()),
@@ -85,6 +86,34 @@ fn ordinals(rt: HostRuntime) -> Result<(), Fail> {
             assert_eq!(rt; column.doc(1), 4);
             let own = column.row_values(0);
             assert_eq!(rt; own.len(), 2);
+        }
+        None => panic!(rt; "the column stands there"),
+    }
+    Ok(())
+}
+
+#[test]
+fn one_value_each(rt: HostRuntime) -> Result<(), Fail> {
+    let mut one = Vec::new(rt.alloc());
+    one.push(-7i64)?;
+    let mut other = Vec::new(rt.alloc());
+    other.push(9)?;
+    let mut rows = Vec::new(rt.alloc());
+    rows.push((2, values(&rt, one)))?;
+    rows.push((5, values(&rt, other)))?;
+    assert!(rt; RowList::are_entries(rows.as_slice()));
+    let mut bytes = Vec::new(rt.alloc());
+    NumberColumn::written(&RowList::of(3, rows), &mut bytes)?;
+    match NumberColumn::places(rt.alloc(), bytes.as_slice(), 0)? {
+        Some((places, _)) => {
+            let column = NumberColumn::over(bytes.as_slice(), &places);
+            match column.single_rows() {
+                Some(rows) => {
+                    assert!(rt; rows.len() == 2);
+                    assert_eq!(rt; (rows.row(0), rows.row(1)), ((2, -7), (5, 9)));
+                }
+                None => panic!(rt; "each document has one value"),
+            }
         }
         None => panic!(rt; "the column stands there"),
     }

@@ -1,15 +1,21 @@
 -- A walk grows a block object by object.
-use Rattle.std.proofs.Common.{◌≡◌, ℕ, zero, suc, ◌+◌, ◌-◌, ◌<◌, ◌==◌, List, [], ◌∷◌, ◌++◌, length, map, get_or, refl, ap, ◌∙◌, arith}
+use Rattle.std.proofs.Common.{◌≡◌, ℕ, zero, suc, ◌+◌, ◌-◌, ◌<◌, ◌==◌, List, [], ◌∷◌, ◌++◌, length, map, filter, get_or, refl, ap, ◌∙◌, arith}
+use Rattle.std.proofs.lemmas.List.Concat.{flat_map-append}
+use Rattle.std.proofs.lemmas.List.Elements.{filter-append}
 use Rattle.std.proofs.lemmas.List.{map-append, length-append}
 use Rattle.std.specs.List.{All, flat_map, range_with_len}
 use Rattle.std.proofs.lemmas.List.FromFn.{get_or-range_with_len, length-range_with_len}
 use Rattle.std.proofs.lemmas.List.Sorted.{All-permutation}
 use Rattle.mapping.specs.IsMapping.{IsMapping}
 use Rattle.mapping.specs.Mapping.{Mapping, outer}
-use Rattle.tree_json.specs.Value.{JsonValue}
-use Rattle.mapping_body.proofs.Walks.{split}
-use Rattle.flattener.proofs.Lightness.{children_light}
-use Rattle.flattener.specs.Walked.{inner, inside_at, kid_part, walked, flat_pair, flat_at}
+use Rattle.tree_json.specs.Value.{JsonValue, Elements, element, Members, object, is_object}
+use Rattle.tree_objects.specs.Object.{items, items_in}
+use Rattle.mapping.proofs.Nearest.{append_nil}
+use Rattle.mapping_body.proofs.Walks.{split, size_at}
+use Rattle.flattener.proofs.Gathers.{items_member, items_without, items_end, items_end_whole, items_end_text, size_found}
+use Rattle.flattener.proofs.Ways.{scope_names}
+use Rattle.flattener.proofs.Weights.{element_light, member_light}
+use Rattle.flattener.specs.Walked.{inner, inside_at, kid_part, walked, walked_of, flat_pair, flat_at}
 
 pub walked_parts : (m : Mapping) (g left s : ℕ) (v : JsonValue) → walked m g left s v ≡ inner m g left s v ++ (s, v) ∷ []
 walked_parts m g zero s v = refl
@@ -52,12 +58,50 @@ order_in_range m is =
     All-permutation (λ (n : ℕ). n < length m.scopes) (range_with_len 1 (length m.scopes - 1)) m.order is.numbers
     (λ i d h. let at : get_or (range_with_len 1 (length m.scopes - 1)) i d ≡ 1 + i = get_or-range_with_len 1 (length m.scopes - 1) i d (omega (arith, h, length-range_with_len 1 (length m.scopes - 1))) in omega (arith, at, h, length-range_with_len 1 (length m.scopes - 1)))
 
-pub children_flats : (m : Mapping) (g left kid : ℕ) (v : JsonValue) (vs : List JsonValue) →
-    map (flat_pair m g) (flat_map (walked m g left kid) (v ∷ vs)) ≡ map (flat_pair m g) (walked m g left kid v) ++ map (flat_pair m g) (flat_map (walked m g left kid) vs)
-children_flats m g left kid v vs = map-append (flat_pair m g) (walked m g left kid v) (flat_map (walked m g left kid) vs)
+-- ---- the items at a nested path
 
-pub children_length : (m : Mapping) (g left kid : ℕ) (v : JsonValue) (vs : List JsonValue) →
-    length (flat_map (walked m g left kid) (v ∷ vs)) ≡ length (walked m g left kid v) + length (flat_map (walked m g left kid) vs)
-children_length m g left kid v vs = length-append (walked m g left kid v) (flat_map (walked m g left kid) vs)
+items_apart : (m : Mapping) (g left kid : ℕ) (vs ws : List JsonValue) → walked_of m g left kid (vs ++ ws) ≡ walked_of m g left kid vs ++ walked_of m g left kid ws
+items_apart m g left kid vs ws =
+    ap (flat_map (walked m g left kid)) (filter-append is_object vs ws)
+    ∙ flat_map-append (walked m g left kid) (filter is_object vs) (filter is_object ws)
 
-pub ruleset blocks = (walked_flats, walked_length, inner_none, inner_all, inside_flats, inside_length, inside_over, children_flats, children_length, order_in_range, children_light)
+pub elements_flats : (m : Mapping) (g left kid : ℕ) (d : JsonValue) (ds : Elements) (names : List (List ℕ)) →
+    map (flat_pair m g) (walked_of m g left kid (items_in (element d ds) names))
+    ≡ map (flat_pair m g) (walked_of m g left kid (items d names)) ++ map (flat_pair m g) (walked_of m g left kid (items_in ds names))
+elements_flats m g left kid d ds names =
+    ap (map (flat_pair m g)) (items_apart m g left kid (items d names) (items_in ds names))
+    ∙ map-append (flat_pair m g) (walked_of m g left kid (items d names)) (walked_of m g left kid (items_in ds names))
+
+pub elements_length : (m : Mapping) (g left kid : ℕ) (d : JsonValue) (ds : Elements) (names : List (List ℕ)) →
+    length (walked_of m g left kid (items_in (element d ds) names))
+    ≡ length (walked_of m g left kid (items d names)) + length (walked_of m g left kid (items_in ds names))
+elements_length m g left kid d ds names =
+    ap length (items_apart m g left kid (items d names) (items_in ds names))
+    ∙ length-append (walked_of m g left kid (items d names)) (walked_of m g left kid (items_in ds names))
+
+pub object_walked : (m : Mapping) (g left kid : ℕ) (ms : Members) → walked_of m g left kid (object ms ∷ []) ≡ walked m g left kid (object ms)
+object_walked m g left kid ms = append_nil (walked m g left kid (object ms))
+
+pub ruleset blocks = (
+  walked_flats,
+  walked_length,
+  inner_none,
+  inner_all,
+  inside_flats,
+  inside_length,
+  inside_over,
+  elements_flats,
+  elements_length,
+  object_walked,
+  order_in_range,
+  scope_names,
+  element_light,
+  member_light,
+  items_member,
+  items_without,
+  items_end,
+  items_end_whole,
+  items_end_text,
+  size_found,
+  size_at,
+)

@@ -5,7 +5,7 @@ use Rattle.std.specs.List.{flat_map, range_with_len}
 use Rattle.mapping.specs.Mapping.{Mapping}
 use Rattle.segment.specs.Flat.{FlatDocument}
 use Rattle.tree_json.specs.Value.{JsonValue}
-use Rattle.flattener.specs.Adds.{Adds, IsBegun}
+use Rattle.flattener.specs.Adds.{Adds, IsBegun, begun}
 use Rattle.flattener.specs.Walked.{numbers_of, keywords_of, words_of, texts_of, flat_at, kept}
 use Rattle.mapping.proofs.Nearest.{append_nil}
 
@@ -51,10 +51,10 @@ begun_all m g s v at d h b =
     (none (words_of m g s v) at (length m.fields) d.words _ h b.words)
     (none (texts_of m g s v) at (length m.fields) d.texts _ h b.texts)
 
-pub begun_empty : (m : Mapping) (g s : ℕ) (v : JsonValue) → IsBegun m g s v 0 (made s [] [] [] [])
-begun_empty m g s v =
+pub begun_empty : (m : Mapping) (g s : ℕ) (v : JsonValue) (d : FlatDocument) → d ≡ begun s → IsBegun m g s v 0 d
+begun_empty m g s v d empty =
     let all : length m.fields - 0 ≡ length m.fields = omega arith in
-    record {
+    rw empty record {
       scope = refl;
       numbers = ap (λ n. flat_map (numbers_of m g s v) (range_with_len 0 n)) all;
       keywords = ap (λ n. flat_map (keywords_of m g s v) (range_with_len 0 n)) all;

@@ -19,3 +19,4 @@ pub mod Smallness
 pub mod Weights
 pub mod Lightness
 pub mod Unshown
+pub mod Filled

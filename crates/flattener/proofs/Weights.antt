@@ -1,11 +1,13 @@
 -- The items that a value has along names are together no longer than its compact text, and no text is longer than the
 -- compact text that it is written by.
-use Rattle.std.proofs.Common.{ℕ, zero, suc, ◌+◌, ◌≤◌, ◌==◌, ◌/◌, ◌%◌, ℤ, pos, negsuc, Bool, true, false, nat_lt, List as Seq, [], ◌∷◌, ◌++◌, length, length-append, filter, arith, bytes_eq, codes}
+use Rattle.std.proofs.Common.{◌≡◌, ℕ, zero, suc, ◌+◌, ◌<◌, ◌≤◌, ◌==◌, ◌/◌, ◌%◌, ℤ, pos, negsuc, Bool, true, false, nat_lt, List as Seq, [], ◌∷◌, ◌++◌, length, length-append, filter, map, get_or, ap, arith, bytes_eq, codes, Option, Some, None}
 use Rattle.std.specs.Fmt.{decimal, digit_glyph, digits, digits_onto, signed_decimal}
 use Rattle.json.specs.Print.{escape, escape_byte, escape_letter}
 use Rattle.mapping_body.proofs.Walks.{split}
 use Rattle.tree_json.specs.Text.{comma_if, compact, compact_elements, compact_members, quoted}
-use Rattle.tree_json.specs.Value.{JsonValue, null, bool, whole, text, list, object, Elements, no_elements, element, Members, no_members, member}
+use Rattle.tree_json.specs.Value.{JsonValue, null, bool, whole, text, list, object, Elements, no_elements, element, Members, no_members, member, member_of, elements_of}
+use Rattle.tree_json.specs.View.{view, values}
+use Rattle.tree_json.specs.declared.value.Json.{Json}
 use Rattle.tree_objects.specs.Object.{items, items_in, items_at}
 use Rattle.tree_objects.proofs.Weights.{total, total_append, weight_of}
 
@@ -95,3 +97,44 @@ mutual
       split (bytes_eq k name)
       (λ same. rw same (omega (arith, items_light d names, whole, front, own, value)))
       (λ other. rw other (omega (arith, at_light true ms name names, whole, front, own, value)))
+
+-- ---- what stands inside a value
+
+element_below : (later : Bool) (js : Seq Json) (i : ℕ) (d : Json) → i < length js → length (compact (view (get_or js i d))) ≤ length (compact_elements later (elements_of (values js)))
+element_below later [] i d h = absurd (omega arith)
+element_below later (j ∷ js) zero d h =
+    omega (arith, length-append (comma_if later) (compact (view j) ++ compact_elements true (elements_of (values js))), length-append (compact (view j)) (compact_elements true (elements_of (values js))))
+element_below later (j ∷ js) (suc i) d h =
+    let more : i < length js = omega arith in
+    omega (
+      arith,
+      element_below true js i d more,
+      length-append (comma_if later) (compact (view j) ++ compact_elements true (elements_of (values js))),
+      length-append (compact (view j)) (compact_elements true (elements_of (values js))),
+    )
+
+-- an element is no longer than its list
+pub element_light : (js : Seq Json) (i : ℕ) (d : Json) → i < length js → length (compact (view (get_or js i d))) ≤ length (compact (list (elements_of (values js))))
+element_light js i d h =
+    omega (
+      arith,
+      element_below false js i d h,
+      length-append (codes "[") (compact_elements false (elements_of (values js)) ++ codes "]"),
+      length-append (compact_elements false (elements_of (values js))) (codes "]"),
+    )
+
+member_below : (later : Bool) (ms : Members) (name : Seq ℕ) (d : JsonValue) → member_of ms name ≡ Some d → length (compact d) ≤ length (compact_members later ms)
+member_below later no_members name d h = absurd (cc (h))
+member_below later (member k e ms) name d h =
+    let whole = length-append (comma_if later) ((quoted k ++ (codes ":" ++ compact e)) ++ compact_members true ms) in
+    let front = length-append (quoted k ++ (codes ":" ++ compact e)) (compact_members true ms) in
+    let own = length-append (quoted k) (codes ":" ++ compact e) in
+    let value = length-append (codes ":") (compact e) in
+    split (bytes_eq k name)
+    (λ same. let one : Some e ≡ Some d = rw same at h in let is : e ≡ d = cc (one) in let long : length (compact e) ≡ length (compact d) = ap (λ v. length (compact v)) is in omega (arith, long, whole, front, own, value))
+    (λ other. let further : member_of ms name ≡ Some d = rw other at h in omega (arith, member_below true ms name d further, whole, front, own, value))
+
+-- nor is a member's value longer than its object
+pub member_light : (ms : Members) (name : Seq ℕ) (d : JsonValue) → member_of ms name ≡ Some d → length (compact d) ≤ length (compact (object ms))
+member_light ms name d h =
+    omega (arith, member_below false ms name d h, length-append (codes "{") (compact_members false ms ++ codes "}"), length-append (compact_members false ms) (codes "}"))

@@ -1,6 +1,6 @@
 -- Tokens text by text, and words token by token.
-use Rattle.std.proofs.Common.{◌≡◌, ℕ, ◌+◌, ◌≤◌, ◌==◌, List, [], ◌∷◌, ◌++◌, length, refl, sym, ap, ◌∙◌, arith, Option, Some, None}
-use Rattle.std.specs.List.{filter_map}
+use Rattle.std.proofs.Common.{◌≡◌, ℕ, ◌+◌, ◌≤◌, ◌==◌, List, [], ◌∷◌, ◌++◌, length, map, drop, get_or, refl, sym, ap, ◌∙◌, arith, Option, Some, None}
+use Rattle.std.specs.List.{filter_map, range_with_len}
 use Rattle.analysis.specs.Words.{words}
 use Rattle.mapping_body.specs.declared.kind.Kind.TheVariants.{Text}
 use Rattle.tree_json.specs.Value.{JsonValue}
@@ -27,6 +27,29 @@ texts_convert (v ∷ vs) = texts_next (convert Text) v vs ∙ rw (texts_convert 
 pub tokens_none : (end : Option ℕ) → tokens_on end [] ≡ []
 tokens_none None = refl
 tokens_none (Some end) = refl
+
+-- ---- words with numbers
+
+news_placed : {X : Type 0} (f : X → List ℕ) (g : X → ℕ) (new : List X) (at : ℕ) (ws : List (List ℕ))
+    → map f new ≡ ws → map g new ≡ range_with_len at (length ws) → map (λ x. (f x, g x)) new ≡ placed_words at ws
+news_placed f g [] at [] h k = refl
+news_placed f g [] at (w ∷ ws) h k = absurd (cc (h))
+news_placed f g (x ∷ xs) at [] h k = absurd (cc (h))
+news_placed f g (x ∷ xs) at (w ∷ ws) h k =
+    let word : f x ≡ w = ap (λ l. get_or l 0 w) h in
+    let number : g x ≡ at = ap (λ l. get_or l 0 at) k in
+    rw (word, number, news_placed f g xs (at + 1) ws (ap (drop 1) h) (ap (drop 1) k)) refl
+
+-- what is added to a list is words with positions, if it is words and numbers
+pub words_placed : {X : Type 0} (f : X → List ℕ) (g : X → ℕ) (old new : List X) (at : ℕ) (ws : List (List ℕ))
+    → map f new ≡ map f old ++ ws → map g new ≡ map g old ++ range_with_len at (length ws)
+    → map (λ x. (f x, g x)) new ≡ map (λ x. (f x, g x)) old ++ placed_words at ws
+words_placed f g [] new at ws h k = news_placed f g new at ws h k
+words_placed f g (o ∷ old) [] at ws h k = absurd (cc (h))
+words_placed f g (o ∷ old) (x ∷ xs) at ws h k =
+    let word : f x ≡ f o = ap (λ l. get_or l 0 (f o)) h in
+    let number : g x ≡ g o = ap (λ l. get_or l 0 (g o)) k in
+    rw (word, number, words_placed f g old xs at ws (ap (drop 1) h) (ap (drop 1) k)) refl
 
 -- ---- positions
 

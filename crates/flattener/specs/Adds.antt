@@ -1,5 +1,5 @@
 -- Serves proofs alone: what a field adds to a document.
-use Rattle.std.specs.Prelude.{◌≡◌, ℕ, ◌++◌, ◌-◌, ℤ, List, length}
+use Rattle.std.specs.Prelude.{◌≡◌, ℕ, ◌++◌, ◌-◌, ℤ, List, [], length}
 use Rattle.std.specs.List.{flat_map, range_with_len}
 use Rattle.mapping.specs.Mapping.{Mapping}
 use Rattle.segment.specs.Flat.{FlatDocument}
@@ -15,6 +15,10 @@ pub record Added (old new : FlatDocument) (ns : List (ℕ × List ℤ)) (ks : Li
 
 abbrev pub Adds : Mapping → ℕ → ℕ → JsonValue → ℕ → FlatDocument → FlatDocument → Type 0
 Adds m g s v f old new = Added old new (numbers_of m g s v f) (keywords_of m g s v f) (words_of m g s v f) (texts_of m g s v f)
+
+-- a document with no values yet
+abbrev pub begun : ℕ → FlatDocument
+begun s = record { scope = s; numbers = []; keywords = []; words = []; texts = [] }
 
 -- the fields from a number on
 abbrev pub left_from : Mapping → ℕ → List ℕ

@@ -118,6 +118,10 @@ abbrev pub inner : Mapping → ℕ → ℕ → ℕ → JsonValue → List (ℕ �
 inner m g zero s v = []
 inner m g (suc left) s v = flat_map (λ n. flat_map (walked m g left n) (children_at m g n v)) (kids m s)
 
+-- those of some items at a nested path, each with what stands inside it
+abbrev pub walked_of : Mapping → ℕ → ℕ → ℕ → List JsonValue → List (ℕ × JsonValue)
+walked_of m g left n vs = flat_map (walked m g left n) (filter is_object vs)
+
 -- and at one nested path, if it is one of these
 abbrev pub kid_part : Mapping → ℕ → ℕ → ℕ → JsonValue → ℕ → List (ℕ × JsonValue)
 kid_part m g left s v kid = if outer m kid == s then flat_map (walked m g left kid) (children_at m g kid v) else []

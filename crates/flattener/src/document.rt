@@ -1,4 +1,5 @@
 //! Documents and blocks.
+use analysis::FoldedWord;
 use segment::Root;
 use smallvec::SmallVec;
 use std::alloc::Global;
@@ -43,7 +44,7 @@ impl MadeWith<Global> for KeywordField {
 #[derive(Drop)]
 pub struct Word {
     pub field: u32,
-    pub word: Vec<u8>,
+    pub word: FoldedWord,
     pub positions: SmallVec<u32, 4>,
 }
 
@@ -56,8 +57,8 @@ pub struct Document {
     pub keywords: SmallVec<KeywordField, 1>,
     /// By field, and then by the bytes of the word.
     pub words: Vec<Word>,
-    /// The text fields with a value.
-    pub texts: Vec<u32>,
+    /// The text fields with a value; two are kept in place.
+    pub texts: SmallVec<u32, 2>,
 }
 
 /// The block of a tree.

@@ -6,7 +6,7 @@ ghost use Rattle.tree_json.specs.Text.{compact};
 ghost use Rattle.tree_json.specs.View.{view};
 ghost use Rattle.mapping_body.specs.declared.kind.Kind.{Kind};
 ghost use Rattle.tree_objects.specs.Values.{convert, has_values};
-ghost use Rattle.flattener.specs.Adds.{Added, Adds};
+ghost use Rattle.flattener.specs.Adds.{Added, Adds, begun};
 ghost use Rattle.flattener.specs.Flat.{ascending, bytes_cmp, numbers_in, texts_in, tokens, words_of_field};
 ghost use Rattle.flattener.specs.Fits.{most_source};
 ghost use Rattle.flattener.specs.Placing.{room, texts_among};
@@ -23,43 +23,44 @@ use smallvec::SmallVec;
 use std::alloc::Global;
 use tree_json::Json;
 
-/// The document of an object of a scope. `found` is for items.
+/// A document of a scope with no values yet.
+pub(crate) fn begun(alloc: Global, scope: u32) -> Document
+    ensures { document_seen result ≡ begun scope }
+{
+    Document {
+        scope,
+        numbers: SmallVec::new(alloc),
+        keywords: SmallVec::new(alloc),
+        words: Vec::new(alloc),
+        texts: SmallVec::new(alloc),
+    }
+}
+
+/// Fills the document of an object of a scope, which is begun, where it stands. `found` is for items.
 #[tactic(auto, using(crate::proofs::Documents::documents))]
-pub(crate) fn document<'a>(
+pub(crate) fn fill<'a>(
     alloc: Global,
     mapping: &Mapping,
     generation: u32,
     scope: u32,
     content: &'a Json,
     found: &mut Vec<&'a Json>,
-) -> Result<Document, NoMemory>
+    into: &mut Document,
+) -> Result<(), NoMemory>
+    requires begun { document_seen into.old ≡ begun scope }
     requires scope { scope < length mapping.now.scopes }
     requires light { length (compact (view content.now)) ≤ most_source }
-    ensures { IfOk result (λ d. document_seen d ≡ flat_at mapping.now generation scope (view content.now)) }
+    ensures { OnOk result (document_seen into.new ≡ flat_at mapping.now generation scope (view content.now)) }
 {
     let count = mapping.field_count();
-    let mut document = Document {
-        scope,
-        numbers: SmallVec::new(alloc),
-        keywords: SmallVec::new(alloc),
-        words: Vec::new(alloc),
-        texts: Vec::new(alloc),
-    };
     let mut field = 0;
     'fields: while field < count {
         add_if_shown(
-            alloc,
-            mapping,
-            generation,
-            scope,
-            content,
-            field,
-            found,
-            &mut document,
+            alloc, mapping, generation, scope, content, field, found, into,
         )?;
         field += 1;
     }
-    Ok(document)
+    Ok(())
 }
 
 /// Adds a field to a document, if the object's scope shows it: most fields of a mapping are another scope's.

@@ -181,7 +181,7 @@ fn push_step<'a>(
 }
 
 /// The objects at a nested path in the content of an object of the scope around it, in document order.
-pub(crate) fn children<'a>(
+fn children<'a>(
     alloc: Global,
     mapping: &Mapping,
     generation: u32,
@@ -225,7 +225,7 @@ fn are_objects(found: &[&Json]) -> bool
 
 /// The path of a scope below the scope around it.
 #[tactic(auto, using(crate::proofs::Ways::homes))]
-fn path_of(mapping: &Mapping, scope: u32) -> Option<&[u8]>
+pub(crate) fn path_of(mapping: &Mapping, scope: u32) -> Option<&[u8]>
     requires { scope < length mapping.now.scopes }
     ensures { names_left (option_map (λ p. p.now) result) ≡ (scope_at mapping.now scope).names }
 {

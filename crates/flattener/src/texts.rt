@@ -1,5 +1,6 @@
 //! The words of a text field's values, with their positions.
 ghost use Rattle.std.specs.Prelude.{◌≡◌, ◌+◌, ◌<◌, ◌≤◌, ◌^◌, ◌++◌, ◌∷◌, [], None, ℕ, List, length, map, nat_lt, IfOk, OnOk};
+ghost use Rattle.analysis.specs.Words.{words};
 ghost use Rattle.tree_json.specs.View.{view};
 ghost use Rattle.tree_objects.specs.Values.{text_of};
 ghost use Rattle.flattener.specs.Flat.{ascending, token_cmp, tokens, grouped, together, placed_words, words_of_field};
@@ -9,7 +10,7 @@ ghost use Rattle.flattener.specs.Seen.{word_seen};
 
 use crate::document::Word;
 use crate::refusal::NoMemory;
-use analysis::Token;
+use analysis::FoldedWord;
 use itoa::Buffer;
 use smallvec::SmallVec;
 use std::alloc::Global;
@@ -20,14 +21,14 @@ const POSITION_GAP: u64 = 100;
 /// Words with their positions, in the order in which they come.
 #[derive(Drop)]
 pub(crate) struct Placed {
-    pub tokens: Vec<(Vec<u8>, u32)>,
+    pub tokens: Vec<(FoldedWord, u32)>,
     /// One past the last position so far, and none where no value came yet.
     pub end: Option<u64>,
 }
 
 /// The words of the texts that items are, each with its position.
 #[tactic(auto, using(crate::proofs::Wording::wording))]
-pub(crate) fn tokens(alloc: Global, items: &[&Json]) -> Result<Vec<(Vec<u8>, u32)>, NoMemory>
+pub(crate) fn tokens(alloc: Global, items: &[&Json]) -> Result<Vec<(FoldedWord, u32)>, NoMemory>
     requires { room (texts_among (map (λ j. view j.now) items.now)) < 2 ^ 32 }
     ensures { IfOk result (λ v. map (λ t. (t.0.items, t.1)) v.items ≡ tokens_on None (texts_among (map (λ j. view j.now) items.now))) }
 {
@@ -64,12 +65,25 @@ fn push_words(alloc: Global, text: &str, into: &mut Placed) -> Result<(), NoMemo
     ensures end { OnOk result (end_of into.new.end ≤ end_of into.old.end + room (text.now ∷ [])) }
     ensures tokens { OnOk result ((rest : List (List ℕ)) → map (λ t. (t.0.items, t.1)) into.new.tokens.items ++ tokens_on into.new.end rest ≡ map (λ t. (t.0.items, t.1)) into.old.tokens.items ++ tokens_on into.old.end (text.now ∷ rest)) }
 {
-    let found = analysis::tokens(alloc, text)?.into_vec();
-    let count = found.len() as u64;
     let from = start_of(into.end);
-    place(found, from, &mut into.tokens)?;
+    let count = place(alloc, text, from, &mut into.tokens)?;
     into.end = end_after(into.end, from, count);
     Ok(())
+}
+
+/// Adds the words of a text with positions one after the other. How many there were.
+fn place(
+    alloc: Global,
+    text: &str,
+    from: u64,
+    into: &mut Vec<(FoldedWord, u32)>,
+) -> Result<u64, NoMemory>
+    requires { from + length text.now < 2 ^ 32 }
+    ensures placed { OnOk result (map (λ t. (t.0.items, t.1)) into.new.items ≡ map (λ t. (t.0.items, t.1)) into.old.items ++ placed_words from (words text.now)) }
+    ensures count { IfOk result (λ n. n ≡ length (words text.now)) }
+    ensures few { IfOk result (λ n. n ≤ length text.now) }
+{
+    Ok(analysis::push_words(alloc, text, from as u32, into)?)
 }
 
 /// The position at which a text's words begin.
@@ -99,35 +113,12 @@ fn end_after(end: Option<u64>, from: u64, count: u64) -> Option<u64>
     }
 }
 
-/// Adds words with positions one after the other.
-#[tactic(auto, using(crate::proofs::Wording::wording))]
-fn place(found: Vec<Token>, from: u64, into: &mut Vec<(Vec<u8>, u32)>) -> Result<(), NoMemory>
-    requires { from + length found.items ≤ 2 ^ 32 }
-    ensures { OnOk result (map (λ t. (t.0.items, t.1)) into.new.items ≡ map (λ t. (t.0.items, t.1)) into.old.items ++ placed_words from (map (λ t. t.folded) found.items)) }
-{
-    into.reserve(found.len())?;
-    let mut at = from;
-    'tokens: for token in found {
-        push_token(token, at, into)?;
-        at += 1;
-    }
-    Ok(())
-}
-
-fn push_token(token: Token, at: u64, into: &mut Vec<(Vec<u8>, u32)>) -> Result<(), NoMemory>
-    requires { at < 2 ^ 32 }
-    ensures { OnOk result (map {B = List ℕ × ℕ} (λ t. (t.0.items, t.1)) into.new.items ≡ map {B = List ℕ × ℕ} (λ t. (t.0.items, t.1)) into.old.items ++ (token.folded, at) ∷ []) }
-{
-    into.push((token.folded.into_vec(), at as u32))?;
-    Ok(())
-}
-
 /// Adds each different word of some tokens, in byte order, with its positions.
 #[tactic(auto, using(crate::proofs::Wording::wording))]
 pub(crate) fn push_words_of_field(
     alloc: Global,
     field: u32,
-    mut tokens: Vec<(Vec<u8>, u32)>,
+    mut tokens: Vec<(FoldedWord, u32)>,
     into: &mut Vec<Word>,
 ) -> Result<(), NoMemory>
     ensures { OnOk result (map word_seen into.new.items ≡ map word_seen into.old.items ++ words_of_field field (map (λ t. (t.0.items, t.1)) tokens.items)) }
@@ -141,7 +132,7 @@ pub(crate) fn push_words_of_field(
     push_last(current, into)
 }
 
-fn sort_tokens(tokens: &mut Vec<(Vec<u8>, u32)>)
+fn sort_tokens(tokens: &mut Vec<(FoldedWord, u32)>)
     ensures { map (λ t. (t.0.items, t.1)) tokens.new.items ≡ ascending token_cmp (map (λ t. (t.0.items, t.1)) tokens.old.items) }
 {
     tokens.sort_unstable();
@@ -161,7 +152,7 @@ fn push_last(current: Option<Word>, into: &mut Vec<Word>) -> Result<(), NoMemory
 fn with_token(
     alloc: Global,
     field: u32,
-    word: Vec<u8>,
+    word: FoldedWord,
     at: u32,
     current: Option<Word>,
     into: &mut Vec<Word>,
@@ -180,7 +171,7 @@ fn with_token(
 fn with_next(
     alloc: Global,
     field: u32,
-    word: Vec<u8>,
+    word: FoldedWord,
     at: u32,
     current: Word,
     into: &mut Vec<Word>,
@@ -189,7 +180,7 @@ fn with_next(
     ensures field { IfOk result (λ w. w.field ≡ field) }
     ensures together { IfOk result (λ w. (rest : List (List ℕ × ℕ)) → map word_seen into.new.items ++ together field w.word.items w.positions.items rest ≡ map word_seen into.old.items ++ together field current.word.items current.positions.items ((word.items, at) ∷ rest)) }
 {
-    if word == current.word {
+    if word.as_slice() == current.word.as_slice() {
         let mut current = current;
         current.positions.push(at)?;
         Ok(current)
@@ -199,7 +190,7 @@ fn with_next(
     }
 }
 
-fn new_word(alloc: Global, field: u32, word: Vec<u8>, at: u32) -> Result<Word, NoMemory>
+fn new_word(alloc: Global, field: u32, word: FoldedWord, at: u32) -> Result<Word, NoMemory>
     ensures { IfOk result (λ w. word_seen w ≡ ((field, word.items), at ∷ [])) }
 {
     let mut positions = SmallVec::new(alloc);

@@ -115,6 +115,7 @@ impl Mapping {
         self.bodies.body(generation)
     }
 
+    /// The index's name: that of the first body, or `main` where it gives none.
     pub fn index_name(&self) -> &[u8]
         ensures { result.now ≡ self.now.index }
     {
@@ -166,6 +167,7 @@ impl Mapping {
         self.bodies.fields()[field as usize].since <= generation
     }
 
+    /// The kind of a field.
     pub fn kind(&self, field: u32) -> Kind
         requires { field < length self.now.fields }
         ensures { result ≡ kind_at self.now field }
@@ -189,6 +191,7 @@ impl Mapping {
         self.bodies.fields()[field as usize].path.as_slice()
     }
 
+    /// How many fields there are, in all generations.
     pub fn field_count(&self) -> u32
         ensures { result ≡ length self.now.fields }
     {
@@ -354,6 +357,7 @@ impl Mapping {
         some_has_parent(self.bodies.relations(), relation)
     }
 
+    /// How many relations there are, in all generations.
     pub fn relation_count(&self) -> u32
         ensures { result ≡ length self.now.relations }
     {

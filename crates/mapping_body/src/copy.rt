@@ -7,6 +7,7 @@ use crate::refusal::NoMemory;
 use std::alloc::Global;
 use tree_json::{Json, JsonList, JsonObject, JsonText};
 
+/// A value once more, with all that it holds.
 #[cycle(copies)]
 #[tactic(auto, using(crate::proofs::Walks::sizes))]
 pub fn copied(alloc: Global, value: &Json) -> Result<Json, NoMemory>

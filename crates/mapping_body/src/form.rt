@@ -253,12 +253,14 @@ pub fn index_of(body: &Json) -> &[u8]
     }
 }
 
+/// Whether it is the kind of nested fields.
 pub fn is_nested(kind: Kind) -> bool
     ensures { result ≡ is_nested kind }
 {
     matches!(kind, Kind::Nested)
 }
 
+/// Whether it is the kind of join fields.
 pub fn is_join(kind: Kind) -> bool
     ensures { result ≡ is_join kind }
 {

@@ -18,3 +18,4 @@ pub mod Slots
 pub mod Cutting
 pub mod Tallied
 pub mod Reached
+pub mod Leading

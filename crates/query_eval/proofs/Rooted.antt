@@ -15,6 +15,7 @@ use Rattle.tree_objects.specs.Enclosing.{stands_at}
 use Rattle.tree_objects.specs.Object.{Object, block_objects, root}
 use Rattle.tree_objects.specs.Tree.{Tree}
 use Rattle.query_eval.specs.Found.{AreLong, IsSeen, live_in, live_trees}
+use Rattle.query_eval.specs.Keyed.{any_child_by}
 use Rattle.query_eval.specs.Sides.{answer_for, at_roots, children_by, given_by, keys_at, of_roots, parent_by, roots_in, scores_of, told, told_by}
 use Rattle.query_eval.specs.declared.side.Side.{Side}
 use Rattle.query_eval.specs.declared.side.Side.TheVariants.{Parents, Children, ChildrenOf}
@@ -176,6 +177,22 @@ module _ (one_root : OneRoot) (view : List EntryState) (ordinals : Ordinals) (o 
           scores = told_is (Children r) trees stand;
           some = λ t id own. ap (λ (l : List Tree). children_score mode least most (filter_map f (roots l))) (children_of m r p parent t id live own);
           none = λ t own. ap (λ (l : List Tree). children_score mode least most (filter_map f (roots l))) (no_children_of m r p parent t live own) ∙ no_children mode least most;
+        })
+        0 view trees (whole_view view) stand;
+  }
+
+  pub seen_any_child : (r p : ℕ) → (relation_at m r).parent ≡ Some p → made ≡ given_by m ordinals (Parents p) (answer.Parent false 1) (told_by m ordinals (Children r) 0 view hits) 0 view → IsSeen m view 0 (any_child_by m r given) made
+  seen_any_child r p parent is_given = record {
+    long = long;
+    are = λ trees stand.
+        let live : List Tree = live_trees trees in
+        let f : Object → Option ℕ = given live in
+        is_given
+        ∙ given_view one_root view ordinals o m is (Children r) (Parents p) (answer.Parent false 1) (told_by m ordinals (Children r) 0 view hits) live f (any_child_by m r given live)
+        (record {
+          scores = told_is (Children r) trees stand;
+          some = λ t id own. ap (λ (l : List Tree). parent_score false 1 (filter_map f (roots l))) (children_of m r p parent t id live own);
+          none = λ t own. ap (λ (l : List Tree). parent_score false 1 (filter_map f (roots l))) (no_children_of m r p parent t live own);
         })
         0 view trees (whole_view view) stand;
   }

@@ -9,3 +9,6 @@ pub mod Folds
 pub mod Nested
 pub mod Tallies
 pub mod Sides
+-- Of this `AreChildRoots`, `AreParentRoots` and `any_child_by` are to be believed: all roots of one side of a join, by ascending
+-- keys, and the roots that have a child. The rest serves proofs alone.
+pub mod Keyed

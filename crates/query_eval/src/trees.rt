@@ -227,7 +227,7 @@ fn tell(
 
 /// The score of a document, if it has one. The cursor goes on behind it.
 #[tactic(auto, using(crate::proofs::Walking::took))]
-fn take_at(left: &mut Cursor, doc: u32) -> Option<u64>
+pub(crate) fn take_at(left: &mut Cursor, doc: u32) -> Option<u64>
     requires ordered { left.old.from ≤ doc }
     requires within { doc < length left.old.scores }
     requires numbered { length left.old.scores < 2 ^ 32 }
@@ -240,7 +240,7 @@ fn take_at(left: &mut Cursor, doc: u32) -> Option<u64>
 }
 
 /// The key of the root at a document, if it takes part; none where the document is no root's. The rank is a guess.
-fn key_if(
+pub(crate) fn key_if(
     mapping: &Mapping,
     joins: &JoinOrdinals,
     segment: &Segment,

@@ -2,7 +2,8 @@
 //!
 //! A segment never changes; a delete clears live bits beside it (Lucene's `SegmentReader` and its live docs, package
 //! `org.apache.lucene.index`). The crate stands on `segment_parts`. A segment is seen as the columns that its bytes are the
-//! text of: `Segment::of_bytes` reads them, `Segment::of_columns` writes them. Begin reading with `specs/Encoding.antt`.
+//! text of: `Segment::of_bytes` tests bytes, `Segment::of_text` takes those that are known to be a segment. Begin reading with
+//! `specs/Encoding.antt`.
 #![tactic(auto)]
 
 mod agree;

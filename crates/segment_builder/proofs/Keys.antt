@@ -80,7 +80,7 @@ module _ {K P : Type 0} (cmp : K → K → Ordering) (o : IsTotalOrder cmp) wher
   abbrev one_of : K → K × P → List P
   one_of key entry = of_key cmp key (entry ∷ [])
 
-  groups_append : (key : K) (gs hs : List (K × List P)) → in_groups cmp key (gs ++ hs) ≡ in_groups cmp key gs ++ in_groups cmp key hs
+  pub groups_append : (key : K) (gs hs : List (K × List P)) → in_groups cmp key (gs ++ hs) ≡ in_groups cmp key gs ++ in_groups cmp key hs
   groups_append key [] hs = refl
   groups_append key (g ∷ gs) hs =
       split (eq_by_cmp cmp key g.0)

@@ -44,3 +44,5 @@ pub mod AtFields
 pub mod ByDocuments
 pub mod Gathered
 pub mod Put
+pub mod Ranked
+pub mod Fielded

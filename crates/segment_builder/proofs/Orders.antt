@@ -37,3 +37,6 @@ nat_order = record { total = nat_cmp_total; same = nat_exact }
 
 pub term_order : IsExact term_cmp
 term_order = record { total = then_total (on_total (λ (t : ℕ × List ℕ). t.0) nat_cmp_total) (on_total (λ (t : ℕ × List ℕ). t.1) nat_list_cmp_total); same = term_exact }
+
+pub exact_bytes : IsExact (slice_cmp nat_cmp)
+exact_bytes = record { total = nat_list_cmp_total; same = bytes_exact }

@@ -34,7 +34,7 @@ module _ {K P : Type 0} (cmp : K → K → Ordering) (o : IsTotalOrder cmp) wher
       (λ is. rw is refl)
       (λ isnt. rw isnt refl)))
 
-  gather : (any : K) (entries : List (K × P)) → in_groups cmp any (runs cmp entries) ≡ of_key cmp any entries
+  pub gather : (any : K) (entries : List (K × P)) → in_groups cmp any (runs cmp entries) ≡ of_key cmp any entries
   gather any [] = refl
   gather any (entry ∷ entries) = one_more any entry (runs cmp entries) ∙ ap (λ rest. of_key cmp any (entry ∷ []) ++ rest) (gather any entries) ∙ sym (of_more cmp o any entry entries)
 
@@ -76,7 +76,7 @@ module _ {K P : Type 0} (cmp : K → K → Ordering) (o : IsTotalOrder cmp) wher
       (less, each_then (λ k. cmp group.0 k ≡ Less) (λ k. cmp entry.0 k ≡ Less) (λ k behind. o.trans entry.0 group.0 k less behind) (keys groups) later)
       up))
 
-  ordered : (entries : List (K × P)) → AreRising cmp entries → AreOrdered cmp (runs cmp entries)
+  pub ordered : (entries : List (K × P)) → AreRising cmp entries → AreOrdered cmp (runs cmp entries)
   ordered [] rising = record { ascending = sorted_none cmp; some = tt }
   ordered (entry ∷ entries) rising =
       let rest : AreOrdered cmp (runs cmp entries) = ordered entries rising.1 in

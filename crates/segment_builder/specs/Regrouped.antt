@@ -19,7 +19,7 @@ module _ {K L P Q : Type 0} (cmp : K → K → Ordering) (other : L → L → Or
   abbrev pub group_as : K × List P → L × List Q
   group_as group = (h group.0, map f group.1)
 
-  key_as : (key : K) (entries : List (K × P)) → of_key other (h key) (map entry_as entries) ≡ map f (of_key cmp key entries)
+  pub key_as : (key : K) (entries : List (K × P)) → of_key other (h key) (map entry_as entries) ≡ map f (of_key cmp key entries)
   key_as key [] = refl
   key_as key (entry ∷ entries) =
       rw (same key entry.0)

@@ -1,12 +1,14 @@
 -- The terms of keyword and number fields, from the entries of documents.
 use denote.Ref.{Bor}
-use Rattle.std.specs.Prelude.{ℕ, ℤ, List, [], ◌∷◌, ◌++◌, map, if◌then◌else◌}
+use Rattle.std.specs.Prelude.{ℕ, ℤ, List, [], ◌∷◌, ◌++◌, map, slice_index_or, Vec, if◌then◌else◌}
+use Rattle.std.specs.Cmp.Lexicographic.{slice_cmp}
+use Rattle.std.specs.Int.{from_be_bytes, w64}
+use Rattle.std.specs.List.{flat_map}
+use Rattle.std.specs.Ordering.{nat_cmp}
 use Rattle.std.specs.Str.{bytes_eq}
-use Rattle.std.specs.declared.cmp.Ordering.{Ordering}
 use Rattle.term_table.specs.Keys.{number_key}
-use Rattle.term_table.specs.Terms.{term_cmp}
 use Rattle.term_table.specs.declared.rows.TermRow.{TermRow}
-use Rattle.segment_builder.specs.Groups.{runs}
+use Rattle.segment_builder.specs.Groups.{groups_seen, runs}
 
 -- terms of a field in a document, without positions
 abbrev pub terms_at : ℕ → ℕ → List (List ℕ) → List ((ℕ × List ℕ) × (ℕ × List ℕ))
@@ -41,19 +43,37 @@ keys_kept keys = map (λ (entry : ℕ × (ℕ × List ℕ)). ((entry.0, entry.1.
 abbrev pub row_group : TermRow → (ℕ × List ℕ) × List (ℕ × List ℕ)
 row_group row = (row.term, row.postings)
 
--- ---- terms that are lent
+-- ---- terms that are lent, field by field
 
-abbrev pub postings_lent : List (ℕ × Bor (List ℕ)) → List (ℕ × List ℕ)
-postings_lent postings = map (λ (posting : ℕ × Bor (List ℕ)). (posting.0, posting.1.now)) postings
+-- the entries of one field by the bytes of their terms
+abbrev pub entries_lent : List (Bor (List ℕ) × (ℕ × Bor (List ℕ))) → List (List ℕ × (ℕ × List ℕ))
+entries_lent entries = map (λ (entry : Bor (List ℕ) × (ℕ × Bor (List ℕ))). (entry.0.now, (entry.1.0, entry.1.1.now))) entries
 
--- their order
-abbrev pub lent_cmp : ℕ × Bor (List ℕ) → ℕ × Bor (List ℕ) → Ordering
-lent_cmp term other = term_cmp (term.0, term.1.now) (other.0, other.1.now)
+-- the first eight bytes as a number, the first of them the highest
+unfoldable pub rank : List ℕ → ℕ
+rank bytes =
+    from_be_bytes w64
+    (slice_index_or bytes 0 0
+    ∷ slice_index_or bytes 1 0
+    ∷ slice_index_or bytes 2 0
+    ∷ slice_index_or bytes 3 0
+    ∷ slice_index_or bytes 4 0
+    ∷ slice_index_or bytes 5 0
+    ∷ slice_index_or bytes 6 0
+    ∷ slice_index_or bytes 7 0
+    ∷ [])
 
--- a term with its postings as a row
-abbrev pub lent_row : (ℕ × Bor (List ℕ)) × List (ℕ × Bor (List ℕ)) → TermRow
-lent_row group = record { term = (group.0.0, group.0.1.now); postings = postings_lent group.1 }
+-- a term of a field with its postings as a row
+abbrev pub field_row : ℕ → List ℕ × List (ℕ × List ℕ) → TermRow
+field_row field group = record { term = (field, group.0); postings = group.1 }
 
--- the rows of entries whose terms rise
-abbrev pub rows_in : List ((ℕ × Bor (List ℕ)) × (ℕ × Bor (List ℕ))) → List TermRow
-rows_in entries = map lent_row (runs lent_cmp entries)
+-- the rows of a field's entries, whose bytes rise
+abbrev pub field_rows : ℕ → List (Bor (List ℕ) × (ℕ × Bor (List ℕ))) → List TermRow
+field_rows field entries = map (field_row field) (runs (slice_cmp nat_cmp) (entries_lent entries))
+
+-- the rows of fields, one field behind the other
+abbrev pub rows_of : List (ℕ × List (Bor (List ℕ) × (ℕ × Bor (List ℕ)))) → List TermRow
+rows_of fields = flat_map (λ (field : ℕ × List (Bor (List ℕ) × (ℕ × Bor (List ℕ)))). field_rows field.0 field.1) fields
+
+abbrev pub rows_in : {A : Type 0} → List (ℕ × Vec (Bor (List ℕ) × (ℕ × Bor (List ℕ))) A) → List TermRow
+rows_in {A} fields = rows_of (groups_seen fields)

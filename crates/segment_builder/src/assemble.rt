@@ -24,9 +24,9 @@ use crate::numbers::put_numbers;
 use crate::ordinals::put_ordinals;
 use crate::present::put_texts;
 use crate::roots::put_roots;
-use crate::rows::{put_terms, sort_terms};
+use crate::rows::{put_terms, sorted_fields};
 use crate::scopes::scope_sets;
-use crate::terms::{keys_of, terms_of};
+use crate::terms::{fields_of, keys_of, terms_of};
 use crate::{NoMemory, made_columns_agree, made_segments_are_blocks};
 use block_bits::words_are_of_one_set;
 use flattener::{Block, Document, blocks_are_of_their_mapping, blocks_are_small};
@@ -91,11 +91,11 @@ fn bytes_of(alloc: Global, blocks: &[Block]) -> Result<Vec<u8>, NoMemory>
     let documents = list.as_slice();
     let counts = counts_of(documents);
     let keys = keys_of(alloc, documents, counts)?;
-    let entries = sorted_terms(alloc, documents, keys.as_slice(), counts)?;
+    let fields = sorted_terms(alloc, documents, keys.as_slice(), counts)?;
     let mut bytes = Vec::new(alloc);
     put_head(alloc, documents, &mut bytes)?;
     put_roots(blocks, &mut bytes)?;
-    let terms = put_terms(alloc, entries, &mut bytes)?;
+    let terms = put_terms(alloc, fields, &mut bytes)?;
     let keywords = keywords_of(alloc, documents, counts.keywords)?;
     put_ordinals(alloc, terms.as_slice(), keywords, &mut bytes)?;
     let numbers = numbers_of(alloc, documents, counts.numbers)?;
@@ -107,20 +107,20 @@ fn bytes_of(alloc: Global, blocks: &[Block]) -> Result<Vec<u8>, NoMemory>
     Ok(bytes)
 }
 
-/// The terms of documents in order; those of one term keep the order of the documents.
+/// The terms of documents field by field, in order; those of one term keep the order of the documents.
 fn sorted_terms<'a>(
     alloc: Global,
     documents: &[&'a Document],
     keys: &'a [(u32, (u32, [u8; 8]))],
     counts: Counts,
-) -> Result<Vec<((u32, &'a [u8]), (u32, &'a [u32]))>, NoMemory>
+) -> Result<Vec<(u32, Vec<(&'a [u8], (u32, &'a [u32]))>)>, NoMemory>
     requires few { length documents.now < 2 ^ 32 }
     requires keys { keys_kept keys.now ≡ number_terms (entries_in (flats_lent documents.now)).numbers }
-    ensures { IfOk result (λ entries. AreGroups term_cmp (all_terms (entries_in (flats_lent documents.now))) (map row_group (rows_in entries.items))) }
+    ensures { IfOk result (λ fields. AreGroups term_cmp (all_terms (entries_in (flats_lent documents.now))) (map row_group (rows_in fields.items))) }
 {
-    let mut entries = terms_of(alloc, documents, keys, counts)?;
-    sort_terms(&mut entries)?;
-    Ok(entries)
+    let terms = terms_of(alloc, documents, keys, counts)?;
+    let fields = fields_of(alloc, terms)?;
+    Ok(sorted_fields(alloc, fields)?)
 }
 
 /// Appends the number of documents, and the documents of each scope.

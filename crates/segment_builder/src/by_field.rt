@@ -27,7 +27,7 @@ pub fn grouped_by_field<P: Drop>(
 
 /// Adds an entry to the group of its field, or as a new group, and gives the place of this group. The entry before it went
 /// to the group at `last`.
-fn put<P: Drop>(
+pub(crate) fn put<P: Drop>(
     alloc: Global,
     field: u32,
     member: P,

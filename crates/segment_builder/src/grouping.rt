@@ -21,7 +21,7 @@ pub fn grouped<K: Ord + Drop, P: Drop>(
 }
 
 /// Sorts entries by key; those of one key keep their order.
-fn sort<K: Ord, P>(entries: &mut Vec<(K, P)>) -> Result<(), NoMemory>
+pub(crate) fn sort<K: Ord, P>(entries: &mut Vec<(K, P)>) -> Result<(), NoMemory>
     ensures same { OnOk result ((key : K) → of_key K.cmp key entries.new.items ≡ of_key K.cmp key entries.old.items) }
     ensures rising { OnOk result (AreRising K.cmp entries.new.items) }
 {

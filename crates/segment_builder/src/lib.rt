@@ -1,8 +1,8 @@
 //! Blocks as a segment: the documents of trees, put together by field and by term.
 //!
 //! It stands on `flattener` for blocks and on `segment` for columns (Lucene's `IndexingChain`, package `org.apache.lucene.index`).
-//! What documents carry is put together by field, terms with a stable sort, part by part, and each part is written straight
-//! from what the blocks lend. What others use is that `built` gives a segment whose documents and roots are those of its
+//! What documents carry is put together by field, part by part, terms with a stable sort in each field, and each part is written
+//! straight from what the blocks lend. What others use is that `built` gives a segment whose documents and roots are those of its
 //! blocks, and that a segment stands for the trees of its blocks. Begin reading with `specs/Blocks.antt` and `assemble`, then
 //! `by_field`.
 #![tactic(auto)]

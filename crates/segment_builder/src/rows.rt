@@ -1,112 +1,165 @@
-//! Terms with their postings, written.
+//! Terms with their postings, put in order field by field and written.
 
-ghost use Rattle.std.specs.Prelude.{◌≡◌, ◌<◌, ◌^◌, ◌++◌, ℕ, List, length, map, IfOk, OnOk};
+ghost use Rattle.std.specs.Prelude.{◌≡◌, ◌<◌, ◌^◌, ◌++◌, ℕ, List, length, map, slice_index_or, IfOk, OnOk};
 ghost use Rattle.std.specs.Cmp.Lexicographic.{slice_cmp};
 ghost use Rattle.std.specs.List.{All, AllByRecursion, flat_map};
 ghost use Rattle.std.specs.Ordering.{nat_cmp};
-ghost use Rattle.term_table.specs.Keys.{number_key};
 ghost use Rattle.term_table.specs.Part.{posting_text, row_text, rows_text, AreRows, IsRow};
 ghost use Rattle.term_table.specs.Terms.{term_cmp};
 ghost use Rattle.segment_builder.specs.Columns.{terms_in, terms_lent};
-ghost use Rattle.segment_builder.specs.Entries.{words_lent};
-ghost use Rattle.segment_builder.specs.Groups.{members, AreGroups};
+ghost use Rattle.segment_builder.specs.Groups.{groups_seen, in_groups, keys, members, of_key, AreGroups, AreRising};
 ghost use Rattle.segment_builder.specs.Taken.{AreTermEntries};
-ghost use Rattle.segment_builder.specs.Terms.{lent_cmp, lent_row, postings_lent, row_group, rows_in};
+ghost use Rattle.segment_builder.specs.Terms.{entries_lent, field_row, field_rows, rank, row_group, rows_in};
 
 use crate::NoMemory;
-use crate::grouping::run_len;
+use crate::grouping::{run_len, sort};
 use part_text::{put_string, put_u32, put_u64};
 use std::alloc::Global;
-use std::cmp::Ordering;
-use term_table::{keys_are_ordered, number_of};
 
-/// Sorts the entries of terms; those of one term keep their order.
-pub(crate) fn sort_terms(entries: &mut Vec<((u32, &[u8]), (u32, &[u32]))>) -> Result<(), NoMemory>
-    ensures { OnOk result (AreGroups term_cmp (words_lent entries.old.items) (map row_group (rows_in entries.new.items))) }
+/// Puts the terms of each field in order; those of one term keep their order.
+pub(crate) fn sorted_fields<'a>(
+    alloc: Global,
+    fields: Vec<(u32, Vec<(&'a [u8], (u32, &'a [u32]))>)>,
+) -> Result<Vec<(u32, Vec<(&'a [u8], (u32, &'a [u32]))>)>, NoMemory>
+    ensures same { IfOk result (λ sorted. (field : ℕ) (bytes : List ℕ) → of_key (slice_cmp nat_cmp) bytes (entries_lent (in_groups nat_cmp field (groups_seen sorted.items)))
+        ≡ of_key (slice_cmp nat_cmp) bytes (entries_lent (in_groups nat_cmp field (groups_seen fields.entry.items)))) }
+    ensures fields { IfOk result (λ sorted. keys (groups_seen sorted.items) ≡ keys (groups_seen fields.entry.items)) }
+    ensures rising { IfOk result (λ sorted. AllByRecursion (λ group. AreRising (slice_cmp nat_cmp) (entries_lent group.1)) (groups_seen sorted.items)) }
 {
-    entries.sort_by(|one, other| order_of(&one.0, &other.0))?;
+    let mut sorted = Vec::new(alloc);
+    'fields: for (field, entries) in fields {
+        let mut entries = entries;
+        sort_entries(&mut entries)?;
+        sorted.push((field, entries))?;
+    }
+    Ok(sorted)
+}
+
+/// Sorts the terms of a field by their bytes; those of one term keep their order.
+fn sort_entries(entries: &mut Vec<(&[u8], (u32, &[u32]))>) -> Result<(), NoMemory>
+    ensures same { OnOk result ((bytes : List ℕ) → of_key (slice_cmp nat_cmp) bytes (entries_lent entries.new.items) ≡ of_key (slice_cmp nat_cmp) bytes (entries_lent entries.old.items)) }
+    ensures rising { OnOk result (AreRising (slice_cmp nat_cmp) (entries_lent entries.new.items)) }
+{
+    sort_by_rank(entries)?;
+    sort(entries)?;
     Ok(())
 }
 
-/// The order of two terms.
-fn order_of(one: &(u32, &[u8]), other: &(u32, &[u8])) -> Ordering
-    ensures { result ≡ lent_cmp one.now other.now }
+/// Sorts the terms of a field by the number that their first bytes are, which costs far less than a sort by all of their bytes,
+/// and leaves that sort little to do: where no two terms begin with the same eight bytes, it finds them in order.
+fn sort_by_rank(entries: &mut Vec<(&[u8], (u32, &[u32]))>) -> Result<(), NoMemory>
+    ensures { OnOk result ((bytes : List ℕ) → of_key (slice_cmp nat_cmp) bytes (entries_lent entries.new.items) ≡ of_key (slice_cmp nat_cmp) bytes (entries_lent entries.old.items)) }
 {
-    match one.0.cmp(&other.0) {
-        Ordering::Less => Ordering::Less,
-        Ordering::Equal => order_of_bytes(one.1, other.1),
-        Ordering::Greater => Ordering::Greater,
+    entries.sort_by_cached_key(|entry| rank(entry.0))?;
+    Ok(())
+}
+
+/// The first eight bytes as a number, the first of them the highest; 0 stands for those that aren't there.
+#[tactic(auto, unfolding(crate::specs::Terms::rank))]
+fn rank(bytes: &[u8]) -> u64
+    ensures { result ≡ rank bytes.now }
+{
+    u64::from_be_bytes([
+        byte_at(bytes, 0),
+        byte_at(bytes, 1),
+        byte_at(bytes, 2),
+        byte_at(bytes, 3),
+        byte_at(bytes, 4),
+        byte_at(bytes, 5),
+        byte_at(bytes, 6),
+        byte_at(bytes, 7),
+    ])
+}
+
+/// The byte at a place, or 0 behind the end.
+#[tactic(auto, using(crate::proofs::Ranked::byte_past))]
+fn byte_at(bytes: &[u8], at: usize) -> u8
+    ensures { result ≡ slice_index_or bytes.now at 0 }
+{
+    if at < bytes.len() {
+        return bytes[at];
     }
+    0
 }
 
-/// The order of the bytes of two terms. The terms of a number field have one length and most bytes in common, so that numbers
-/// decide sooner.
-fn order_of_bytes(one: &[u8], other: &[u8]) -> Ordering
-    ensures { result ≡ slice_cmp nat_cmp one.now other.now }
-{
-    match number_of(one) {
-        Some(number) => match number_of(other) {
-            Some(another) => order_of_keys(number, another),
-            None => one.cmp(other),
-        },
-        None => one.cmp(other),
-    }
-}
-
-/// The order of the keys of two numbers.
-fn order_of_keys(number: i64, another: i64) -> Ordering
-    ensures { result ≡ slice_cmp nat_cmp (number_key number) (number_key another) }
-{
-    keys_are_ordered();
-    number.cmp(&another)
-}
-
-/// Appends the terms of entries whose terms rise, each with its postings, and gives these terms.
+/// Appends the terms of fields, which rise, each with its postings, and gives these terms.
 pub(crate) fn put_terms<'a>(
     alloc: Global,
-    entries: Vec<((u32, &'a [u8]), (u32, &[u32]))>,
+    fields: Vec<(u32, Vec<(&'a [u8], (u32, &'a [u32]))>)>,
     into: &mut Vec<u8>,
 ) -> Result<Vec<(u32, &'a [u8])>, NoMemory>
-    requires { (documents : ℕ) × (terms : List ((ℕ × List ℕ) × (ℕ × List ℕ))) × AreTermEntries documents terms × AreGroups term_cmp terms (map row_group (rows_in entries.items)) }
-    ensures terms { IfOk result (λ terms. terms_lent terms.items ≡ terms_in (rows_in entries.entry.items)) }
-    ensures rows { OnOk result (AreRows (rows_in entries.entry.items)) }
-    ensures text { OnOk result (into.new.items ≡ into.old.items ++ rows_text (rows_in entries.entry.items)) }
+    requires { (documents : ℕ) × (terms : List ((ℕ × List ℕ) × (ℕ × List ℕ))) × AreTermEntries documents terms × AreGroups term_cmp terms (map row_group (rows_in fields.items)) }
+    ensures terms { IfOk result (λ terms. terms_lent terms.items ≡ terms_in (rows_in fields.entry.items)) }
+    ensures rows { OnOk result (AreRows (rows_in fields.entry.items)) }
+    ensures text { OnOk result (into.new.items ≡ into.old.items ++ rows_text (rows_in fields.entry.items)) }
 {
-    let terms = terms_of_rows(alloc, entries.as_slice())?;
+    let terms = terms_of_fields(alloc, fields.as_slice())?;
     put_u64(into, terms.len() as u64)?;
-    put_rows(entries.as_slice(), into)?;
+    put_fields(fields.as_slice(), into)?;
     Ok(terms)
 }
 
-/// The terms of entries whose terms rise, each once.
-fn terms_of_rows<'a>(
+/// The terms of fields, each once.
+fn terms_of_fields<'a>(
     alloc: Global,
-    entries: &[((u32, &'a [u8]), (u32, &[u32]))],
+    fields: &[(u32, Vec<(&'a [u8], (u32, &'a [u32]))>)],
 ) -> Result<Vec<(u32, &'a [u8])>, NoMemory>
-    ensures { IfOk result (λ terms. terms_lent terms.items ≡ terms_in (rows_in entries.now)) }
+    ensures { IfOk result (λ terms. terms_lent terms.items ≡ terms_in (rows_in fields.now)) }
 {
     let mut terms = Vec::new(alloc);
-    let mut at = 0;
-    'rows: while at < entries.len() {
-        let term = entries[at].0;
-        terms.push(term)?;
-        at += run_len(&term, entries.split_at(at).1);
+    'fields: for (field, entries) in fields {
+        add_terms(*field, entries.as_slice(), &mut terms)?;
     }
     terms.shrink_to_fit();
     Ok(terms)
 }
 
-/// Appends the rows of entries whose terms rise.
-fn put_rows(entries: &[((u32, &[u8]), (u32, &[u32]))], into: &mut Vec<u8>) -> Result<(), NoMemory>
-    requires { AllByRecursion IsRow (rows_in entries.now) }
-    ensures { OnOk result (into.new.items ≡ into.old.items ++ flat_map row_text (rows_in entries.now)) }
+/// Adds the terms of a field's entries, which rise, each once.
+fn add_terms<'a>(
+    field: u32,
+    entries: &[(&'a [u8], (u32, &'a [u32]))],
+    into: &mut Vec<(u32, &'a [u8])>,
+) -> Result<(), NoMemory>
+    ensures { OnOk result (terms_lent into.new.items ≡ terms_lent into.old.items ++ terms_in (field_rows field entries.now)) }
 {
     let mut at = 0;
     'rows: while at < entries.len() {
-        let term = entries[at].0;
+        let bytes = entries[at].0;
+        into.push((field, bytes))?;
+        at += run_len(&bytes, entries.split_at(at).1);
+    }
+    Ok(())
+}
+
+/// Appends the rows of fields.
+fn put_fields(
+    fields: &[(u32, Vec<(&[u8], (u32, &[u32]))>)],
+    into: &mut Vec<u8>,
+) -> Result<(), NoMemory>
+    requires { AllByRecursion IsRow (rows_in fields.now) }
+    ensures { OnOk result (into.new.items ≡ into.old.items ++ flat_map row_text (rows_in fields.now)) }
+{
+    'fields: for (field, entries) in fields {
+        put_rows(*field, entries.as_slice(), into)?;
+    }
+    Ok(())
+}
+
+/// Appends the rows of a field's entries, whose terms rise.
+fn put_rows(
+    field: u32,
+    entries: &[(&[u8], (u32, &[u32]))],
+    into: &mut Vec<u8>,
+) -> Result<(), NoMemory>
+    requires { AllByRecursion IsRow (field_rows field entries.now) }
+    ensures { OnOk result (into.new.items ≡ into.old.items ++ flat_map row_text (field_rows field entries.now)) }
+{
+    let mut at = 0;
+    'rows: while at < entries.len() {
+        let bytes = entries[at].0;
         let rest = entries.split_at(at).1;
-        let count = run_len(&term, rest);
-        put_row(term, rest.split_at(count).0, into)?;
+        let count = run_len(&bytes, rest);
+        put_row(field, bytes, rest.split_at(count).0, into)?;
         at += count;
     }
     Ok(())
@@ -114,27 +167,25 @@ fn put_rows(entries: &[((u32, &[u8]), (u32, &[u32]))], into: &mut Vec<u8>) -> Re
 
 /// Appends a term, and the postings of entries behind their number.
 fn put_row(
-    term: (u32, &[u8]),
-    run: &[((u32, &[u8]), (u32, &[u32]))],
+    field: u32,
+    bytes: &[u8],
+    run: &[(&[u8], (u32, &[u32]))],
     into: &mut Vec<u8>,
 ) -> Result<(), NoMemory>
-    requires { IsRow (lent_row (term, members run.now)) }
-    ensures { OnOk result (into.new.items ≡ into.old.items ++ row_text (lent_row (term.entry, members run.now))) }
+    requires { IsRow (field_row field (bytes.now, members (entries_lent run.now))) }
+    ensures { OnOk result (into.new.items ≡ into.old.items ++ row_text (field_row field (bytes.now, members (entries_lent run.now)))) }
 {
-    put_u32(into, term.0)?;
-    put_string(into, term.1)?;
+    put_u32(into, field)?;
+    put_string(into, bytes)?;
     put_u32(into, run.len() as u32)?;
     put_postings(run, into)?;
     Ok(())
 }
 
 /// Appends the postings of entries.
-fn put_postings(
-    entries: &[((u32, &[u8]), (u32, &[u32]))],
-    into: &mut Vec<u8>,
-) -> Result<(), NoMemory>
+fn put_postings(entries: &[(&[u8], (u32, &[u32]))], into: &mut Vec<u8>) -> Result<(), NoMemory>
     requires { All (λ entry. length entry.1.1.now < 2 ^ 32) entries.now }
-    ensures { OnOk result (into.new.items ≡ into.old.items ++ flat_map posting_text (postings_lent (members entries.now))) }
+    ensures { OnOk result (into.new.items ≡ into.old.items ++ flat_map posting_text (members (entries_lent entries.now))) }
 {
     'entries: for (_, (doc, positions)) in entries {
         put_posting(*doc, *positions, into)?;

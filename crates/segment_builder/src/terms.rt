@@ -1,12 +1,17 @@
 //! The terms of documents.
 
-ghost use Rattle.std.specs.Prelude.{◌≡◌, ◌<◌, ◌^◌, ◌++◌, ◌∷◌, [], length, map, IfOk, OnOk};
+ghost use Rattle.std.specs.Prelude.{◌≡◌, ◌<◌, ◌^◌, ◌++◌, ◌∷◌, [], ℕ, List, length, map, IfOk, OnOk};
+ghost use Rattle.std.specs.Cmp.Lexicographic.{slice_cmp};
+ghost use Rattle.std.specs.Ordering.{nat_cmp};
+ghost use Rattle.term_table.specs.Terms.{term_cmp};
+ghost use Rattle.segment_builder.specs.Groups.{groups_seen, in_groups, of_key, AreOrdered};
 ghost use Rattle.term_table.specs.Keys.{number_key};
 ghost use Rattle.segment_builder.specs.Entries.{bytes_lent, entries_in, flats_lent, keywords_lent, numbers_lent, words_lent};
 ghost use Rattle.segment_builder.specs.Made.{all_terms};
-ghost use Rattle.segment_builder.specs.Terms.{terms_at, unless_same, once_after, once, keyword_terms, keys_kept, number_terms};
+ghost use Rattle.segment_builder.specs.Terms.{entries_lent, terms_at, unless_same, once_after, once, keyword_terms, keys_kept, number_terms};
 
 use crate::NoMemory;
+use crate::by_field::put;
 use crate::entries::{Counts, keywords_of, numbers_of, words_of};
 use flattener::{Document, Keyword};
 use std::alloc::Global;
@@ -29,6 +34,22 @@ pub(crate) fn terms_of<'a>(
     add_keyword_terms(keywords.as_slice(), &mut terms)?;
     add_number_terms(keys, &mut terms)?;
     Ok(terms)
+}
+
+/// Terms put together by field, in their order.
+pub(crate) fn fields_of<'a>(
+    alloc: Global,
+    terms: Vec<((u32, &'a [u8]), (u32, &'a [u32]))>,
+) -> Result<Vec<(u32, Vec<(&'a [u8], (u32, &'a [u32]))>)>, NoMemory>
+    ensures same { IfOk result (λ fields. (field : ℕ) (bytes : List ℕ) → of_key (slice_cmp nat_cmp) bytes (entries_lent (in_groups nat_cmp field (groups_seen fields.items))) ≡ of_key term_cmp (field, bytes) (words_lent terms.entry.items)) }
+    ensures ordered { IfOk result (λ fields. AreOrdered nat_cmp (groups_seen fields.items)) }
+{
+    let mut fields = Vec::new(alloc);
+    let mut last = 0;
+    'terms: for ((field, bytes), posting) in terms {
+        last = put(alloc, field, (bytes, posting), last, &mut fields)?;
+    }
+    Ok(fields)
 }
 
 /// The keys of the numbers of documents, each once in a document.

@@ -1,7 +1,8 @@
 //! The counter of stored sources that were read.
 //!
-//! A search may read the source of a hit that it prints, and of no other tree. `Steps` counts these reads:
-//! a call that reads a stored source ticks it once, and each contract says by how much the count may rise.
+//! A search may read the sources of the hits that it prints and of the joined trees among their inner hits, an update the live
+//! one, and nothing else reads any. `Steps` counts these reads: a call that reads a stored source ticks it once, and each
+//! contract says by how much the count may rise.
 //! The counter takes no bytes and no time when the program runs. It stands on `std` alone.
 #![tactic(auto)]
 

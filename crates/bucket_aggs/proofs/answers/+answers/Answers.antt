@@ -1,6 +1,6 @@
-use Rattle.std.proofs.lemmas.Bool.{eqb-true}
+use Rattle.std.proofs.lemmas.Bool.{eqb-true, or_left, or_right}
 use Rattle.std.proofs.lemmas.List.{map-append, take_all, take_more}
-use Rattle.std.proofs.Common.{◌≡◌, ℕ, ℤ, ◌+◌, ◌-◌, ◌++◌, List, [], ◌∷◌, Option, Some, None, length, map, min, take, drop, sum_by, refl, sym, ap, subst, ◌∙◌, arith, rules, w64}
+use Rattle.std.proofs.Common.{◌≡◌, ℕ, ℤ, ◌+◌, ◌-◌, ◌++◌, true, List, [], ◌∷◌, Option, Some, IfSome, length, map, min, take, drop, sum_by, refl, sym, ap, subst, ◌∙◌, arith, rules, w64}
 use Rattle.std.proofs.lemmas.Int.{to_z-of_z}
 use mir.Val.{SFits, of_z, to_z}
 use Rattle.block_join.specs.declared.rule.Rule.TheVariants.{Kept}
@@ -9,26 +9,32 @@ use Rattle.mapping_body.specs.declared.kind.Kind.{Kind}
 use Rattle.query_ast.specs.Clause.{Clause}
 use Rattle.query_ast.specs.Agg.{Agg}
 use Rattle.query_ast.specs.Agg.View.{agg_of}
-use Rattle.query_ast.specs.Definition.{Definition, Definitions, definitions_of, no_definitions}
+use Rattle.query_ast.specs.Definition.{Definition, Definitions, definition_size, definitions_of, definitions_size, no_definitions, with_definition}
+use Rattle.query_ast.specs.Joins.{agg_joins, form_joins, some_agg_joins}
+use Rattle.join_ordinals.specs.Ordinals.{AreOrdinals}
 use Rattle.query_ast.specs.Replies.{BucketPart, ReplyPart, metric, replies_of}
 use Rattle.query_ast.specs.Replies.View.{bucket_part, reply_part, value_of}
 use Rattle.query_ast.specs.declared.bucket.AggReply.{AggReply}
-use Rattle.query_ast.specs.Resolved.{AreAggDefinitions, IsForm}
+use Rattle.query_ast.specs.Resolved.{AreAggDefinitions, IsForm, scope_of_form}
 use Rattle.query_ast.specs.declared.agg.AggDef.{AggDef}
 use Rattle.query_ast.specs.declared.agg.AggForm.{AggForm}
-use Rattle.query_ast.specs.declared.agg.AggForm.TheVariants.{Children, Parent, ReverseNested, Terms, Min as MinOf, Max as MaxOf, Sum as SumOf, ValueCount}
+use Rattle.query_ast.specs.declared.agg.AggForm.TheVariants.{Children, Filter, Parent, ReverseNested, Terms, Min as MinOf, Max as MaxOf, Sum as SumOf, ValueCount}
 use Rattle.query_ast.specs.declared.bucket.Bucket.{Bucket}
 use Rattle.query_eval.specs.Folds.{paired_by}
 use Rattle.query_eval.specs.Found.{IsSeen, score_by}
 use Rattle.query_eval.specs.Nested.{below_by}
-use Rattle.query_eval.specs.Sides.{by_relation, children_by}
+use Rattle.query_eval.specs.Sides.{by_relation}
 use Rattle.score_math.specs.Scores.{mode_of}
 use Rattle.score_math.specs.declared.score.ScoreMode.TheVariants.{Max}
 use Rattle.bucket_aggs.specs.Counts.{AreCounts, AreKeys, AreKnown, count_in, flats_of_view, rows_ordered}
 use Rattle.tree_objects.specs.declared.field_value.FieldValue.{FieldValue}
-use Rattle.bucket_aggs.specs.Given.{AreOfValue, AreReplies, IsAnswer, bucket_by, buckets_by, count_by_field, greatest_by, least_by, more_replies, replies_by, sum_by_field, value_by}
+use Rattle.bucket_aggs.specs.Once.{AreRootsOf, IsFoundBy}
+use Rattle.bucket_aggs.specs.Once.Ready.{AreReady}
+use Rattle.bucket_aggs.specs.Parents.{AreParents}
+use Rattle.bucket_aggs.proofs.Parents.{answer_of_parents}
+use Rattle.bucket_aggs.specs.Given.{AreOfValue, AreReplies, IsAnswer, bucket_by, buckets_by, count_by_field, greatest_by, least_by, more_replies, replies_by, single_by, sum_by_field, value_by}
 use Rattle.bucket_aggs.specs.declared.rows.CountRow.{CountRow}
-use Rattle.bucket_aggs.proofs.Formed.{bucket_alone, bucket_is, buckets_more, children_is, cut_first, cut_others, definitions_parts, filter_is, key_at, keys_taken, metric_is, nested_is, no_buckets_yet, no_terms, none_inside, number_is, parent_is, replies_more, reply_is, reverse_is, single_is, terms_is}
+use Rattle.bucket_aggs.proofs.Formed.{bucket_alone, bucket_is, buckets_more, children_is, cut_first, cut_others, definition_some, definitions_parts, filter_is, key_at, keys_taken, metric_is, nested_is, no_buckets_yet, no_terms, none_inside, number_is, parent_is, replies_more, reply_is, reverse_is, single_is, terms_is}
 use Rattle.bucket_aggs.proofs.Handed.{Laws}
 use Rattle.bucket_aggs.proofs.answers.+answers.Goals as goal
 
@@ -86,9 +92,10 @@ parents-returns t c = λ given is.
     let ds = definitions_of c.args.inner.now in
     let value = value_of c.in_ok-single.field-0 in
     let at_root : IsSeen m view 0 given c.args.objects.now = subst (λ (s : ℕ). IsSeen m view s given c.args.objects.now) c.requires.root is in
+    let are : AreParents m view r given c.in_ok-those.those = c.in_ok-those.ensures.seen given at_root in
     subst (λ (s : ℕ). IsAnswer m view s (value_by m (Parent r) ds) given value) (sym c.requires.root)
     (parent_is m view ds given value r (λ trees. c.hits_are_objects.ensures.roots m trees c.scope_count-scopes.ensures.is_mapping)
-    (c.in_ok-single.ensures (children_by m r Max 1 None given) (c.in_ok-those.ensures.seen given at_root)))
+    (answer_of_parents m view r (single_by m ds) given c.in_ok-those.those value are (c.in_ok-single.ensures are.inner are.seen)))
 
 pub single-returns : goal.single-returns
 single-returns t c = λ given is.
@@ -156,7 +163,7 @@ shown-rows-init t c = λ given is.
 pub shown-bucket-requires : goal.shown-bucket-requires
 shown-bucket-requires t c =
     let key = key_at (kind_at c.args.mapping.now c.args.field) c.args.rows.now c.rows.at c.index-rows-at.result c.requires.keys c.rows-test.true c.index-rows-at.is in
-    (omega arith, (c.requires.field, (c.requires.found, (key, (c.requires.resolved, (c.requires.joined, c.requires.long))))))
+    (omega arith, (c.requires.field, (c.requires.found, (key, (c.requires.resolved, (c.requires.joined, (c.requires.once, c.requires.long)))))))
 
 pub shown-rows-preserved : goal.shown-rows-preserved
 shown-rows-preserved t c = λ given is.
@@ -276,12 +283,97 @@ value-returns-in_ok-count-in-ValueCount-clause-value t c = λ given is.
     (subst (λ (number : ℤ). IsAnswer m view c.args.scope (value_by m (ValueCount field) ds) given (metric (Some number))) (sym (to_z-of_z w64 z fits))
     (number_is m view c.args.scope (count_by_field m field) (value_by m (ValueCount field) ds) given c.in_ok-count-in-ValueCount.field-0 (λ live objects. refl) (c.in_ok-count-in-ValueCount.ensures c.args.scope given is)))
 
-pub mapped_terms-shown-requires : goal.mapped_terms-shown-requires
-mapped_terms-shown-requires t c =
+pub mapped_terms-ready_shown-requires : goal.mapped_terms-ready_shown-requires
+mapped_terms-ready_shown-requires t c =
     let kind = kind_at c.args.mapping.now c.args.field in
     let counts : AreCounts kind c.args.field (flats_of_view c.args.entries.now c.args.objects.now) c.in_ok-rows.rows.items =
     subst (λ (k : Kind). AreCounts k c.args.field (flats_of_view c.args.entries.now c.args.objects.now) c.in_ok-rows.rows.items) c.kind.ensures c.in_ok-rows.ensures.counts in
     let keys : AreKeys kind c.split_at.result.0.now =
     subst (AreKeys kind) (sym (c.split_at.ensures.front ∙ ap (take c.min-end.result) c.as_slice-2.ensures.value)) (keys_taken kind c.min-end.result c.in_ok-sorted.sorted.items (c.in_ok-sorted.ensures.keys kind counts.keys)) in
     let found : AreKnown c.args.entries.now c.args.objects.now c.as_slice-found.result.now = subst (AreKnown c.args.entries.now c.args.objects.now) (sym c.as_slice-found.ensures.value) c.in_ok-rows.ensures.found in
-    (omega arith, (c.requires.field, (found, (keys, (c.requires.resolved, (c.requires.joined, c.requires.long))))))
+    (omega arith, (c.requires.field, (found, (keys, (c.requires.resolved, (c.requires.joined, (c.requires.once, c.requires.long)))))))
+
+pub further-reply-requires : goal.further-reply-requires
+further-reply-requires t c =
+    let m = c.args.mapping.now in
+    let view = c.args.entries.now in
+    let o = c.args.ordinals.now in
+    let d : AggDef = c.def-item.result in
+    let rest : Definitions Agg = definitions_of (map agg_of (take (length c.args.aggs.now - 1) (drop 1 c.args.aggs.now))) in
+    let parts : definitions_of (map agg_of c.args.aggs.now) ≡ with_definition (agg_of d) rest = definitions_parts c.args.aggs.now d (omega (arith, c.in-len1-up.len_at_least)) c.def-item.is in
+    let resolved : AreAggDefinitions m c.args.scope (with_definition (agg_of d) rest) = subst (AreAggDefinitions m c.args.scope) parts c.requires.resolved in
+    let once : IfSome c.args.once (λ made. AreReady m view o c.args.scope (with_definition (agg_of d) rest) made.now) =
+    subst (λ (ds : Definitions Agg). IfSome c.args.once (λ made. AreReady m view o c.args.scope ds made.now)) parts c.requires.once in
+    let size : definitions_size (definitions_of (map agg_of c.args.aggs.now)) ≡ definition_size (agg_of d) + definitions_size rest = ap definitions_size parts in
+    (omega (arith, size), (resolved.0, (λ it. c.requires.joined (ap some_agg_joins parts ∙ or_left (agg_joins (agg_of d)) (some_agg_joins rest) it), (c.parted.ensures.first m view o c.args.scope (agg_of d) rest once, (c.requires.long, c.requires.kept)))))
+
+pub further-further-requires : goal.further-further-requires
+further-further-requires t c =
+    let m = c.args.mapping.now in
+    let view = c.args.entries.now in
+    let o = c.args.ordinals.now in
+    let d : AggDef = c.def-item.result in
+    let rest : Definitions Agg = definitions_of (map agg_of (take (length c.args.aggs.now - 1) (drop 1 c.args.aggs.now))) in
+    let parts : definitions_of (map agg_of c.args.aggs.now) ≡ with_definition (agg_of d) rest = definitions_parts c.args.aggs.now d (omega (arith, c.in-len1-up.len_at_least)) c.def-item.is in
+    let resolved : AreAggDefinitions m c.args.scope (with_definition (agg_of d) rest) = subst (AreAggDefinitions m c.args.scope) parts c.requires.resolved in
+    let once : IfSome c.args.once (λ made. AreReady m view o c.args.scope (with_definition (agg_of d) rest) made.now) =
+    subst (λ (ds : Definitions Agg). IfSome c.args.once (λ made. AreReady m view o c.args.scope ds made.now)) parts c.requires.once in
+    let size : definitions_size (definitions_of (map agg_of c.args.aggs.now)) ≡ definition_size (agg_of d) + definitions_size rest = ap definitions_size parts in
+    (omega (arith, size, definition_some (agg_of d)), (resolved.1, (λ it. c.requires.joined (ap some_agg_joins parts ∙ or_right (agg_joins (agg_of d)) (some_agg_joins rest) it), (c.parted.ensures.others m view o c.args.scope (agg_of d) rest once, (c.requires.long, c.in_ok-own-in-len1-up.ensures.kept)))))
+
+pub reply-value-requires : goal.reply-value-requires
+reply-value-requires t c =
+    let m = c.args.mapping.now in
+    let view = c.args.entries.now in
+    let o = c.args.ordinals.now in
+    let def : AggDef = c.args.def.now in
+    let agg : Agg = record { name = def.name; form = def.form } in
+    let ds : Definitions Agg = definitions_of def.inner in
+    (omega arith, (c.requires.resolved.0, (c.requires.resolved.1, (λ it. c.requires.joined (or_left (form_joins def.form) (some_agg_joins ds) it), (λ it. c.requires.joined (or_right (form_joins def.form) (some_agg_joins ds) it), (c.opened.ensures.known m view o c.args.scope agg ds c.requires.known, (c.opened.ensures.inner m view o c.args.scope agg ds c.requires.known, (c.requires.long, c.requires.kept))))))))
+
+pub value-hitting-requires : goal.value-hitting-requires
+value-hitting-requires t c =
+    let m = c.args.mapping.now in
+    let view = c.args.entries.now in
+    let o = c.args.ordinals.now in
+    let inner : Definitions Agg = definitions_of c.args.inner.now in
+    let form : IsForm m c.args.scope (Filter c.in-Filter.query) inner = subst (λ (f : AggForm). IsForm m c.args.scope f inner) c.in-Filter.is c.requires.form in
+    let joined : form_joins (Filter c.in-Filter.query) ≡ true → AreOrdinals view o = subst (λ (f : AggForm). form_joins f ≡ true → AreOrdinals view o) c.in-Filter.is c.requires.joined in
+    let inside : AreAggDefinitions m c.args.scope inner = subst (λ (f : AggForm). AreAggDefinitions m (scope_of_form c.args.scope f) inner) c.in-Filter.is c.requires.inner in
+    let hits : IfSome c.known_hits-hits.result (λ hits. IsFoundBy m view c.args.scope (Filter c.in-Filter.query) hits.now) =
+    subst (λ (f : AggForm). IfSome c.known_hits-hits.result (λ hits. IsFoundBy m view c.args.scope f hits.now)) c.in-Filter.is (c.known_hits-hits.ensures m view o c.args.scope c.args.form.now c.requires.known) in
+    let once : IfSome c.args.once (λ made. AreReady m view o c.args.scope inner made.now) =
+    subst (λ (f : AggForm). IfSome c.args.once (λ made. AreReady m view o (scope_of_form c.args.scope f) inner made.now)) c.in-Filter.is c.requires.once in
+    (omega arith, (form, (joined, (inside, (c.requires.joined_inside, (hits, (once, c.requires.long)))))))
+
+pub value-children-requires : goal.value-children-requires
+value-children-requires t c =
+    let m = c.args.mapping.now in
+    let view = c.args.entries.now in
+    let o = c.args.ordinals.now in
+    let r = c.in-Children.relation in
+    let inner : Definitions Agg = definitions_of c.args.inner.now in
+    let form : IsForm m c.args.scope (Children r) inner = subst (λ (f : AggForm). IsForm m c.args.scope f inner) c.in-Children.is c.requires.form in
+    let joined : form_joins (Children r) ≡ true → AreOrdinals view o = subst (λ (f : AggForm). form_joins f ≡ true → AreOrdinals view o) c.in-Children.is c.requires.joined in
+    let inside : AreAggDefinitions m 0 inner = subst (λ (f : AggForm). AreAggDefinitions m (scope_of_form c.args.scope f) inner) c.in-Children.is c.requires.inner in
+    let roots : IfSome c.known_roots-roots.result (λ roots. AreRootsOf m view o (Children r) roots.now) =
+    subst (λ (f : AggForm). IfSome c.known_roots-roots.result (λ roots. AreRootsOf m view o f roots.now)) c.in-Children.is (c.known_roots-roots.ensures m view o c.args.scope c.args.form.now c.requires.known) in
+    let once : IfSome c.args.once (λ made. AreReady m view o 0 inner made.now) =
+    subst (λ (f : AggForm). IfSome c.args.once (λ made. AreReady m view o (scope_of_form c.args.scope f) inner made.now)) c.in-Children.is c.requires.once in
+    (omega arith, (form.0, (form.1, (roots, (joined refl, (inside, (once, c.requires.long)))))))
+
+pub value-parents-requires : goal.value-parents-requires
+value-parents-requires t c =
+    let m = c.args.mapping.now in
+    let view = c.args.entries.now in
+    let o = c.args.ordinals.now in
+    let r = c.in-Parent.relation in
+    let inner : Definitions Agg = definitions_of c.args.inner.now in
+    let form : IsForm m c.args.scope (Parent r) inner = subst (λ (f : AggForm). IsForm m c.args.scope f inner) c.in-Parent.is c.requires.form in
+    let joined : form_joins (Parent r) ≡ true → AreOrdinals view o = subst (λ (f : AggForm). form_joins f ≡ true → AreOrdinals view o) c.in-Parent.is c.requires.joined in
+    let inside : AreAggDefinitions m 0 inner = subst (λ (f : AggForm). AreAggDefinitions m (scope_of_form c.args.scope f) inner) c.in-Parent.is c.requires.inner in
+    let roots : IfSome c.known_roots-roots-in-Parent.result (λ roots. AreRootsOf m view o (Parent r) roots.now) =
+    subst (λ (f : AggForm). IfSome c.known_roots-roots-in-Parent.result (λ roots. AreRootsOf m view o f roots.now)) c.in-Parent.is (c.known_roots-roots-in-Parent.ensures m view o c.args.scope c.args.form.now c.requires.known) in
+    let once : IfSome c.args.once (λ made. AreReady m view o 0 inner made.now) =
+    subst (λ (f : AggForm). IfSome c.args.once (λ made. AreReady m view o (scope_of_form c.args.scope f) inner made.now)) c.in-Parent.is c.requires.once in
+    (omega arith, (form.0, (form.1, (roots, (joined refl, (inside, (once, c.requires.long)))))))

@@ -41,14 +41,17 @@ decreases-bucket l = 10 * definitions_size (definitions_of l.inner.now) + 3
 abbrev pub decreases-shown : goal.decreases-shown
 decreases-shown l = 10 * definitions_size (definitions_of l.inner.now) + 4
 
+abbrev pub decreases-ready_shown : goal.decreases-ready_shown
+decreases-ready_shown l = 10 * definitions_size (definitions_of l.inner.now) + 5
+
 abbrev pub decreases-mapped_terms : goal.decreases-mapped_terms
-decreases-mapped_terms l = 10 * definitions_size (definitions_of l.inner.now) + 5
+decreases-mapped_terms l = 10 * definitions_size (definitions_of l.inner.now) + 6
 
 abbrev pub decreases-field_terms : goal.decreases-field_terms
-decreases-field_terms l = 10 * definitions_size (definitions_of l.inner.now) + 6
+decreases-field_terms l = 10 * definitions_size (definitions_of l.inner.now) + 7
 
 abbrev pub decreases-terms : goal.decreases-terms
-decreases-terms l = 10 * definitions_size (definitions_of l.inner.now) + 7
+decreases-terms l = 10 * definitions_size (definitions_of l.inner.now) + 8
 
 abbrev pub decreases-value : goal.decreases-value
 decreases-value l = 10 * definitions_size (definitions_of l.inner.now) + 9

@@ -25,8 +25,8 @@ returns-clause-counts c =
           omega (
             arith,
             c.in_ok-put_terms.ensures.counts v,
-            texts_counted c.args.segment.now c.args.field c.in-Some.column docs c.docs-documents.ensures.agree some c.terms-terms.result c.terms-terms.ensures c.count-ascending.ensures.ascending c.field_range-first.result.0 c.field_range-first.result.1 c.field_range-first.ensures.ordered
-                c.field_range-first.ensures.within c.field_range-first.ensures.of_field (replicate (c.field_range-first.result.1 - c.field_range-first.result.0) 0) c.in_ok-counts.counts.items c.as_slice.result.now refl c.in_ok-counts.ensures.counted c.as_slice.ensures.value v,
+            texts_counted c.args.segment.now c.args.field c.in-Some.column docs c.docs-documents.ensures.agree some c.terms-terms.result c.terms-terms.ensures c.count-ascending.ensures.ascending c.terms_of_field-first.result.0 c.terms_of_field-first.result.1 c.terms_of_field-first.ensures.ordered
+                c.terms_of_field-first.ensures.within c.terms_of_field-first.ensures.of_field (replicate (c.terms_of_field-first.result.1 - c.terms_of_field-first.result.0) 0) c.counts_at_once.new.counts.own.items c.as_slice.result.now refl c.in_ok-counts_at_once.ensures.counted c.as_slice.ensures.value v,
             texts_shown c.args.segment.now c.args.kind c.args.field v c.in-Some.column docs c.requires.written c.values_are_of_documents.ensures.keywords some,
           );
     }
@@ -39,8 +39,8 @@ returns-clause-ups c =
           omega (
             arith,
             c.in_ok-put_terms-2.ensures.counts v,
-            ups_counted c.args.segment.now c.args.to c.args.field c.in-Some.column c.args.set.now c.docs-documents.ensures.agree some c.terms-terms.result c.terms-terms.ensures c.count-ascending.ensures.ascending c.field_range-first.result.0 c.field_range-first.result.1 c.field_range-first.ensures.ordered
-                c.field_range-first.ensures.within c.field_range-first.ensures.of_field c.counts_at_once.new.around.items c.as_slice-2.result.now c.in_ok-counts.ensures.ups c.as_slice-2.ensures.value v,
+            ups_counted c.args.segment.now c.args.to c.args.field c.in-Some.column c.args.set.now c.docs-documents.ensures.agree some c.terms-terms.result c.terms-terms.ensures c.count-ascending.ensures.ascending c.terms_of_field-first.result.0 c.terms_of_field-first.result.1 c.terms_of_field-first.ensures.ordered
+                c.terms_of_field-first.ensures.within c.terms_of_field-first.ensures.of_field c.counts_at_once.new.counts.around.items c.as_slice-2.result.now c.in_ok-counts_at_once.ensures.ups c.as_slice-2.ensures.value v,
             text_ups c.args.segment.now c.args.to c.args.kind c.args.field c.args.set.now v c.in-Some.column c.requires.written c.values_are_of_documents.ensures.keywords some,
           );
     }

@@ -23,8 +23,8 @@ returns-clause-counts c =
           omega (
             arith,
             c.in_ok-put_terms.ensures.counts v,
-            texts_counted c.args.segment.now c.args.field c.in-Some.column docs c.docs-documents.ensures.agree some c.terms-terms.result c.terms-terms.ensures c.count-ascending.ensures.ascending c.field_range-first.result.0 c.field_range-first.result.1 c.field_range-first.ensures.ordered
-                c.field_range-first.ensures.within c.field_range-first.ensures.of_field (replicate (c.field_range-first.result.1 - c.field_range-first.result.0) 0) c.in_ok-counts.counts.items c.as_slice.result.now refl c.in_ok-counts.ensures.counted c.as_slice.ensures.value v,
+            texts_counted c.args.segment.now c.args.field c.in-Some.column docs c.docs-documents.ensures.agree some c.terms-terms.result c.terms-terms.ensures c.count-ascending.ensures.ascending c.terms_of_field-first.result.0 c.terms_of_field-first.result.1 c.terms_of_field-first.ensures.ordered
+                c.terms_of_field-first.ensures.within c.terms_of_field-first.ensures.of_field (replicate (c.terms_of_field-first.result.1 - c.terms_of_field-first.result.0) 0) c.in_ok-counts.counts.items c.as_slice.result.now refl c.in_ok-counts.ensures.counted c.as_slice.ensures.value v,
             texts_shown c.args.segment.now c.args.kind c.args.field v c.in-Some.column docs c.requires c.values_are_of_documents.ensures.keywords some,
           );
     }
@@ -56,8 +56,8 @@ returns-then-few-clause-counts c =
             arith,
             c.in_ok-put_ordinals.ensures.counts v,
             ap (count_by (is_term c.terms-terms.result v)) c.as_slice-sorted.ensures.value,
-            ordinals_counted columns f c.in-Some.column docs agree some c.values-sorted.ensures.rows c.terms-terms.result c.terms-terms.ensures c.count-ascending.ensures.ascending c.field_range-first.result.0 c.field_range-first.result.1
-                c.field_range-first.ensures.ordered c.field_range-first.ensures.within c.field_range-first.ensures.of_field sorted same v,
+            ordinals_counted columns f c.in-Some.column docs agree some c.values-sorted.ensures.rows c.terms-terms.result c.terms-terms.ensures c.count-ascending.ensures.ascending c.terms_of_field-first.result.0 c.terms_of_field-first.result.1
+                c.terms_of_field-first.ensures.ordered c.terms_of_field-first.ensures.within c.terms_of_field-first.ensures.of_field sorted same v,
             texts_shown columns c.args.kind f v c.in-Some.column docs c.requires c.values_are_of_documents.ensures.keywords some,
           );
     }

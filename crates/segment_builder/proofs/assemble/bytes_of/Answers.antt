@@ -31,17 +31,17 @@ put_terms-requires c =
       length (flats_in (map block_seen c.args.blocks.now)),
       all_terms (entries_in (flats_lent c.as_slice-documents.result.now)),
       terms_fit c.requires.0 (map block_seen c.args.blocks.now) (flats_lent c.as_slice-documents.result.now) c.requires.1 flats c.keys_are_ordered.ensures,
-      c.in_ok-entries.ensures,
+      c.in_ok-fields.ensures,
     )
 
 pub put_ordinals-requires-clause-entries : goal.put_ordinals-requires-clause-entries
 put_ordinals-requires-clause-entries c =
     let flats = ap flats_lent c.as_slice-documents.ensures.value ∙ c.in_ok-list.ensures in
-    let terms : terms_lent c.as_slice-2.result.now ≡ terms_in (rows_in c.in_ok-entries.entries.items) = ap terms_lent c.as_slice-2.ensures.value ∙ c.in_ok-terms.ensures.terms in (
+    let terms : terms_lent c.as_slice-2.result.now ≡ terms_in (rows_in c.in_ok-fields.fields.items) = ap terms_lent c.as_slice-2.ensures.value ∙ c.in_ok-terms.ensures.terms in (
       length (flats_in (map block_seen c.args.blocks.now)),
       rw c.in_ok-keywords.ensures
           (subst (λ own. AreValueEntries (slice_cmp nat_cmp) (λ field bytes. Contains own (field, bytes)) (length (flats_in (map block_seen c.args.blocks.now))) (entries_in (flats_lent c.as_slice-documents.result.now)).keywords) (sym terms)
-          (keywords_fit c.requires.0 (map block_seen c.args.blocks.now) (flats_lent c.as_slice-documents.result.now) c.requires.1 flats (rows_in c.in_ok-entries.entries.items) c.in_ok-entries.ensures)),
+          (keywords_fit c.requires.0 (map block_seen c.args.blocks.now) (flats_lent c.as_slice-documents.result.now) c.requires.1 flats (rows_in c.in_ok-fields.fields.items) c.in_ok-fields.ensures)),
     )
 
 pub put_numbers-requires : goal.put_numbers-requires
@@ -60,7 +60,7 @@ returns c =
     let flats = ap flats_lent c.as_slice-documents.ensures.value ∙ c.in_ok-list.ensures in
     let it : EntriesState = with_blocks no_entries (map block_seen c.args.blocks.now) in
     let same : entries_in (flats_lent c.as_slice-documents.result.now) ≡ it = entries_are c.requires.0 (map block_seen c.args.blocks.now) (flats_lent c.as_slice-documents.result.now) c.requires.1 flats in
-    let rows = rows_in c.in_ok-entries.entries.items in
+    let rows = rows_in c.in_ok-fields.fields.items in
     let ordinals = c.in_ok-put_ordinals.ensures in
     let numbers = c.in_ok-put_numbers.ensures in
     let texts = c.in_ok-put_texts.ensures in
@@ -82,7 +82,7 @@ returns c =
       scopes = sets.are;
       within = sets.within;
       greatest = sets.greatest;
-      rows = subst (λ (e : EntriesState). AreGroups term_cmp (all_terms e) (map row_group rows)) same c.in_ok-entries.ensures;
+      rows = subst (λ (e : EntriesState). AreGroups term_cmp (all_terms e) (map row_group rows)) same c.in_ok-fields.ensures;
       numbers = subst (λ own. AreGroups nat_cmp own numbers.0) (c.in_ok-numbers.ensures ∙ ap (λ (e : EntriesState). e.numbers) same) numbers.1;
       keywords = ordinals.0;
       keyword_groups = subst (λ own. AreGroups nat_cmp own ordinals.0) (c.in_ok-keywords.ensures ∙ ap (λ (e : EntriesState). e.keywords) same) ordinals.1;

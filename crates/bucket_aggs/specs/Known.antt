@@ -1,0 +1,2 @@
+-- What was evaluated for a definition, as mathematics.
+pub mod Code

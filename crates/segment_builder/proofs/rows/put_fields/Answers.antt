@@ -1,0 +1,31 @@
+use Rattle.std.proofs.Common.{◌≡◌, [], ◌+◌, ◌++◌, drop, ap, subst, sym, ◌∙◌, append-nil, arith}
+use Rattle.std.specs.List.{AllByRecursion, flat_map}
+use Rattle.std.proofs.lemmas.List.{at_drop_all}
+use Rattle.std.proofs.lemmas.List.Concat.{flat_map-append}
+use Rattle.term_table.specs.Part.{row_text, IsRow}
+use Rattle.segment_builder.specs.Terms.{field_rows, rows_in}
+use Rattle.segment_builder.proofs.Fielded.{each_part, fields_at, part_on}
+use Rattle.segment_builder.proofs.rows.put_fields.Goals as goal
+
+pub put_rows-requires : goal.put_rows-requires
+put_rows-requires c =
+    let item = c.fields-item.result in
+    let here = fields_at c.args.fields.now c.fields.field-index item c.fields-test.true c.fields-item.is in
+    rw c.as_slice.ensures.value (each_part IsRow (field_rows item.0 item.1.items) (rows_in (drop (c.fields.field-index + 1) c.args.fields.now)) (subst (AllByRecursion IsRow) here c.fields.invariant.0)).0
+
+pub fields-preserved : goal.fields-preserved
+fields-preserved c =
+    let item = c.fields-item.result in
+    let rest = rows_in (drop (c.fields.field-index + 1) c.args.fields.now) in
+    let here = fields_at c.args.fields.now c.fields.field-index item c.fields-test.true c.fields-item.is in (
+      (each_part IsRow (field_rows item.0 item.1.items) rest (subst (AllByRecursion IsRow) here c.fields.invariant.0)).1,
+      part_on c.fields.into.items c.put_rows.new.into.items (flat_map row_text (field_rows item.0 item.1.items)) (flat_map row_text (rows_in (drop c.fields.field-index c.args.fields.now))) (flat_map row_text rest) (c.args.into.now.items ++ flat_map row_text (rows_in c.args.fields.now))
+          (ap (flat_map row_text) here ∙ flat_map-append row_text (field_rows item.0 item.1.items) rest)
+          (rw c.as_slice.ensures.value at c.in_ok-put_rows.ensures)
+          c.fields.invariant.1,
+    )
+
+pub returns : goal.returns
+returns c =
+    let none : flat_map row_text (rows_in (drop c.fields.field-index c.args.fields.now)) ≡ [] = at_drop_all (λ fields. flat_map row_text (rows_in fields)) c.args.fields.now c.fields.field-index (omega (arith, c.fields-test.false)) in
+    sym (append-nil c.fields.into.items) ∙ ap (λ last. c.fields.into.items ++ last) (sym none) ∙ c.fields.invariant.1
