@@ -1,216 +1,187 @@
--- A member at its place in byte order, in a vector of pairs and among members.
-use Rattle.std.proofs.Common.{◌≡◌, ℕ, zero, suc, ◌+◌, ◌<◌, List as Seq, [], ◌∷◌, map, length, take, get_or, refl, sym, ap, subst, arith, Option, Some, None, Ordering, Less, Equal, Greater, nat_cmp, is_eq, bytes_eq, ◌∙◌, ◌≤◌, ◌⊎◌, inl, inr, ◌==◌, true, Result, Ok, Err, IfOk, IfErr}
-use Rattle.std.proofs.lemmas.Bool.{cases_lt}
+-- A property taken out of properties in byte order of their names, and put there.
+use Rattle.std.proofs.Common.{◌≡◌, ◌<◌, ℕ, ◌==◌, List as Seq, [], ◌∷◌, ◌++◌, map, length, append-nil, refl, sym, ap, subst, arith, Bool, true, false, Option, Some, None, option_map, Ordering, Less, Equal, Greater, nat_cmp, is_eq, bytes_eq, cond, if◌then◌else◌, ◌∙◌, String, string_bytes}
 use Rattle.std.proofs.lemmas.Cmp.{nat_list_cmp_total}
 use Rattle.std.proofs.lemmas.Map.Lookups.{exact_bytes}
 use Rattle.std.proofs.lemmas.Map.Text.{is_eq-slice_cmp}
+use Rattle.std.specs.declared.alloc.Global.{Global}
+use Rattle.std.specs.BTreeMap.{insert_entry, is_at}
 use Rattle.std.specs.Cmp.Lexicographic.{slice_cmp}
 use Rattle.std.specs.List.{AllByRecursion}
-use Rattle.std.specs.List.Sorted.{IsBinarySearchResult, IsPartitionPoint, IsSearchInRange, IsStrictlySortedBy}
+use Rattle.std.specs.List.Sorted.{IsStrictlySortedBy}
+use Rattle.std.specs.Map.{keys_of, lookup, remove_entry}
 use Rattle.std.specs.Ordering.{match_ordering, ordering_reverse}
-use Rattle.tree_json.proofs.Halves.{after_at, found_equal, reversed}
-use Rattle.tree_json.proofs.Insertion.{with_entry, IsPast, place_found, gap_found, gap_at_end, IsAscending-with_entry, entries-set, entries-insert}
+use Rattle.std.specs.String.{string_cmp}
+use Rattle.tree_json.proofs.Halves.{reversed}
 use Rattle.tree_json.specs.Names.{IsAscending}
-use Rattle.tree_json.specs.Value.{JsonValue, null, Members, no_members, member, members_of, member_of}
-use Rattle.tree_json.specs.View.{view, entries}
+use Rattle.tree_json.specs.Value.{JsonValue, Members, no_members, member, members_of, member_of, value_size, members_size}
+use Rattle.tree_json.specs.View.{entries}
 use Rattle.tree_json.specs.declared.value.Json.{Json}
-use Rattle.mapping_body.specs.Names.{AreAscending}
-use Rattle.mapping_body.proofs.Ranks.{rises}
+use Rattle.mapping_body.proofs.Walks.{members_positive, split}
+use Rattle.source_growth.specs.Forms.{IsLeft, form_of, forms_of}
 use Rattle.source_growth.specs.Growth.{put_member, form_after}
-use Rattle.source_growth.specs.Code.{IsPlace, IsGap, left_by}
+use Rattle.source_growth.specs.declared.found.Form.{Form}
+
+abbrev Entry : Type 0
+Entry = String Global × Form
 
 abbrev compared : Seq ℕ → Seq ℕ → Ordering
 compared = slice_cmp nat_cmp
 
-abbrev Entry : Type 0
-Entry = Seq ℕ × JsonValue
+abbrev members_with : Seq Entry → Members
+members_with es = members_of (forms_of es)
 
--- ---- among members
+-- ---- none
 
-put_by : (e : Entry) (es more : Seq Entry) (k : Seq ℕ) (d : JsonValue) (ms : Members) → members_of more ≡ ms → (r : Ordering)
-    → members_of (match_ordering r ((k, d) ∷ e ∷ es) ((e.0, d) ∷ es) (e ∷ more)) ≡ match_ordering r (member k d (member e.0 e.1 (members_of es))) (member e.0 d (members_of es)) (member e.0 e.1 ms)
-put_by e es more k d ms h Less = refl
-put_by e es more k d ms h Equal = refl
-put_by e es more k d ms h Greater = ap (member e.0 e.1) h
+pub none_empty : (es : Seq Entry) → (length es == 0) ≡ true → members_with es ≡ no_members
+none_empty [] h = refl
+none_empty (e ∷ es) h = absurd (grind arith)
 
-pub put_entry : (es : Seq Entry) (k : Seq ℕ) (d : JsonValue) → members_of (with_entry es k d) ≡ put_member k d (members_of es)
-put_entry [] k d = refl
-put_entry (e ∷ es) k d = put_by e es (with_entry es k d) k d (put_member k d (members_of es)) (put_entry es k d) (compared k e.0)
+pub empty_none : (es : Seq Entry) → members_with es ≡ no_members → length es ≡ 0
+empty_none [] h = refl
+empty_none (e ∷ es) h = absurd (cc)
 
--- ---- members whose names ascend
+pub ruleset empties = (none_empty, empty_none)
 
-pub ascends_with : (es fs : Seq Entry) (k : Seq ℕ) (d : JsonValue) → IsAscending es → fs ≡ with_entry es k d → IsAscending fs
-ascends_with es fs k d up e = subst IsAscending (sym e) (IsAscending-with_entry es k d up)
+-- ---- a form put
 
-pub one_ascends : (e : Entry) → IsAscending (e ∷ [])
-unfolding IsStrictlySortedBy
-one_ascends e = (tt, tt)
+put_by : (e : Entry) (es more : Seq Entry) (k : String Global) (f : Form) → members_with more ≡ put_member (string_bytes k) (form_of f) (members_with es) → (r : Ordering)
+    → members_with (match_ordering r ((k, f) ∷ e ∷ es) ((e.0, f) ∷ es) (e ∷ more))
+    ≡ match_ordering r (member (string_bytes k) (form_of f) (members_with (e ∷ es))) (member (string_bytes e.0) (form_of f) (members_with es))
+    (member (string_bytes e.0) (form_of e.1) (put_member (string_bytes k) (form_of f) (members_with es)))
+put_by e es more k f h Less = refl
+put_by e es more k f h Equal = refl
+put_by e es more k f h Greater = ap (member (string_bytes e.0) (form_of e.1)) h
 
-pub two_ascend : (e f : Entry) → compared e.0 f.0 ≡ Less → IsAscending (e ∷ f ∷ [])
-unfolding IsStrictlySortedBy
-two_ascend e f less = ((less, tt), (tt, tt))
+pub put_entry : (es : Seq Entry) (k : String Global) (f : Form) → members_with (insert_entry string_cmp es k f) ≡ put_member (string_bytes k) (form_of f) (members_with es)
+put_entry [] k f = refl
+put_entry (e ∷ es) k f = put_by e es (insert_entry string_cmp es k f) k f (put_entry es k f) (string_cmp k e.0)
 
-pub pairs_none : (ms : Seq (Seq ℕ × Json)) → (length ms == 0) ≡ true → members_of (entries ms) ≡ no_members
-pairs_none [] h = refl
-pairs_none (m ∷ ms) h = absurd (grind arith)
+pub ruleset puts_entry = (put_entry)
 
-pub none_pairs : (ms : Seq (Seq ℕ × Json)) → members_of (entries ms) ≡ no_members → (length ms == 0) ≡ true
-none_pairs [] h = refl
-none_pairs (m ∷ ms) h = absurd (cc)
+-- ---- a form taken out
 
--- ---- a value put in place of another
-
-same_name : (k : Seq ℕ) → compared k k ≡ Equal
-same_name k = by (compared k k) (nat_list_cmp_total.antisymm k k)
-  where
-    by : (r : Ordering) → r ≡ ordering_reverse r → r ≡ Equal
-    by Less e = absurd (cc)
-    by Equal e = refl
-    by Greater e = absurd (cc)
-
-again_by : (k l : Seq ℕ) (d e f : JsonValue) (ms : Members) → put_member k d (put_member k e ms) ≡ put_member k d ms → (r : Ordering) → compared k l ≡ r
-    → put_member k d (put_member k e (member l f ms)) ≡ put_member k d (member l f ms)
-again_by k l d e f ms h Less is = rw (is, same_name k) refl
-again_by k l d e f ms h Equal is = rw (is, is) refl
-again_by k l d e f ms h Greater is = rw (is, is) (ap (member l f) h)
-
-pub put_again : (k : Seq ℕ) (d e : JsonValue) (ms : Members) → put_member k d (put_member k e ms) ≡ put_member k d ms
-put_again k d e no_members = rw (same_name k) refl
-put_again k d e (member l f ms) = again_by k l d e f ms (put_again k d e ms) (compared k l) refl
-
--- over a form that was taken out
-pub put_left : (o : Option JsonValue) (k : Seq ℕ) (d : JsonValue) (ms : Members) → put_member k d (left_by o k ms) ≡ put_member k d ms
-put_left None k d ms = refl
-put_left (Some e) k d ms = put_again k d null ms
-
-pub none_left : (first : Option JsonValue) (add : Members → Members) (o : Option JsonValue) (k : Seq ℕ) (ms : Members) → form_after first add o ≡ None → left_by o k ms ≡ ms
-none_left first add None k ms h = refl
-none_left first add (Some e) k ms h = absurd (cc)
-
-pub ruleset puts = (put_left, none_left)
-
--- ---- a name that isn't there
-
-abbrev Pair : Type 0
-Pair = Seq ℕ × Json
-
-abbrev AllPast : Seq ℕ → Seq Pair → Type 0
-AllPast name ms = AllByRecursion (λ y. compared name y ≡ Greater) (map (λ m. m.0) (entries ms))
+abbrev is_named : Seq ℕ → String Global → Bool
+is_named name = is_at (λ k. compared name (string_bytes k))
 
 other_name : (k name : Seq ℕ) (r : Ordering) → compared name k ≡ r → bytes_eq k name ≡ is_eq (ordering_reverse r)
 other_name k name r h = sym (is_eq-slice_cmp k name) ∙ ap is_eq (reversed name k r h)
 
-none_after : (name k : Seq ℕ) (ms : Seq Pair) → compared name k ≡ Less → AllByRecursion (λ y. compared k y ≡ Less) (map (λ m. m.0) (entries ms)) → member_of (members_of (entries ms)) name ≡ None
-none_after name k [] less all = refl
-none_after name k (x ∷ ms) less all =
-    let above = nat_list_cmp_total.trans name k x.0 less all.0 in
-    rw (other_name x.0 name Less above) (none_after name k ms less all.1)
+same_reversed : (r : Ordering) → is_eq (ordering_reverse r) ≡ is_eq r
+same_reversed Less = refl
+same_reversed Equal = refl
+same_reversed Greater = refl
 
-none_gap : (ms : Seq Pair) (i : ℕ) (m : Pair) (name : Seq ℕ) → IsAscending (entries ms) → AllPast name (take i ms) → i < length ms → m ≡ get_or ms i m → compared name m.0 ≡ Less
-    → member_of (members_of (entries ms)) name ≡ None
+same_name : (k name : Seq ℕ) → bytes_eq k name ≡ is_eq (compared name k)
+same_name k name = other_name k name (compared name k) refl ∙ same_reversed (compared name k)
+
+found_by : (same : Bool) (f : Form) (o : Option Form) (d : Option JsonValue) → option_map form_of o ≡ d → option_map form_of (cond same (Some f) o) ≡ (if same then Some (form_of f) else d)
+found_by true f o d h = refl
+found_by false f o d h = h
+
+pub found_entry : (es : Seq Entry) (name : Seq ℕ) → option_map form_of (lookup (is_named name) es) ≡ member_of (members_with es) name
+found_entry [] name = refl
+found_entry (e ∷ es) name =
+    rw (same_name (string_bytes e.0) name) (found_by (is_eq (compared name (string_bytes e.0))) e.1 (lookup (is_named name) es) (member_of (members_with es) name) (found_entry es name))
+
+-- where all names come behind it
+
+abbrev AllBehind : Seq ℕ → Seq Entry → Type 0
+AllBehind name es = AllByRecursion (λ (k : String Global). compared name (string_bytes k) ≡ Less) (keys_of es)
+
+behind_all : (name : Seq ℕ) (k : String Global) (es : Seq Entry) → compared name (string_bytes k) ≡ Less → AllByRecursion (λ y. string_cmp k y ≡ Less) (keys_of es) → AllBehind name es
+behind_all name k [] less all = tt
+behind_all name k (e ∷ es) less all = (nat_list_cmp_total.trans name (string_bytes k) (string_bytes e.0) less all.0, behind_all name k es less all.1)
+
+behind_same : (name : Seq ℕ) (k : String Global) (es : Seq Entry) → name ≡ string_bytes k → AllByRecursion (λ y. string_cmp k y ≡ Less) (keys_of es) → AllBehind name es
+behind_same name k es same all = subst (λ (n : Seq ℕ). AllBehind n es) (sym same) all
+
+all_left : (name : Seq ℕ) (es : Seq Entry) → AllBehind name es → remove_entry (is_named name) es ≡ es
+all_left name [] all = refl
+all_left name (e ∷ es) all = rw all.0 (ap (λ (more : Seq Entry). e ∷ more) (all_left name es all.1))
+
+put_first : (name : Seq ℕ) (d : JsonValue) (es : Seq Entry) → AllBehind name es → put_member name d (members_with es) ≡ member name d (members_with es)
+put_first name d [] all = refl
+put_first name d (e ∷ es) all = rw all.0 refl
+
+-- what is put over a form that was taken out
+
+left_by : (e : Entry) (es : Seq Entry) (name : Seq ℕ) (d : JsonValue) → AllByRecursion (λ y. string_cmp e.0 y ≡ Less) (keys_of es)
+    → put_member name d (members_with (remove_entry (is_named name) es)) ≡ put_member name d (members_with es)
+    → (r : Ordering) → compared name (string_bytes e.0) ≡ r
+    → put_member name d (members_with (remove_entry (is_named name) (e ∷ es))) ≡ put_member name d (members_with (e ∷ es))
+left_by e es name d above rest Less is = rw (is, is, all_left name es (behind_all name e.0 es is above)) refl
+left_by e es name d above rest Equal is =
+    let same : name ≡ string_bytes e.0 = exact_bytes name (string_bytes e.0) is in
+    rw is (put_first name d es (behind_same name e.0 es same above) ∙ ap (λ (n : Seq ℕ). member n d (members_with es)) same)
+left_by e es name d above rest Greater is = rw (is, is) (ap (member (string_bytes e.0) (form_of e.1)) rest)
+
+put_left : (es : Seq Entry) (name : Seq ℕ) (d : JsonValue) → IsStrictlySortedBy string_cmp (keys_of es) → put_member name d (members_with (remove_entry (is_named name) es)) ≡ put_member name d (members_with es)
 unfolding IsStrictlySortedBy
-none_gap [] i m name up past h e less = refl
-none_gap (x ∷ ms) zero m name up past h e less =
-    let here = subst (λ (p : Pair). compared name p.0 ≡ Less) e less in
-    rw (other_name x.0 name Less here) (none_after name x.0 ms here up.0)
-none_gap (x ∷ ms) (suc i) m name up past h e less =
-    let more : i < length ms = omega arith in
-    rw (other_name x.0 name Greater past.0) (none_gap ms i m name up.1 past.1 more e less)
+put_left [] name d up = refl
+put_left (e ∷ es) name d up = left_by e es name d up.0 (put_left es name d up.1) (compared name (string_bytes e.0)) refl
 
-none_end : (ms : Seq Pair) (i : ℕ) (name : Seq ℕ) → AllPast name (take i ms) → i ≡ length ms → member_of (members_of (entries ms)) name ≡ None
-none_end [] i name past h = refl
-none_end (x ∷ ms) zero name past h = absurd (omega arith)
-none_end (x ∷ ms) (suc i) name past h =
-    let more : i ≡ length ms = omega arith in
-    rw (other_name x.0 name Greater past.0) (none_end ms i name past.1 more)
+none_left : (es : Seq Entry) (name : Seq ℕ) → member_of (members_with es) name ≡ None → remove_entry (is_named name) es ≡ es
+none_left [] name none = refl
+none_left (e ∷ es) name none =
+    split (is_eq (compared name (string_bytes e.0)))
+    (λ same. let some : Some (form_of e.1) ≡ None = rw (same_name (string_bytes e.0) name, same) at none in absurd (cc))
+    (λ other. rw other (ap (λ (more : Seq Entry). e ∷ more) (none_left es name (rw (same_name (string_bytes e.0) name, other) at none))))
 
-same_at : (ms : Seq Pair) (i : ℕ) (m n : Pair) → i < length ms → get_or ms i m ≡ get_or ms i n
-same_at [] i m n h = absurd (omega arith)
-same_at (x ∷ ms) zero m n h = refl
-same_at (x ∷ ms) (suc i) m n h = let more : i < length ms = omega arith in same_at ms i m n more
-
--- ---- the search
-
-past_to : (ms : Seq Pair) (i : ℕ) (m : Pair) (name : Seq ℕ) → IsAscending (entries ms) → i < length ms → m ≡ get_or ms i m → (compared name m.0 ≡ Greater) ⊎ (compared name m.0 ≡ Equal) → AllPast name (take i ms)
-unfolding IsStrictlySortedBy
-past_to [] i m name up h e over = absurd (omega arith)
-past_to (x ∷ ms) zero m name up h e over = tt
-past_to (x ∷ ms) (suc i) m name up h e over =
-    let more : i < length ms = omega arith in
-    let less = after_at x.0 ms i m up.0 more e in
-    let here : compared name x.0 ≡ Greater = elim over [
-      | inl greater ↦ reversed x.0 name Less (nat_list_cmp_total.trans x.0 m.0 name less (reversed name m.0 Greater greater))
-      | inr equal ↦ reversed x.0 name Less (subst (λ (k : Seq ℕ). compared x.0 k ≡ Less) (sym (exact_bytes name m.0 equal)) less)
-    ] in
-    (here, past_to ms i m name up.1 more e over)
-
--- ---- what it finds
-
-pub equal_at : (ms : Seq Pair) (name : Seq ℕ) (i : ℕ) (m : Pair) → IsAscending (entries ms) → i < length ms → m ≡ get_or ms i m → compared name m.0 ≡ Equal → IsPlace ms name i
-equal_at ms name i m up h e equal =
-    let before : IsPast ms name i = record { past = past_to ms i m name up h e (inr equal) } in
-    record {
-      within = h;
-      here = λ n f.
-          let one : m ≡ n = e ∙ same_at ms i m n h ∙ sym f in
-          let there : compared n.0 name ≡ Equal = subst (λ (p : Pair). compared p.0 name ≡ Equal) one (reversed name m.0 Equal equal) in
-          (exact_bytes n.0 name there, found_equal ms i n name up h f there);
-      puts = λ j. entries-set ms i name j ∙ sym (place_found ms i m name before h e equal (view j));
-    }
-
-first_at : (ms : Seq Pair) (i : ℕ) → i < length ms → (m : Pair) × (m ≡ get_or ms i m)
-first_at [] i h = absurd (omega arith)
-first_at (x ∷ ms) zero h = (x, refl)
-first_at (x ∷ ms) (suc i) h = let more : i < length ms = omega arith in first_at ms i more
-
-gap_before : (ms : Seq Pair) (name : Seq ℕ) (i : ℕ) → IsAscending (entries ms) → IsPast ms name i → i < length ms → ((m : Pair) → m ≡ get_or ms i m → compared name m.0 ≡ Less) → IsGap ms name i
-gap_before ms name i up before h behind =
-    let one = first_at ms i h in
-    let less = behind one.0 one.1 in
-    record {
-      within = omega (arith, h);
-      none = none_gap ms i one.0 name up before.past h one.1 less;
-      puts = λ j. entries-insert ms i name j ∙ sym (gap_found ms i one.0 name before h one.1 less (view j));
-    }
-
-gap_last : (ms : Seq Pair) (name : Seq ℕ) (i : ℕ) → IsPast ms name i → i ≡ length ms → IsGap ms name i
-gap_last ms name i before h = record {
-  within = omega (arith, h);
-  none = none_end ms i name before.past h;
-  puts = λ j. entries-insert ms i name j ∙ sym (gap_at_end ms i name before h (view j));
+pub left_entries : (es rest : Seq Entry) (name : Seq ℕ) → IsStrictlySortedBy string_cmp (keys_of es) → rest ≡ remove_entry (is_named name) es
+    → IsLeft name (member_of (members_with es) name) (members_with es) (members_with rest)
+left_entries es rest name up is = record {
+  none = λ none. ap members_with (is ∙ none_left es name none);
+  puts = λ d. ap (λ (fs : Seq Entry). put_member name d (members_with fs)) is ∙ put_left es name d up;
 }
 
--- names all before which the name comes behind
-past_by : (ms : Seq Pair) (name : Seq ℕ) (i : ℕ) → i ≤ length ms → ((k : ℕ) (d : Pair) → k < length ms → k < i → compared (get_or ms k d).0 name ≡ Less) → AllPast name (take i ms)
-past_by [] name zero h before = tt
-past_by [] name (suc i) h before = absurd (omega arith)
-past_by (x ∷ ms) name zero h before = tt
-past_by (x ∷ ms) name (suc i) h before =
-    (reversed x.0 name Less (before 0 x (omega arith) (omega arith)), past_by ms name i (omega arith) (λ k d within less. before (suc k) d (omega arith) (omega arith)))
+-- the form that is put there in the end
 
-pub gap_at : (ms : Seq Pair) (name : Seq ℕ) (i : ℕ) → IsAscending (entries ms) → i ≤ length ms → IsPartitionPoint (λ y. compared y.0 name ≡ Less) (λ y. compared y.0 name ≡ Greater) ms i → IsGap ms name i
-gap_at ms name i up h point =
-    let past : IsPast ms name i = record { past = past_by ms name i h (λ k d within less. point.0 k d (omega arith) less) } in
-    elim (cases_lt i (length ms)) [
-      | inl within ↦ gap_before ms name i up past within (λ m e. reversed m.0 name Greater (subst (λ (p : Pair). compared p.0 name ≡ Greater) (sym e) (point.1 i m (omega arith) within)))
-      | inr end ↦ gap_last ms name i past (omega (arith, end, h))
-    ]
+pub put_over : (name : Seq ℕ) (taken : Option JsonValue) (d : JsonValue) (before after : Members) → IsLeft name taken before after → put_member name d after ≡ put_member name d before
+put_over name taken d before after left = left.puts d
 
-names_seen : (ms : Seq Pair) → map (λ e. e.0) (entries ms) ≡ map (λ (m : Pair). m.0) ms
-names_seen [] = refl
-names_seen (m ∷ ms) = ap (λ (ns : Seq (Seq ℕ)). m.0 ∷ ns) (names_seen ms)
+pub none_taken : (name : Seq ℕ) (taken : Option JsonValue) (before after : Members) → IsLeft name taken before after → taken ≡ None → after ≡ before
+none_taken name taken before after left h = left.none h
 
-pub ascends : (ms : Seq Pair) → IsAscending (entries ms) → AreAscending (map (λ (m : Pair). m.0) ms)
-ascends ms up = subst AreAscending (names_seen ms) up
+pub none_over : (name : Seq ℕ) (first : Option JsonValue) (add : Members → Members) (taken : Option JsonValue) (before after : Members) → IsLeft name taken before after → form_after first add taken ≡ None → after ≡ before
+none_over name first add None before after left h = left.none refl
+none_over name first add (Some d) before after left h = absurd (cc)
 
--- ---- the answer of a binary search
+pub ruleset puts = (put_over, none_taken, none_over)
 
-pub place_if : (ms : Seq Pair) (name : Seq ℕ) (r : Result ℕ ℕ) → IsAscending (entries ms) → IsSearchInRange r (length ms) → IsBinarySearchResult (λ y. compared y.0 name) ms r → IfOk r (IsPlace ms name)
-place_if ms name (Ok i) up within is =
-    let one = first_at ms i within in
-    equal_at ms name i one.0 up within one.1 (reversed one.0.0 name Equal (subst (λ (p : Pair). compared p.0 name ≡ Equal) (sym one.1) (is one.0)))
-place_if ms name (Err i) up within is = tt
+-- ---- forms as a body has them
 
-pub gap_if : (ms : Seq Pair) (name : Seq ℕ) (r : Result ℕ ℕ) → IsAscending (entries ms) → IsSearchInRange r (length ms) → IsBinarySearchResult (λ y. compared y.0 name) ms r → IfErr r (IsGap ms name)
-gap_if ms name (Ok i) up within is = tt
-gap_if ms name (Err i) up within is = gap_at ms name i up within (is (rises (λ (y : Pair). y.0) name ms (ascends ms up)))
+abbrev Pair : Type 0
+Pair = Seq ℕ × Json
+
+pub one_ascends : (e : Seq ℕ × JsonValue) → IsAscending (e ∷ [])
+unfolding IsStrictlySortedBy
+one_ascends e = (tt, tt)
+
+pub two_ascend : (e f : Seq ℕ × JsonValue) → compared e.0 f.0 ≡ Less → IsAscending (e ∷ f ∷ [])
+unfolding IsStrictlySortedBy
+two_ascend e f less = ((less, tt), (tt, tt))
+
+names_ascend : (es : Seq Entry) → IsStrictlySortedBy string_cmp (keys_of es) → IsAscending (forms_of es)
+unfolding IsStrictlySortedBy
+names_ascend [] up = tt
+names_ascend (e ∷ es) up = (all_after e.0 es up.0, names_ascend es up.1)
+  where
+    all_after : (k : String Global) (es : Seq Entry) → AllByRecursion (λ y. string_cmp k y ≡ Less) (keys_of es) → AllByRecursion (λ y. compared (string_bytes k) y ≡ Less) (map (λ m. m.0) (forms_of es))
+    all_after k [] all = tt
+    all_after k (e ∷ es) all = (all.0, all_after k es all.1)
+
+-- all that are written
+
+written_all : (es : Seq Entry) (ms : Seq Pair) → forms_of es ≡ entries ms ++ [] → entries ms ≡ forms_of es
+written_all es ms h = sym (append-nil (entries ms)) ∙ sym h
+
+pub written_ascend : (es : Seq Entry) (ms : Seq Pair) → IsStrictlySortedBy string_cmp (keys_of es) → forms_of es ≡ entries ms ++ [] → IsAscending (entries ms)
+written_ascend es ms up h = subst IsAscending (sym (written_all es ms h)) (names_ascend es up)
+
+smaller_in : (done rest : Seq (Seq ℕ × JsonValue)) (m : Seq ℕ × JsonValue) → value_size m.1 < members_size (members_of (done ++ m ∷ rest))
+smaller_in [] rest m = omega (arith, members_positive (members_of rest))
+smaller_in (d ∷ done) rest m = omega (arith, smaller_in done rest m)
+
+pub written_smaller : (es left : Seq Entry) (ms : Seq Pair) (k : String Global) (f : Form) → forms_of es ≡ entries ms ++ forms_of ((k, f) ∷ left) → value_size (form_of f) < members_size (members_of (forms_of es))
+written_smaller es left ms k f h =
+    subst (λ (fs : Seq (Seq ℕ × JsonValue)). value_size (form_of f) < members_size (members_of fs)) (sym h) (smaller_in (entries ms) (forms_of left) (string_bytes k, form_of f))

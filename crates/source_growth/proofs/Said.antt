@@ -1,5 +1,5 @@
 -- What a source adds is said by the values at each path.
-use Rattle.std.proofs.Common.{◌≡◌, ℕ, Bool, true, false, ◌&&◌, if◌then◌else◌, List as Seq, [], ◌∷◌, ◌++◌, append-nil, append_assoc, refl, sym, ap, ◌∙◌, subst, codes, bytes_eq, Option, Some, None, unwrap_or, Ordering, Less, Equal, Greater, nat_cmp, is_eq}
+use Rattle.std.proofs.Common.{◌≡◌, ℕ, Bool, true, false, if◌then◌else◌, List as Seq, [], ◌∷◌, ◌++◌, append-nil, append_assoc, refl, sym, ap, ◌∙◌, subst, codes, bytes_eq, Option, Some, None, unwrap_or, Ordering, Less, Equal, Greater, nat_cmp}
 use Rattle.std.proofs.lemmas.Bool.{false≢true}
 use Rattle.std.proofs.lemmas.List.Folds.{list_all-append}
 use Rattle.std.proofs.lemmas.Slice.Eq.{bytes_eq-Decides}
@@ -13,8 +13,8 @@ use Rattle.mapping_body.specs.Names.{is_property_name, joined}
 use Rattle.mapping_body.proofs.Ranks.{by_ordering, is_eq_from, reversed}
 use Rattle.mapping_body.proofs.Walks.{split}
 use Rattle.mapping.specs.Mapping.{Mapping, field_below, generation_of, kind_at}
-use Rattle.source_growth.specs.Growth.{put_member, with_form, first_value, first_value_in, new_form, more_form, form_after, properties_in, typed, plain, holding, holds_objects, form_above, found_below, unmapped_below, unmapped_in, unmapped_among, mapped_below, mapped_in, mapped_among, with_member, body_with, growth}
-use Rattle.source_growth.specs.Said.{singles, singles_in, singles_named, singles_below, type_given, IsSaid, nothing, by_type, by_object, AreSaidBelow, each, IsSaidAt, no_values, unmapped, holds_none, adds_none, adds_some, IsSaidBy}
+use Rattle.source_growth.specs.Growth.{put_member, with_form, first_value, first_value_in, new_form, form_after, properties_in, holding, holds_objects, form_above, found_below, unmapped_below, unmapped_in, unmapped_among, mapped_below, mapped_in, mapped_among, with_member, body_with, growth}
+use Rattle.source_growth.specs.Said.{singles, singles_in, singles_named, singles_below, IsSaid, nothing, by_type, by_object, AreSaidBelow, each, IsSaidAt, no_values, unmapped, holds_none, adds_none, adds_some, IsSaidBy}
 use Rattle.source_growth.proofs.Sound.{some_member}
 use Rattle.source_growth.proofs.Taken.{mapped_some}
 

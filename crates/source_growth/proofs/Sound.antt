@@ -1,23 +1,22 @@
 -- What sources add has the form of a body, says nothing otherwise than the mapping, and has a path that is new.
-use Rattle.std.proofs.Common.{◌≡◌, ℕ, zero, suc, ◌<◌, ◌≤◌, Bool, true, false, not, ◌==◌, ◌&&◌, ◌||◌, nat_lt, if◌then◌else◌, List as Seq, [], ◌∷◌, ◌++◌, length, map, filter, find, refl, sym, ap, ◌∙◌, subst, arith, codes, bytes_eq, Option, Some, None, is_some, option_and_then, slice_get, unwrap_or, Ordering, Less, Equal, Greater, nat_cmp}
-use Rattle.std.proofs.lemmas.Bool.{false≢true, eq-eqb}
+use Rattle.std.proofs.Common.{◌≡◌, ℕ, Bool, true, false, not, ◌&&◌, ◌||◌, if◌then◌else◌, List as Seq, ◌++◌, refl, sym, ap, ◌∙◌, subst, codes, bytes_eq, Option, Some, None, is_some, option_and_then, slice_get, unwrap_or, nat_cmp}
+use Rattle.std.proofs.lemmas.Bool.{false≢true}
 use Rattle.std.proofs.lemmas.List.Folds.{list_all-append, list_any-append}
 use Rattle.std.proofs.lemmas.Map.Lookups.{exact_bytes}
 use Rattle.std.proofs.lemmas.Slice.Eq.{bytes_eq-Decides}
 use Rattle.std.specs.Cmp.Lexicographic.{slice_cmp}
 use Rattle.std.specs.List.{list_all, list_any}
-use Rattle.tree_json.specs.Value.{JsonValue, null, bool, whole, text, list, object, Elements, no_elements, element, Members, no_members, member, member_of}
+use Rattle.tree_json.specs.Value.{JsonValue, null, bool, whole, text, list, object, Members, no_members, member, member_of}
 use Rattle.mapping_body.specs.declared.kind.Kind.{Kind}
 use Rattle.mapping_body.specs.declared.kind.Kind.TheVariants.{Text, Keyword, Long, Boolean, Date, Object, Nested, Join}
 use Rattle.mapping_body.specs.Body.{Property, are_property_names, is_property, properties_among, properties_at, properties_below, properties_named}
-use Rattle.mapping_body.specs.Code.{is_same_kind, number_of}
-use Rattle.mapping_body.specs.Names.{dot, goes_on, is_among, is_property_name, joined, lies_above}
+use Rattle.mapping_body.specs.Names.{is_among, is_property_name, joined}
 use Rattle.mapping_body.proofs.Ranks.{by_ordering}
 use Rattle.mapping_body.proofs.Walks.{split}
 use Rattle.mapping_growth.specs.Bodies.{draft_named, is_otherwise}
 use Rattle.mapping_growth.specs.Fields.{Draft, draft_paths}
 use Rattle.mapping_growth.specs.Relations.{Relation}
-use Rattle.source_growth.specs.Growth.{put_member, with_form, first_value, new_form, more_form, form_after, properties_in, typed, plain, nested, holding, holds_objects, form_above, found_below, unmapped_below, unmapped_in, unmapped_among}
+use Rattle.source_growth.specs.Growth.{put_member, with_form, new_form, more_form, form_after, properties_in, typed, plain, nested, holding, holds_objects, form_above, found_below}
 
 -- ---- tests
 

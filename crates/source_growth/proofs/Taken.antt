@@ -1,17 +1,16 @@
 -- The mapping takes the body that a source adds: what is unmapped stays unmapped below, and what is mapped is a draft.
-use Rattle.std.proofs.Common.{◌≡◌, ℕ, zero, suc, ◌+◌, ◌<◌, ◌≤◌, Bool, true, false, not, ◌==◌, ◌&&◌, ◌||◌, nat_le, nat_lt, if◌then◌else◌, List as Seq, [], ◌∷◌, ◌++◌, length, map, filter, find, get_or, refl, sym, ap, ◌∙◌, subst, arith, codes, bytes_eq, Option, Some, None, is_some, option_map, option_and_then, slice_get}
+use Rattle.std.proofs.Common.{◌≡◌, ℕ, zero, suc, ◌+◌, ◌<◌, Bool, true, false, not, ◌||◌, nat_lt, List as Seq, [], ◌∷◌, ◌++◌, length, map, filter, find, get_or, refl, sym, ap, ◌∙◌, subst, arith, bytes_eq, Option, Some, None, is_some, option_map, option_and_then, slice_get}
 use Rattle.std.proofs.lemmas.Bool.{false≢true, eq-eqb, le-leb, lt-ltb}
 use Rattle.std.proofs.lemmas.List.{length-map}
 use Rattle.std.proofs.lemmas.Slice.Eq.{bytes_eq-Decides}
-use Rattle.std.specs.List.{AllByRecursion, list_all, list_any, position_from}
+use Rattle.std.specs.List.{list_all, list_any, position_from}
 use Rattle.tree_json.specs.Value.{JsonValue, null, bool, whole, text, list, object, Elements, no_elements, element, Members, no_members, member, member_of}
-use Rattle.mapping_body.specs.declared.kind.Kind.{Kind}
-use Rattle.mapping_body.specs.Body.{Property, are_property_names, is_body, is_property, properties_named, properties_of}
+use Rattle.mapping_body.specs.Body.{Property, is_body, is_property, properties_named}
 use Rattle.mapping_body.specs.Names.{dot, goes_on, has_dot, is_among, is_name, is_property_name, joined, lies_above, place_of}
 use Rattle.mapping_body.proofs.Closed.{has_name}
 use Rattle.mapping_body.proofs.Walks.{split}
 use Rattle.mapping_growth.specs.Bodies.{AreBodies, adds, conflict_of, draft_named, is_otherwise}
-use Rattle.mapping_growth.specs.Fields.{Draft, draft_paths, drafts_of, properties_added}
+use Rattle.mapping_growth.specs.Fields.{Draft, draft_paths, drafts_of}
 use Rattle.mapping_growth.specs.Relations.{Relation, relations_of}
 use Rattle.mapping.specs.IsMapping.{IsMapping}
 use Rattle.mapping.specs.Mapping.{Field, Mapping, mapping_of, field_at, field_below, field_by, fields_by, field_named, generation_of, if_known, kind_at, knows, no_field, scope_paths}

@@ -3,3 +3,5 @@ pub mod Growth
 pub mod Said
 -- What serves proofs alone.
 pub mod Code
+pub mod Forms
+pub mod Falls

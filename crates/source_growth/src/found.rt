@@ -1,42 +1,61 @@
 //! The properties that a walk has found below a path.
-ghost use Rattle.std.specs.Prelude.{◌≡◌, ◌<◌, ℕ, List, Some, length, IfOk, IfErr, OnOk, IsTrue, ◌↔◌, option_map};
-ghost use Rattle.std.specs.BTreeMap.{insert_entry};
-ghost use Rattle.std.specs.Cmp.Lexicographic.{slice_cmp};
-ghost use Rattle.std.specs.Ordering.{nat_cmp};
-ghost use Rattle.tree_json.specs.Names.{IsAscending};
-ghost use Rattle.tree_json.specs.Value.{no_members, member_of, members_of};
-ghost use Rattle.tree_json.specs.View.{view, entries};
-ghost use Rattle.source_growth.specs.Code.{IsGap, IsPlace, left_by};
-ghost use Rattle.source_growth.specs.Growth.{put_member};
+ghost use Rattle.std.specs.Prelude.{◌≡◌, IsTrue, ◌↔◌, OnOk, option_map, unwrap_or};
+ghost use Rattle.tree_json.specs.Value.{Members, member_of, members_of, no_members};
+ghost use Rattle.source_growth.specs.Forms.{IsLeft, form_of, forms_of};
+ghost use Rattle.source_growth.specs.Growth.{properties_in, put_member};
 
-use crate::form::copied;
 use mapping::NoMemory;
 use std::alloc::Global;
+use std::collections::BTreeMap;
 use std::marker::Model;
-use std::mem::replace;
-use tree_json::{Json, JsonObject, JsonText};
+use tree_json::JsonText;
 
-/// Properties with their forms, in ascending byte order of their names.
+/// The type of a property that holds no objects, as its first value gives it.
+#[derive(Clone, Copy)]
+pub(crate) enum ValueType {
+    Text,
+    Long,
+    Boolean,
+}
+
+/// The form of a property, as far as the walk has come.
+#[cycle(forms)]
+#[derive(Drop)]
+pub(crate) enum Form {
+    /// Its type alone.
+    Typed(ValueType),
+    /// A plain object.
+    Plain(Found),
+    /// A mapped nested field.
+    Nested(Found),
+}
+
+/// Properties with their forms, in ascending byte order of their names. Each is found, taken and put by about log2 of their
+/// number comparisons: a source may have as many names as it has values, in any order.
+#[cycle(forms)]
 #[derive(Drop)]
 pub(crate) struct Found {
-    members: Vec<(JsonText, Json)>,
+    forms: BTreeMap<String, Form>,
 }
 
 impl Model for Found {
-    ghost use Rattle.tree_json.specs.Value.{Members};
+    ghost use Rattle.tree_json.specs.Value.{Members, members_of, members_size};
     ghost use Rattle.source_growth.specs.Code.{members_code};
 
     ghost Value = { Members };
 
     ghost coded = { members_code };
 
-    ghost use Rattle.tree_json.specs.Names.{IsAscending};
-    ghost use Rattle.tree_json.specs.Value.{members_of};
-    ghost use Rattle.tree_json.specs.View.{entries};
+    ghost use Rattle.source_growth.specs.Forms.{forms_of};
 
-    ghost view = { λ a. members_of (entries a.members.items) };
+    ghost view = { λ a. members_of (forms_of a.forms.entries) };
 
-    ghost invariant = { λ a. IsAscending (entries a.members.items) };
+    ghost size = { members_size };
+
+    ghost use Rattle.std.proofs.Common.{arith};
+    ghost use Rattle.source_growth.specs.Falls.{forms_fall};
+
+    ghost size_decreases = { λ a h. Prim.omega (arith, forms_fall a.forms.entries) };
 }
 
 impl Found {
@@ -45,109 +64,54 @@ impl Found {
         ensures { result ≡ no_members }
     {
         Found {
-            members: Vec::new(alloc),
+            forms: BTreeMap::new(alloc),
         }
     }
 
-    pub(crate) fn of(object: JsonObject) -> Found
-        ensures { result ≡ members_of object }
-    {
-        Found {
-            members: object.into_vec(),
-        }
-    }
-
-    pub(crate) fn into_object(self) -> JsonObject
-        ensures { members_of result ≡ self }
-    {
-        let Found { members } = self;
-        JsonObject::of(members)
-    }
-
-    #[tactic(auto, using(crate::proofs::Puts::pairs_none, crate::proofs::Puts::none_pairs))]
+    #[tactic(auto, using(crate::proofs::Puts::empties))]
     pub(crate) fn is_empty(&self) -> bool
         ensures { IsTrue result ↔ (self.now ≡ no_members) }
     {
-        self.members.as_slice().is_empty()
+        self.forms.is_empty()
     }
 
-    /// Takes out the form of a property, if there is one. Null stands in its place until another is put there.
-    pub(crate) fn take(&mut self, name: &[u8]) -> Option<Json>
-        ensures form { option_map view result ≡ member_of self.old name.now }
-        ensures left { self.new ≡ left_by (member_of self.old name.now) name.now self.old }
+    /// Takes out a property, if there is one, until it is put there again.
+    pub(crate) fn take(&mut self, name: &str) -> Option<Form>
+        ensures form { option_map form_of result ≡ member_of self.old name.now }
+        ensures left { IsLeft name.now (member_of self.old name.now) self.old self.new }
     {
-        take_from(&mut self.members, name)
+        let _ascending = self.forms.len();
+        self.forms.remove(name)
     }
 
-    /// Puts the form of a property at its place, over the one that stands there.
-    pub(crate) fn put(&mut self, alloc: Global, name: &JsonText, form: Json) -> Result<(), NoMemory>
-        ensures { OnOk result (self.new ≡ put_member name.now (view form) self.old) }
+    /// Puts a property at its place, over the one that stands there.
+    #[tactic(auto, using(crate::proofs::Puts::puts_entry))]
+    pub(crate) fn put(&mut self, alloc: Global, name: &JsonText, form: Form) -> Result<(), NoMemory>
+        ensures { OnOk result (self.new ≡ put_member name.now (form_of form) self.old) }
     {
-        put_among(alloc, &mut self.members, name, form)
+        let name = String::from_str(alloc, name.as_str())?;
+        let _former = self.forms.insert(name, form)?;
+        Ok(())
+    }
+
+    /// The properties with their names, in ascending byte order of these.
+    pub(crate) fn into_forms(self) -> BTreeMap<String, Form>
+        ensures { members_of (forms_of result.entries) ≡ self }
+    {
+        let Found { forms } = self;
+        forms
     }
 }
 
-fn take_from(members: &mut Vec<(JsonText, Json)>, name: &[u8]) -> Option<Json>
-    requires { IsAscending (entries members.old.items) }
-    ensures form { option_map view result ≡ member_of (members_of (entries members.old.items)) name.now }
-    ensures left { members_of (entries members.new.items) ≡ left_by (member_of (members_of (entries members.old.items)) name.now) name.now (members_of (entries members.old.items)) }
-    ensures ascending { IsAscending (entries members.new.items) }
-{
-    match place_of(members.as_slice(), name) {
-        Ok(place) => Some(replaced(members, place, Json::Null)),
-        Err(_) => None,
-    }
-}
-
-fn put_among(
-    alloc: Global,
-    members: &mut Vec<(JsonText, Json)>,
-    name: &JsonText,
-    form: Json,
-) -> Result<(), NoMemory>
-    requires { IsAscending (entries members.old.items) }
-    ensures put { OnOk result (members_of (entries members.new.items) ≡ put_member name.now (view form) (members_of (entries members.old.items))) }
-    ensures ascending { IsAscending (entries members.new.items) }
-{
-    match place_of(members.as_slice(), name.as_slice()) {
-        Ok(place) => {
-            let _former = replaced(members, place, form);
-            Ok(())
+impl Form {
+    /// The properties below it; none where it has its type alone.
+    pub(crate) fn into_properties(self, alloc: Global) -> Found
+        ensures { result ≡ unwrap_or (properties_in (form_of self)) no_members }
+    {
+        match self {
+            Form::Typed(_) => Found::new(alloc),
+            Form::Plain(below) => below,
+            Form::Nested(below) => below,
         }
-        Err(gap) => inserted(members, gap, copied(alloc, name.as_str())?, form),
     }
-}
-
-/// Puts a form in place of another, which it gives back.
-fn replaced(members: &mut Vec<(JsonText, Json)>, place: usize, form: Json) -> Json
-    requires { place < length members.old.items }
-    ensures former { (name : List ℕ) → IsPlace members.old.items name place → member_of (members_of (entries members.old.items)) name ≡ Some (view result) }
-    ensures form { (name : List ℕ) → IsPlace members.old.items name place → entries members.new.items ≡ insert_entry (slice_cmp nat_cmp) (entries members.old.items) name (view form) }
-{
-    let entry = &mut members[place];
-    replace(&mut entry.1, form)
-}
-
-fn inserted(
-    members: &mut Vec<(JsonText, Json)>,
-    gap: usize,
-    name: JsonText,
-    form: Json,
-) -> Result<(), NoMemory>
-    requires place { IsGap members.old.items name gap }
-    requires ascending { IsAscending (entries members.old.items) }
-    ensures put { OnOk result (members_of (entries members.new.items) ≡ put_member name (view form) (members_of (entries members.old.items))) }
-    ensures ascending { IsAscending (entries members.new.items) }
-{
-    members.insert(gap, (name, form))?;
-    Ok(())
-}
-
-/// Where a name stands, or the gap where it would go.
-fn place_of(members: &[(JsonText, Json)], name: &[u8]) -> Result<usize, usize>
-    requires { IsAscending (entries members.now) }
-    ensures place { IfOk result (IsPlace members.now name.now) }
-    ensures gap { IfErr result (IsGap members.now name.now) }
-{
-    members.binary_search_by(|member| member.0.as_slice().cmp(name))
 }

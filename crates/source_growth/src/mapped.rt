@@ -6,7 +6,7 @@ ghost use Rattle.mapping.specs.Mapping.{field_at, field_below, generation_of, ki
 ghost use Rattle.mapping_body.specs.Names.{is_property_name, joined};
 ghost use Rattle.source_growth.specs.Growth.{body_with, form_above, found_below, growth, holds_objects, mapped_among, mapped_below, mapped_in, with_form, with_member};
 
-use crate::form::{holding, holds_objects, plain, properties_of};
+use crate::form::{holding, holds_objects, plain};
 use crate::found::Found;
 use crate::unmapped::add_unmapped;
 use mapping::{Mapping, NoMemory};
@@ -97,12 +97,11 @@ fn add_under(
     requires { field < length mapping.now.fields }
     ensures { OnOk result (found.new ≡ with_form name.now (form_above (kind_at mapping.now field) (member_of found.old name.now) (mapped_below mapping.now (field_at mapping.now field).path (view value.now) (found_below (member_of found.old name.now)))) found.old) }
 {
-    match found.take(name.as_slice()) {
+    match found.take(name.as_str()) {
         Some(form) => {
-            let mut below = properties_of(alloc, form);
+            let mut below = form.into_properties(alloc);
             add_below(alloc, mapping, field, value, &mut below)?;
-            let form = holding(alloc, mapping.kind(field), below)?;
-            found.put(alloc, name, form)
+            found.put(alloc, name, holding(mapping.kind(field), below))
         }
         None => {
             let mut below = Found::new(alloc);
@@ -110,8 +109,7 @@ fn add_under(
             if below.is_empty() {
                 return Ok(());
             }
-            let form = holding(alloc, mapping.kind(field), below)?;
-            found.put(alloc, name, form)
+            found.put(alloc, name, holding(mapping.kind(field), below))
         }
     }
 }

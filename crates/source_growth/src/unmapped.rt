@@ -2,10 +2,10 @@
 ghost use Rattle.std.specs.Prelude.{◌≡◌, IfOk, OnOk, option_map};
 ghost use Rattle.tree_json.specs.Value.{elements_of, member_of, members_of, no_members};
 ghost use Rattle.tree_json.specs.View.{view, values, entries};
-ghost use Rattle.source_growth.specs.Growth.{first_value, first_value_in, form_after, more_form, new_form, properties_in, unmapped_among, unmapped_below, unmapped_in, with_form};
+ghost use Rattle.source_growth.specs.Forms.{form_of};
+ghost use Rattle.source_growth.specs.Growth.{first_value, first_value_in, form_after, more_form, new_form, plain, properties_in, unmapped_among, unmapped_below, unmapped_in, with_form};
 
-use crate::form::{has_properties, plain, properties_of, typed};
-use crate::found::Found;
+use crate::found::{Form, Found, ValueType};
 use mapping::NoMemory;
 use mapping_body::is_property_name;
 use std::alloc::Global;
@@ -36,7 +36,7 @@ pub(crate) fn add_unmapped(
 ) -> Result<(), NoMemory>
     ensures { OnOk result (found.new ≡ with_form name.now (form_after (first_value (view value.now)) (unmapped_below (view value.now)) (member_of found.old name.now)) found.old) }
 {
-    match form_after(alloc, value, found.take(name.as_slice()))? {
+    match form_after(alloc, value, found.take(name.as_str()))? {
         Some(form) => found.put(alloc, name, form),
         None => Ok(()),
     }
@@ -44,8 +44,8 @@ pub(crate) fn add_unmapped(
 
 /// The form at an unmapped path after a value there.
 #[cycle(unmapped)]
-fn form_after(alloc: Global, value: &Json, form: Option<Json>) -> Result<Option<Json>, NoMemory>
-    ensures { IfOk result (λ after. option_map view after ≡ form_after (first_value (view value.now)) (unmapped_below (view value.now)) (option_map view form)) }
+fn form_after(alloc: Global, value: &Json, form: Option<Form>) -> Result<Option<Form>, NoMemory>
+    ensures { IfOk result (λ after. option_map form_of after ≡ form_after (first_value (view value.now)) (unmapped_below (view value.now)) (option_map form_of form)) }
 {
     match form {
         None => new_form(alloc, value),
@@ -55,31 +55,36 @@ fn form_after(alloc: Global, value: &Json, form: Option<Json>) -> Result<Option<
 
 /// A form that was found, with the properties that a value adds below it.
 #[cycle(unmapped)]
-fn more_form(alloc: Global, value: &Json, form: Json) -> Result<Json, NoMemory>
-    ensures { IfOk result (λ after. view after ≡ more_form (unmapped_below (view value.now)) (view form) (properties_in (view form))) }
+fn more_form(alloc: Global, value: &Json, form: Form) -> Result<Form, NoMemory>
+    ensures { IfOk result (λ after. form_of after ≡ more_form (unmapped_below (view value.now)) (form_of form) (properties_in (form_of form))) }
 {
-    if !has_properties(&form) {
-        return Ok(form);
+    match form {
+        Form::Typed(given) => Ok(Form::Typed(given)),
+        Form::Plain(below) => Ok(with_more(alloc, value, below)?),
+        Form::Nested(below) => Ok(with_more(alloc, value, below)?),
     }
-    let mut properties = properties_of(alloc, form);
-    add_below(alloc, value, &mut properties)?;
-    Ok(plain(alloc, properties)?)
+}
+
+/// A plain object with these properties and those that a value adds to them.
+#[cycle(unmapped)]
+fn with_more(alloc: Global, value: &Json, below: Found) -> Result<Form, NoMemory>
+    ensures { IfOk result (λ after. form_of after ≡ plain (unmapped_below (view value.now) below)) }
+{
+    let mut below = below;
+    add_below(alloc, value, &mut below)?;
+    Ok(Form::Plain(below))
 }
 
 /// The form of a new property by the first value.
 #[cycle(unmapped)]
-fn new_form(alloc: Global, value: &Json) -> Result<Option<Json>, NoMemory>
-    ensures { IfOk result (λ after. option_map view after ≡ new_form (unmapped_below (view value.now) no_members) (first_value (view value.now))) }
+fn new_form(alloc: Global, value: &Json) -> Result<Option<Form>, NoMemory>
+    ensures { IfOk result (λ after. option_map form_of after ≡ new_form (unmapped_below (view value.now) no_members) (first_value (view value.now))) }
 {
     match first_value(value) {
-        Some(Json::Text(_)) => Ok(Some(typed(alloc, "text")?)),
-        Some(Json::Whole(_)) => Ok(Some(typed(alloc, "long")?)),
-        Some(Json::Bool(_)) => Ok(Some(typed(alloc, "boolean")?)),
-        Some(Json::Object(_)) => {
-            let mut properties = Found::new(alloc);
-            add_below(alloc, value, &mut properties)?;
-            Ok(Some(plain(alloc, properties)?))
-        }
+        Some(Json::Text(_)) => Ok(Some(Form::Typed(ValueType::Text))),
+        Some(Json::Whole(_)) => Ok(Some(Form::Typed(ValueType::Long))),
+        Some(Json::Bool(_)) => Ok(Some(Form::Typed(ValueType::Boolean))),
+        Some(Json::Object(_)) => Ok(Some(with_more(alloc, value, Found::new(alloc))?)),
         _ => Ok(None),
     }
 }

@@ -8,16 +8,19 @@ abbrev pub decreases-add_among : goal.decreases-add_among
 decreases-add_among l = 6 * members_size (members_of (entries l.members.now))
 
 abbrev pub decreases-add_unmapped : goal.decreases-add_unmapped
-decreases-add_unmapped l = 6 * value_size (view l.value.now) + 3
+decreases-add_unmapped l = 6 * value_size (view l.value.now) + 4
 
 abbrev pub decreases-form_after : goal.decreases-form_after
-decreases-form_after l = 6 * value_size (view l.value.now) + 2
+decreases-form_after l = 6 * value_size (view l.value.now) + 3
 
 abbrev pub decreases-more_form : goal.decreases-more_form
-decreases-more_form l = 6 * value_size (view l.value.now) + 1
+decreases-more_form l = 6 * value_size (view l.value.now) + 2
+
+abbrev pub decreases-with_more : goal.decreases-with_more
+decreases-with_more l = 6 * value_size (view l.value.now) + 1
 
 abbrev pub decreases-new_form : goal.decreases-new_form
-decreases-new_form l = 6 * value_size (view l.value.now) + 1
+decreases-new_form l = 6 * value_size (view l.value.now) + 2
 
 abbrev pub decreases-add_below : goal.decreases-add_below
 decreases-add_below l = 6 * value_size (view l.value.now)
