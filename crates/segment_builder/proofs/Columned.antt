@@ -120,6 +120,9 @@ module _ (documents : ℕ) (entries : List ((ℕ × List ℕ) × (ℕ × List �
   rows_each [] some is = tt
   rows_each (row ∷ rows) some is = (row_is row some.0 is.0, rows_each rows some.1 is.1)
 
+  pub each_row : (rows : List TermRow) → AreGroups term_cmp entries (map row_group rows) → AllByRecursion IsRow rows
+  each_row rows are = rows_each rows are.ordered.some are.gather
+
   pub terms_twice : (rows : List TermRow) → keys (map row_group rows) ≡ map (λ (row : TermRow). row.term) rows
   terms_twice [] = refl
   terms_twice (row ∷ rows) = ap (λ rest. row.term ∷ rest) (terms_twice rows)

@@ -10,9 +10,8 @@ use Rattle.std.specs.declared.cmp.Ordering.TheVariants.{Less, Equal, Greater}
 use Rattle.std.proofs.lemmas.List.{at_drop_more, map-append}
 use Rattle.term_table.specs.Terms.{term_cmp}
 use Rattle.term_table.specs.declared.rows.TermRow.{TermRow}
-use Rattle.segment_builder.specs.Entries.{words_lent}
 use Rattle.segment_builder.specs.Groups.{groups_seen, in_groups, keys, of_key, runs, AreGroups, AreOrdered, AreRising}
-use Rattle.segment_builder.specs.Terms.{entries_lent, field_row, field_rows, row_group, rows_in, rows_of}
+use Rattle.segment_builder.specs.Terms.{at_field, entries_lent, field_row, field_rows, row_group, rows_in, rows_of, ArePut}
 use Rattle.segment_builder.proofs.Assembled.{map_twice}
 use Rattle.segment_builder.proofs.Grown.{of_append}
 use Rattle.segment_builder.proofs.InOrder.{are_groups}
@@ -38,38 +37,56 @@ term_is : (f g : ℕ) (b c : List ℕ) → eq_by_cmp term_cmp (f, b) (g, c) ≡ 
 term_is f g b c = both_equal (nat_cmp f g) (bytes_cmp b c)
 
 -- what a field's entries carry at bytes is what terms carry at the field and the bytes
-pub one_here : (f g : ℕ) (b : List ℕ) (bytes : Bor (List ℕ)) (posting : ℕ × Bor (List ℕ))
-    → of_key bytes_cmp b (entries_lent (of_key nat_cmp f ((g, (bytes, posting)) ∷ []))) ≡ of_key term_cmp (f, b) (words_lent (((g, bytes), posting) ∷ []))
+one_here : (f g : ℕ) (b : List ℕ) (bytes : Bor (List ℕ)) (posting : ℕ × Bor (List ℕ))
+    → of_key bytes_cmp b (entries_lent (of_key nat_cmp f ((g, (bytes, posting)) ∷ []))) ≡ of_key term_cmp (f, b) (((g, bytes.now), (posting.0, posting.1.now)) ∷ [])
 one_here f g b bytes posting =
     split (eq_by_cmp nat_cmp f g)
     (λ is. rw (term_is f g b bytes.now, is) refl)
     (λ isnt. rw (term_is f g b bytes.now, isnt) refl)
 
-pub here_more : (f : ℕ) (b : List ℕ) (xs ys : List TermEntry) → of_key bytes_cmp b (entries_lent (xs ++ ys)) ≡ of_key bytes_cmp b (entries_lent xs) ++ of_key bytes_cmp b (entries_lent ys)
+here_more : (f : ℕ) (b : List ℕ) (xs ys : List TermEntry) → of_key bytes_cmp b (entries_lent (xs ++ ys)) ≡ of_key bytes_cmp b (entries_lent xs) ++ of_key bytes_cmp b (entries_lent ys)
 here_more f b xs ys =
     ap (of_key bytes_cmp b) (map-append (λ (entry : TermEntry). (entry.0.now, (entry.1.0, entry.1.1.now))) xs ys)
     ∙ of_append bytes_cmp b (entries_lent xs) (entries_lent ys)
 
--- one more of the terms goes to its field
-pub put_on : (f : ℕ) (b : List ℕ) (g : ℕ) (bytes : Bor (List ℕ)) (posting : ℕ × Bor (List ℕ)) (old new : List TermEntry) (left rest : List ((ℕ × Bor (List ℕ)) × (ℕ × Bor (List ℕ)))) (whole : List (ℕ × List ℕ))
-    → left ≡ ((g, bytes), posting) ∷ rest → new ≡ old ++ of_key nat_cmp f ((g, (bytes, posting)) ∷ [])
-    → of_key bytes_cmp b (entries_lent old) ++ of_key term_cmp (f, b) (words_lent left) ≡ whole → of_key bytes_cmp b (entries_lent new) ++ of_key term_cmp (f, b) (words_lent rest) ≡ whole
-put_on f b g bytes posting old new left rest whole is more goes =
-    let one = of_key term_cmp (f, b) (words_lent (((g, bytes), posting) ∷ [])) in
-    let parts : of_key term_cmp (f, b) (words_lent left) ≡ one ++ of_key term_cmp (f, b) (words_lent rest) =
-    ap (λ terms. of_key term_cmp (f, b) (words_lent terms)) is ∙ of_append term_cmp (f, b) (words_lent (((g, bytes), posting) ∷ [])) (words_lent rest) in
-    let longer : of_key bytes_cmp b (entries_lent new) ≡ of_key bytes_cmp b (entries_lent old) ++ one =
-    ap (λ entries. of_key bytes_cmp b (entries_lent entries)) more ∙ here_more f b old (of_key nat_cmp f ((g, (bytes, posting)) ∷ []))
-    ∙ ap (λ last. of_key bytes_cmp b (entries_lent old) ++ last) (one_here f g b bytes posting) in
-    ap (λ front. front ++ of_key term_cmp (f, b) (words_lent rest)) longer
-    ∙ append_assoc (of_key bytes_cmp b (entries_lent old)) one (of_key term_cmp (f, b) (words_lent rest))
-    ∙ ap (λ last. of_key bytes_cmp b (entries_lent old) ++ last) (sym parts)
-    ∙ goes
+abbrev pub Fields : Type 0
+Fields = List (ℕ × List TermEntry)
 
-pub put_all : (f : ℕ) (b : List ℕ) (old : List TermEntry) (left : List ((ℕ × Bor (List ℕ)) × (ℕ × Bor (List ℕ)))) (whole : List (ℕ × List ℕ))
-    → length left ≡ 0 → of_key bytes_cmp b (entries_lent old) ++ of_key term_cmp (f, b) (words_lent left) ≡ whole → of_key bytes_cmp b (entries_lent old) ≡ whole
-put_all f b old [] whole none goes = sym (append-nil (of_key bytes_cmp b (entries_lent old))) ∙ goes
-put_all f b old (term ∷ left) whole none goes = absurd (omega (arith, none))
+abbrev pub Terms : Type 0
+Terms = List ((ℕ × List ℕ) × (ℕ × List ℕ))
+
+-- one more of the terms goes to its field
+pub put_one : (g : ℕ) (bytes : Bor (List ℕ)) (posting : ℕ × Bor (List ℕ)) (old new : Fields)
+    → ((any : ℕ) → in_groups nat_cmp any new ≡ in_groups nat_cmp any old ++ of_key nat_cmp any ((g, (bytes, posting)) ∷ [])) → ArePut (((g, bytes.now), (posting.0, posting.1.now)) ∷ []) old new
+put_one g bytes posting old new more = λ f b.
+    ap (λ entries. of_key bytes_cmp b (entries_lent entries)) (more f)
+    ∙ here_more f b (in_groups nat_cmp f old) (of_key nat_cmp f ((g, (bytes, posting)) ∷ []))
+    ∙ ap (λ last. at_field f b old ++ last) (one_here f g b bytes posting)
+
+pub put_none : (fields : Fields) → ArePut [] fields fields
+put_none fields = λ f b. sym (append-nil (at_field f b fields))
+
+pub put_both : (one two : Terms) (old middle new : Fields) → ArePut one old middle → ArePut two middle new → ArePut (one ++ two) old new
+put_both one two old middle new first second = λ f b.
+    second f b
+    ∙ ap (λ front. front ++ of_key term_cmp (f, b) two) (first f b)
+    ∙ append_assoc (at_field f b old) (of_key term_cmp (f, b) one) (of_key term_cmp (f, b) two)
+    ∙ ap (λ last. at_field f b old ++ last) (sym (of_append term_cmp (f, b) one two))
+
+-- while terms are put, fields carry what they did and, with those that are left, all of them
+abbrev pub Putting : Terms → Fields → Terms → Fields → Type 0
+Putting all begun left fields = (f : ℕ) (b : List ℕ) → at_field f b fields ++ of_key term_cmp (f, b) left ≡ at_field f b begun ++ of_key term_cmp (f, b) all
+
+pub put_on : (one left rest all : Terms) (begun old new : Fields) → left ≡ one ++ rest → ArePut one old new → Putting all begun left old → Putting all begun rest new
+put_on one left rest all begun old new is more goes = λ f b.
+    ap (λ front. front ++ of_key term_cmp (f, b) rest) (more f b)
+    ∙ append_assoc (at_field f b old) (of_key term_cmp (f, b) one) (of_key term_cmp (f, b) rest)
+    ∙ ap (λ last. at_field f b old ++ last) (sym (ap (of_key term_cmp (f, b)) is ∙ of_append term_cmp (f, b) one rest))
+    ∙ goes f b
+
+pub put_all : (left all : Terms) (begun fields : Fields) → left ≡ [] → Putting all begun left fields → ArePut all begun fields
+put_all left all begun fields none goes = λ f b.
+    sym (append-nil (at_field f b fields)) ∙ ap (λ terms. at_field f b fields ++ of_key term_cmp (f, b) terms) (sym none) ∙ goes f b
 
 -- ---- one field after the other is put in order
 
@@ -82,9 +99,6 @@ at_one f g b before after same =
     split (eq_by_cmp nat_cmp f g)
     (λ is. rw is (ap (λ entries. of_key bytes_cmp b (entries_lent entries)) (append-nil after) ∙ same ∙ ap (λ entries. of_key bytes_cmp b (entries_lent entries)) (sym (append-nil before))))
     (λ isnt. rw isnt refl)
-
-abbrev pub at_field : ℕ → List ℕ → List (ℕ × List TermEntry) → List (ℕ × List ℕ)
-at_field f b fields = of_key bytes_cmp b (entries_lent (in_groups nat_cmp f fields))
 
 fields_more : (f : ℕ) (b : List ℕ) (xs ys : List (ℕ × List TermEntry)) → at_field f b (xs ++ ys) ≡ at_field f b xs ++ at_field f b ys
 fields_more f b xs ys =

@@ -27,9 +27,6 @@ bytes_lent values = map (λ (bytes : SmallVec ℕ). bytes.items) values
 abbrev pub keywords_lent : List (ℕ × (ℕ × Bor (List (SmallVec ℕ)))) → List (ℕ × (ℕ × List (List ℕ)))
 keywords_lent entries = map (λ (entry : ℕ × (ℕ × Bor (List (SmallVec ℕ)))). (entry.0, (entry.1.0, bytes_lent entry.1.1.now))) entries
 
-abbrev pub words_lent : List ((ℕ × Bor (List ℕ)) × (ℕ × Bor (List ℕ))) → List ((ℕ × List ℕ) × (ℕ × List ℕ))
-words_lent entries = map (λ (entry : (ℕ × Bor (List ℕ)) × (ℕ × Bor (List ℕ))). ((entry.0.0, entry.0.1.now), (entry.1.0, entry.1.1.now))) entries
-
 pub record EntriesState : Type 0 where
   pub scopes : List ℕ
   pub numbers : List (ℕ × (ℕ × List ℤ))

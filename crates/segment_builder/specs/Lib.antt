@@ -9,6 +9,7 @@ pub mod Entries
 pub mod Groups
 pub mod Regrouped
 pub mod Rising
+pub mod Marks
 pub mod Taken
 pub mod Terms
 pub mod Columns

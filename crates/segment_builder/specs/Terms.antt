@@ -1,14 +1,15 @@
 -- The terms of keyword and number fields, from the entries of documents.
 use denote.Ref.{Bor}
-use Rattle.std.specs.Prelude.{ℕ, ℤ, List, [], ◌∷◌, ◌++◌, map, slice_index_or, Vec, if◌then◌else◌}
+use Rattle.std.specs.Prelude.{◌≡◌, ℕ, ℤ, List, [], ◌∷◌, ◌++◌, map, slice_index_or, Vec, if◌then◌else◌}
 use Rattle.std.specs.Cmp.Lexicographic.{slice_cmp}
 use Rattle.std.specs.Int.{from_be_bytes, w64}
 use Rattle.std.specs.List.{flat_map}
 use Rattle.std.specs.Ordering.{nat_cmp}
 use Rattle.std.specs.Str.{bytes_eq}
 use Rattle.term_table.specs.Keys.{number_key}
+use Rattle.term_table.specs.Terms.{term_cmp}
 use Rattle.term_table.specs.declared.rows.TermRow.{TermRow}
-use Rattle.segment_builder.specs.Groups.{groups_seen, runs}
+use Rattle.segment_builder.specs.Groups.{groups_seen, in_groups, of_key, runs}
 
 -- terms of a field in a document, without positions
 abbrev pub terms_at : ℕ → ℕ → List (List ℕ) → List ((ℕ × List ℕ) × (ℕ × List ℕ))
@@ -48,6 +49,14 @@ row_group row = (row.term, row.postings)
 -- the entries of one field by the bytes of their terms
 abbrev pub entries_lent : List (Bor (List ℕ) × (ℕ × Bor (List ℕ))) → List (List ℕ × (ℕ × List ℕ))
 entries_lent entries = map (λ (entry : Bor (List ℕ) × (ℕ × Bor (List ℕ))). (entry.0.now, (entry.1.0, entry.1.1.now))) entries
+
+-- what fields carry at a term
+abbrev pub at_field : ℕ → List ℕ → List (ℕ × List (Bor (List ℕ) × (ℕ × Bor (List ℕ)))) → List (ℕ × List ℕ)
+at_field field bytes fields = of_key (slice_cmp nat_cmp) bytes (entries_lent (in_groups nat_cmp field fields))
+
+-- fields carry what others do and, behind it, what these terms do
+abbrev pub ArePut : List ((ℕ × List ℕ) × (ℕ × List ℕ)) → List (ℕ × List (Bor (List ℕ) × (ℕ × Bor (List ℕ)))) → List (ℕ × List (Bor (List ℕ) × (ℕ × Bor (List ℕ)))) → Type 0
+ArePut terms old new = (field : ℕ) (bytes : List ℕ) → at_field field bytes new ≡ at_field field bytes old ++ of_key term_cmp (field, bytes) terms
 
 -- the first eight bytes as a number, the first of them the highest
 unfoldable pub rank : List ℕ → ℕ

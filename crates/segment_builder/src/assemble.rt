@@ -10,15 +10,13 @@ ghost use Rattle.segment_parts.specs.Text.{head_text, segment_text};
 ghost use Rattle.segment_parts.specs.declared.columns.Columns.{Columns};
 ghost use Rattle.term_table.specs.Terms.{term_cmp};
 ghost use Rattle.segment_builder.specs.Blocks.{blocks_of, objects_of};
-ghost use Rattle.segment_builder.specs.Entries.{entries_in, flats_in, flats_lent, no_entries, with_blocks};
+ghost use Rattle.segment_builder.specs.Entries.{entries_in, flats_in, flats_lent, keywords_lent, no_entries, with_blocks};
 ghost use Rattle.segment_builder.specs.Given.{AreGiven};
 ghost use Rattle.segment_builder.specs.Groups.{AreGroups};
 ghost use Rattle.segment_builder.specs.Made.{AreSetsOf, IsMade, all_terms};
 ghost use Rattle.segment_builder.specs.Terms.{keys_kept, number_terms, row_group, rows_in};
 
-use crate::entries::{
-    Counts, counts_of, documents_of, keywords_of, numbers_of, scopes_of, texts_of,
-};
+use crate::entries::{counts_of, documents_of, keywords_of, numbers_of, scopes_of, texts_of};
 use crate::fit::blocks_fit;
 use crate::numbers::put_numbers;
 use crate::ordinals::put_ordinals;
@@ -26,10 +24,10 @@ use crate::present::put_texts;
 use crate::roots::put_roots;
 use crate::rows::{put_terms, sorted_fields};
 use crate::scopes::scope_sets;
-use crate::terms::{fields_of, keys_of, terms_of};
+use crate::terms::{fields_of, keys_of};
 use crate::{NoMemory, made_columns_agree, made_segments_are_blocks};
 use block_bits::words_are_of_one_set;
-use flattener::{Block, Document, blocks_are_of_their_mapping, blocks_are_small};
+use flattener::{Block, Document, Keyword, blocks_are_of_their_mapping, blocks_are_small};
 use mapping::{Mapping, names_lead_to_fields};
 use segment::{Segment, scopes_are_of_documents};
 use segment_parts::put_head_of;
@@ -79,8 +77,8 @@ fn made_of(alloc: Global, blocks: &[Block]) -> Result<Segment, NoMemory>
     Ok(segment)
 }
 
-/// The bytes of the segment of blocks, written part by part. What goes into a part is taken from the blocks when it is
-/// written; the terms alone are sorted before there are bytes, since nothing else takes as much room.
+/// The bytes of the segment of blocks, written part by part. Numbers and keywords are listed once, for the terms and for the
+/// columns; the terms are sorted before there are bytes, since nothing else takes as much room.
 fn bytes_of(alloc: Global, blocks: &[Block]) -> Result<Vec<u8>, NoMemory>
     requires { (m : Mapping) × AreGiven m (map block_seen blocks.now) }
     ensures { IfOk result (λ bytes. (columns : Columns) × IsMade (with_blocks no_entries (map block_seen blocks.now)) columns
@@ -90,15 +88,15 @@ fn bytes_of(alloc: Global, blocks: &[Block]) -> Result<Vec<u8>, NoMemory>
     let list = documents_of(alloc, blocks)?;
     let documents = list.as_slice();
     let counts = counts_of(documents);
-    let keys = keys_of(alloc, documents, counts)?;
-    let fields = sorted_terms(alloc, documents, keys.as_slice(), counts)?;
+    let keywords = keywords_of(alloc, documents, counts.keywords)?;
+    let numbers = numbers_of(alloc, documents, counts.numbers)?;
+    let keys = keys_of(alloc, numbers.as_slice())?;
+    let fields = sorted_terms(alloc, documents, keywords.as_slice(), keys.as_slice())?;
     let mut bytes = Vec::new(alloc);
     put_head(alloc, documents, &mut bytes)?;
     put_roots(blocks, &mut bytes)?;
     let terms = put_terms(alloc, fields, &mut bytes)?;
-    let keywords = keywords_of(alloc, documents, counts.keywords)?;
     put_ordinals(alloc, terms.as_slice(), keywords, &mut bytes)?;
-    let numbers = numbers_of(alloc, documents, counts.numbers)?;
     put_numbers(alloc, numbers, &mut bytes)?;
     let texts = texts_of(alloc, documents)?;
     put_texts(alloc, documents.len() as u32, texts, &mut bytes)?;
@@ -111,15 +109,15 @@ fn bytes_of(alloc: Global, blocks: &[Block]) -> Result<Vec<u8>, NoMemory>
 fn sorted_terms<'a>(
     alloc: Global,
     documents: &[&'a Document],
+    keywords: &[(u32, (u32, &'a [Keyword]))],
     keys: &'a [(u32, (u32, [u8; 8]))],
-    counts: Counts,
 ) -> Result<Vec<(u32, Vec<(&'a [u8], (u32, &'a [u32]))>)>, NoMemory>
     requires few { length documents.now < 2 ^ 32 }
+    requires keywords { keywords_lent keywords.now ≡ (entries_in (flats_lent documents.now)).keywords }
     requires keys { keys_kept keys.now ≡ number_terms (entries_in (flats_lent documents.now)).numbers }
     ensures { IfOk result (λ fields. AreGroups term_cmp (all_terms (entries_in (flats_lent documents.now))) (map row_group (rows_in fields.items))) }
 {
-    let terms = terms_of(alloc, documents, keys, counts)?;
-    let fields = fields_of(alloc, terms)?;
+    let fields = fields_of(alloc, documents, keywords, keys)?;
     Ok(sorted_fields(alloc, fields)?)
 }
 

@@ -9,8 +9,35 @@ use crate::NoMemory;
 use std::alloc::Global;
 use std::cmp::Ordering;
 
+/// So many fields have a slot of their own.
+const SLOTS: usize = 64;
+
+/// Where the group of a field was found last, in a slot that the field's number gives. It says where to look first: what
+/// stands there counts only where it is of the field, so it may be the place of another group.
+#[derive(Drop)]
+pub(crate) struct KnownPlaces {
+    places: [usize; 64],
+}
+
+impl KnownPlaces {
+    /// None yet.
+    pub(crate) fn new() -> KnownPlaces {
+        KnownPlaces { places: [0; 64] }
+    }
+
+    /// Where the group of a field was found last, if it is still there.
+    fn place(&self, field: u32) -> usize {
+        self.places[field as usize % SLOTS]
+    }
+
+    /// Notes where the group of a field stands.
+    fn note(&mut self, field: u32, place: usize) {
+        self.places[field as usize % SLOTS] = place;
+    }
+}
+
 /// What entries carry, put together by field, by ascending field and in the order of the entries. It is for few fields: the
-/// place of each entry's field is looked for among the fields so far, first behind the field of the entry before it.
+/// place of each entry's field is looked for among the fields so far, first where it was found last.
 pub fn grouped_by_field<P: Drop>(
     alloc: Global,
     entries: Vec<(u32, P)>,
@@ -18,53 +45,51 @@ pub fn grouped_by_field<P: Drop>(
     ensures { IfOk result (λ groups. AreGroups nat_cmp entries.items (groups_seen groups.items)) }
 {
     let mut groups = Vec::new(alloc);
-    let mut last = 0;
+    let mut known = KnownPlaces::new();
     'entries: for (field, member) in entries {
-        last = put(alloc, field, member, last, &mut groups)?;
+        put(alloc, field, member, &mut known, &mut groups)?;
     }
     Ok(groups)
 }
 
-/// Adds an entry to the group of its field, or as a new group, and gives the place of this group. The entry before it went
-/// to the group at `last`.
+/// Adds an entry to the group of its field, or as a new group.
 pub(crate) fn put<P: Drop>(
     alloc: Global,
     field: u32,
     member: P,
-    last: usize,
+    known: &mut KnownPlaces,
     groups: &mut Vec<(u32, Vec<P>)>,
-) -> Result<usize, NoMemory>
+) -> Result<(), NoMemory>
     requires { AreOrdered nat_cmp (groups_seen groups.old.items) }
     ensures gather { OnOk result ((any : ℕ) → in_groups nat_cmp any (groups_seen groups.new.items) ≡ in_groups nat_cmp any (groups_seen groups.old.items) ++ of_key nat_cmp any ((field, member) ∷ [])) }
     ensures ordered { OnOk result (AreOrdered nat_cmp (groups_seen groups.new.items)) }
 {
-    match place_behind(field, last, groups.as_slice()) {
+    match place_from(field, known.place(field), groups.as_slice()) {
         Ok(place) => {
+            known.note(field, place);
             let group = &mut groups[place];
             group.1.push(member)?;
-            Ok(place)
+            Ok(())
         }
         Err(gap) => {
+            known.note(field, gap);
             let mut members = Vec::new(alloc);
             members.push(member)?;
             groups.insert(gap, (field, members))?;
-            Ok(gap)
+            Ok(())
         }
     }
 }
 
-/// The place of the group of a field, or else where it belongs. It is looked for first behind the group at `last`.
-fn place_behind<P>(field: u32, last: usize, groups: &[(u32, P)]) -> Result<usize, usize>
+/// The place of the group of a field, or else where it belongs. It is looked for first at a place that may be its own.
+fn place_from<P>(field: u32, first: usize, groups: &[(u32, P)]) -> Result<usize, usize>
     requires { IsStrictlySortedBy nat_cmp (keys groups.now) }
     ensures place { IfOk result (λ place. (place < length groups.now) × (slice_index (keys groups.now) place ≡ field)) }
     ensures gap { IfErr result (λ gap. (gap ≤ length groups.now) × ((at : ℕ) → at < gap → slice_index (keys groups.now) at < field)
         × ((at : ℕ) → gap ≤ at → at < length groups.now → field < slice_index (keys groups.now) at)) }
 {
-    if last < groups.len() {
-        let next = last + 1;
-        if next < groups.len() && groups[next].0 == field {
-            return Ok(next);
-        }
+    if first < groups.len() && groups[first].0 == field {
+        return Ok(first);
     }
     place_of(field, groups)
 }

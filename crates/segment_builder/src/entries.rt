@@ -1,12 +1,12 @@
 //! What the documents of blocks carry, each thing with the number of its document and by its key, lent from the blocks.
 
 ghost use Rattle.std.specs.Prelude.{◌≡◌, ◌<◌, ◌^◌, ◌++◌, length, map, IfOk, OnOk};
-ghost use Rattle.segment_builder.specs.Entries.{entries_in, flats_in, flats_lent, keywords_lent, numbers_lent, words_lent};
+ghost use Rattle.segment_builder.specs.Entries.{entries_in, flats_in, flats_lent, keywords_lent, numbers_lent};
 ghost use Rattle.segment_builder.specs.Parts.{fields_with, tagged};
-ghost use Rattle.flattener.specs.Seen.{block_seen, document_seen, keyword_seen, number_seen, word_seen};
+ghost use Rattle.flattener.specs.Seen.{block_seen, document_seen, keyword_seen, number_seen};
 
 use crate::NoMemory;
-use flattener::{Block, Document, Keyword, KeywordField, NumberField, Word};
+use flattener::{Block, Document, Keyword, KeywordField, NumberField};
 use std::alloc::Global;
 
 /// The documents of blocks, one block behind the other.
@@ -37,7 +37,6 @@ fn document_count(blocks: &[Block]) -> usize {
 pub(crate) struct Counts {
     pub numbers: usize,
     pub keywords: usize,
-    pub words: usize,
 }
 
 /// How much documents carry.
@@ -45,12 +44,10 @@ pub(crate) fn counts_of(documents: &[&Document]) -> Counts {
     let mut counts = Counts {
         numbers: 0,
         keywords: 0,
-        words: 0,
     };
     'documents: for document in documents {
         counts.numbers = counts.numbers.saturating_add(document.numbers.len());
         counts.keywords = counts.keywords.saturating_add(document.keywords.len());
-        counts.words = counts.words.saturating_add(document.words.len());
     }
     counts
 }
@@ -115,22 +112,6 @@ pub(crate) fn keywords_of<'a>(
     Ok(keywords)
 }
 
-/// The words of documents by field and bytes, with room for so many terms.
-pub(crate) fn words_of<'a>(
-    alloc: Global,
-    documents: &[&'a Document],
-    count: usize,
-) -> Result<Vec<((u32, &'a [u8]), (u32, &'a [u32]))>, NoMemory>
-    requires { length documents.now < 2 ^ 32 }
-    ensures { IfOk result (λ words. words_lent words.items ≡ (entries_in (flats_lent documents.now)).words) }
-{
-    let mut words = Vec::with_capacity(alloc, count)?;
-    'documents: for doc in 0..documents.len() {
-        add_words(doc as u32, documents[doc].words.as_slice(), &mut words)?;
-    }
-    Ok(words)
-}
-
 /// The text fields of documents that have a value.
 pub(crate) fn texts_of(alloc: Global, documents: &[&Document]) -> Result<Vec<(u32, u32)>, NoMemory>
     requires { length documents.now < 2 ^ 32 }
@@ -167,23 +148,6 @@ fn add_keywords<'a>(
 {
     'fields: for field in fields {
         into.push((field.field, (doc, field.values.as_slice())))?;
-    }
-    Ok(())
-}
-
-/// Adds the words of a document by field and bytes.
-fn add_words<'a>(
-    doc: u32,
-    words: &'a [Word],
-    into: &mut Vec<((u32, &'a [u8]), (u32, &'a [u32]))>,
-) -> Result<(), NoMemory>
-    ensures { OnOk result (words_lent into.new.items ≡ words_lent into.old.items ++ tagged doc (map word_seen words.now)) }
-{
-    'words: for word in words {
-        into.push((
-            (word.field, word.word.as_slice()),
-            (doc, word.positions.as_slice()),
-        ))?;
     }
     Ok(())
 }

@@ -15,7 +15,7 @@ ghost use Rattle.segment_builder.specs.Taken.{AreValueEntries};
 
 use crate::NoMemory;
 use crate::by_field::grouped_by_field;
-use crate::find::{field_range, find};
+use crate::find::{KnownTerms, field_range};
 use flattener::Keyword;
 use part_text::{put_u32, put_u64};
 use std::alloc::Global;
@@ -69,8 +69,9 @@ fn put_column(
     put_u32(into, field)?;
     put_u32(into, members.len() as u32)?;
     let (from, end) = field_range(terms, field);
+    let mut known = KnownTerms::new();
     'members: for (doc, values) in members {
-        put_entry(terms, from, end, field, *doc, *values, into)?;
+        put_entry(terms, from, end, field, *doc, *values, &mut known, into)?;
     }
     Ok(())
 }
@@ -83,6 +84,7 @@ fn put_entry(
     field: u32,
     doc: u32,
     values: &[Keyword],
+    known: &mut KnownTerms,
     into: &mut Vec<u8>,
 ) -> Result<(), NoMemory>
     requires ascending { AreAscending (terms_lent terms.now) }
@@ -94,7 +96,8 @@ fn put_entry(
     put_u32(into, doc)?;
     put_u32(into, values.len() as u32)?;
     'values: for value in values {
-        put_u64(into, find(terms, from, end, field, value.as_slice()) as u64)?;
+        let place = known.find(terms, from, end, field, value.as_slice());
+        put_u64(into, place as u64)?;
     }
     Ok(())
 }

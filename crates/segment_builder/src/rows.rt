@@ -82,7 +82,8 @@ fn byte_at(bytes: &[u8], at: usize) -> u8
     0
 }
 
-/// Appends the terms of fields, which rise, each with its postings, and gives these terms.
+/// Appends the terms of fields, which rise, each with its postings, and gives these terms. Their number stands in front of
+/// them, so they are written apart first.
 pub(crate) fn put_terms<'a>(
     alloc: Global,
     fields: Vec<(u32, Vec<(&'a [u8], (u32, &'a [u32]))>)>,
@@ -93,72 +94,48 @@ pub(crate) fn put_terms<'a>(
     ensures rows { OnOk result (AreRows (rows_in fields.entry.items)) }
     ensures text { OnOk result (into.new.items ≡ into.old.items ++ rows_text (rows_in fields.entry.items)) }
 {
-    let terms = terms_of_fields(alloc, fields.as_slice())?;
-    put_u64(into, terms.len() as u64)?;
-    put_fields(fields.as_slice(), into)?;
-    Ok(terms)
-}
-
-/// The terms of fields, each once.
-fn terms_of_fields<'a>(
-    alloc: Global,
-    fields: &[(u32, Vec<(&'a [u8], (u32, &'a [u32]))>)],
-) -> Result<Vec<(u32, &'a [u8])>, NoMemory>
-    ensures { IfOk result (λ terms. terms_lent terms.items ≡ terms_in (rows_in fields.now)) }
-{
     let mut terms = Vec::new(alloc);
-    'fields: for (field, entries) in fields {
-        add_terms(*field, entries.as_slice(), &mut terms)?;
-    }
+    let mut rows = Vec::new(alloc);
+    put_fields(fields.as_slice(), &mut terms, &mut rows)?;
+    put_u64(into, terms.len() as u64)?;
+    into.extend_from_slice(rows.as_slice())?;
     terms.shrink_to_fit();
     Ok(terms)
 }
 
-/// Adds the terms of a field's entries, which rise, each once.
-fn add_terms<'a>(
-    field: u32,
-    entries: &[(&'a [u8], (u32, &'a [u32]))],
-    into: &mut Vec<(u32, &'a [u8])>,
-) -> Result<(), NoMemory>
-    ensures { OnOk result (terms_lent into.new.items ≡ terms_lent into.old.items ++ terms_in (field_rows field entries.now)) }
-{
-    let mut at = 0;
-    'rows: while at < entries.len() {
-        let bytes = entries[at].0;
-        into.push((field, bytes))?;
-        at += run_len(&bytes, entries.split_at(at).1);
-    }
-    Ok(())
-}
-
-/// Appends the rows of fields.
-fn put_fields(
-    fields: &[(u32, Vec<(&[u8], (u32, &[u32]))>)],
+/// Appends the rows of fields, and adds their terms.
+fn put_fields<'a>(
+    fields: &[(u32, Vec<(&'a [u8], (u32, &'a [u32]))>)],
+    terms: &mut Vec<(u32, &'a [u8])>,
     into: &mut Vec<u8>,
 ) -> Result<(), NoMemory>
     requires { AllByRecursion IsRow (rows_in fields.now) }
-    ensures { OnOk result (into.new.items ≡ into.old.items ++ flat_map row_text (rows_in fields.now)) }
+    ensures terms { OnOk result (terms_lent terms.new.items ≡ terms_lent terms.old.items ++ terms_in (rows_in fields.now)) }
+    ensures text { OnOk result (into.new.items ≡ into.old.items ++ flat_map row_text (rows_in fields.now)) }
 {
     'fields: for (field, entries) in fields {
-        put_rows(*field, entries.as_slice(), into)?;
+        put_rows(*field, entries.as_slice(), terms, into)?;
     }
     Ok(())
 }
 
-/// Appends the rows of a field's entries, whose terms rise.
-fn put_rows(
+/// Appends the rows of a field's entries, whose terms rise, and adds their terms, each once.
+fn put_rows<'a>(
     field: u32,
-    entries: &[(&[u8], (u32, &[u32]))],
+    entries: &[(&'a [u8], (u32, &'a [u32]))],
+    terms: &mut Vec<(u32, &'a [u8])>,
     into: &mut Vec<u8>,
 ) -> Result<(), NoMemory>
     requires { AllByRecursion IsRow (field_rows field entries.now) }
-    ensures { OnOk result (into.new.items ≡ into.old.items ++ flat_map row_text (field_rows field entries.now)) }
+    ensures terms { OnOk result (terms_lent terms.new.items ≡ terms_lent terms.old.items ++ terms_in (field_rows field entries.now)) }
+    ensures text { OnOk result (into.new.items ≡ into.old.items ++ flat_map row_text (field_rows field entries.now)) }
 {
     let mut at = 0;
     'rows: while at < entries.len() {
         let bytes = entries[at].0;
         let rest = entries.split_at(at).1;
         let count = run_len(&bytes, rest);
+        terms.push((field, bytes))?;
         put_row(field, bytes, rest.split_at(count).0, into)?;
         at += count;
     }

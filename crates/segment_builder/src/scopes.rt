@@ -1,8 +1,9 @@
 //! The documents of each scope.
 
-ghost use Rattle.std.specs.Prelude.{◌≡◌, ℕ, ◌+◌, ◌-◌, ◌<◌, ◌≤◌, ◌^◌, ◌⊎◌, if◌then◌else◌, true, slice_set, length, map, Contains, IfOk};
+ghost use Rattle.std.specs.Prelude.{◌≡◌, ◌+◌, ◌-◌, ◌<◌, ◌≤◌, ◌^◌, ◌⊎◌, length, map, Contains, IfOk};
 ghost use Rattle.std.specs.List.{All, range_with_len};
 ghost use Rattle.block_bits.specs.Blocks.{documents_of};
+ghost use Rattle.segment_builder.specs.Marks.{marked_to};
 
 use crate::NoMemory;
 use block_bits::{BitList, BitSet};
@@ -18,10 +19,8 @@ pub fn scope_sets(alloc: Global, scopes: &[u32]) -> Result<BitList, NoMemory>
     ensures fewer { IfOk result (λ sets. length sets < 2 ^ 32) }
 {
     let count = scope_count(scopes);
-    let mut sets = Vec::new(alloc);
-    'scopes: for scope in 0..count {
-        sets.push(documents(alloc, scopes, scope)?)?;
-    }
+    let mut sets = empty_sets(alloc, scopes, count)?;
+    mark(scopes, &mut sets);
     Ok(BitList::of(sets))
 }
 
@@ -49,25 +48,27 @@ fn count_with(count: u32, scope: u32) -> u32
     if scope < count { count } else { scope + 1 }
 }
 
-/// The documents of a scope.
-fn documents(alloc: Global, scopes: &[u32], scope: u32) -> Result<BitSet, NoMemory>
+/// So many sets of none of the documents of scopes.
+fn empty_sets(alloc: Global, scopes: &[u32], count: u32) -> Result<Vec<BitSet>, NoMemory>
     requires { length scopes.now < 2 ^ 32 }
-    ensures { IfOk result (λ set. set ≡ documents_of scopes.now scope) }
+    ensures { IfOk result (λ sets. sets.items ≡ map (marked_to scopes.now 0) (range_with_len 0 count)) }
 {
-    let len = scopes.len() as u32;
-    let mut set = BitSet::empty(alloc, len)?;
-    'docs: for doc in 0..len {
-        mark_if(&mut set, doc, scopes[doc as usize] == scope);
+    let mut sets = Vec::new(alloc);
+    'scopes: for _scope in 0..count {
+        sets.push(BitSet::empty(alloc, scopes.len() as u32)?)?;
     }
-    Ok(set)
+    Ok(sets)
 }
 
-/// Puts a document into a set, if it is one of it.
-fn mark_if(set: &mut BitSet, doc: u32, is: bool)
-    requires { doc < length set.old }
-    ensures { set.new ≡ (if is then slice_set set.old doc true else set.old) }
+/// Puts each document into the set of its scope.
+fn mark(scopes: &[u32], sets: &mut Vec<BitSet>)
+    requires few { length scopes.now < 2 ^ 32 }
+    requires within { All (λ scope. scope < length sets.old.items) scopes.now }
+    requires empty { sets.old.items ≡ map (marked_to scopes.now 0) (range_with_len 0 (length sets.old.items)) }
+    ensures { sets.new.items ≡ map (documents_of scopes.now) (range_with_len 0 (length sets.old.items)) }
 {
-    if is {
-        set.set(doc);
+    'docs: for doc in 0..scopes.len() {
+        let set = &mut sets[scopes[doc] as usize];
+        set.set(doc as u32);
     }
 }

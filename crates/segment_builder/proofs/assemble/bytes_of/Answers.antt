@@ -37,7 +37,7 @@ put_terms-requires c =
 pub put_ordinals-requires-clause-entries : goal.put_ordinals-requires-clause-entries
 put_ordinals-requires-clause-entries c =
     let flats = ap flats_lent c.as_slice-documents.ensures.value ∙ c.in_ok-list.ensures in
-    let terms : terms_lent c.as_slice-2.result.now ≡ terms_in (rows_in c.in_ok-fields.fields.items) = ap terms_lent c.as_slice-2.ensures.value ∙ c.in_ok-terms.ensures.terms in (
+    let terms : terms_lent c.as_slice-4.result.now ≡ terms_in (rows_in c.in_ok-fields.fields.items) = ap terms_lent c.as_slice-4.ensures.value ∙ c.in_ok-terms.ensures.terms in (
       length (flats_in (map block_seen c.args.blocks.now)),
       rw c.in_ok-keywords.ensures
           (subst (λ own. AreValueEntries (slice_cmp nat_cmp) (λ field bytes. Contains own (field, bytes)) (length (flats_in (map block_seen c.args.blocks.now))) (entries_in (flats_lent c.as_slice-documents.result.now)).keywords) (sym terms)
@@ -67,7 +67,7 @@ returns c =
     let head = c.in_ok-put_head.ensures in
     let count = length c.as_slice-documents.result.now in
     let sets = subst (λ (e : EntriesState). AreSetsOf e.scopes head.0) same head.1 in
-    let terms : terms_lent c.as_slice-2.result.now ≡ terms_in rows = ap terms_lent c.as_slice-2.ensures.value ∙ c.in_ok-terms.ensures.terms in
+    let terms : terms_lent c.as_slice-4.result.now ≡ terms_in rows = ap terms_lent c.as_slice-4.ensures.value ∙ c.in_ok-terms.ensures.terms in
     let columns : Columns = record {
       documents = count;
       scopes = head.0;

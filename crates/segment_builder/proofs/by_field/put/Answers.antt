@@ -4,8 +4,8 @@ use Rattle.std.specs.Ordering.{nat_cmp}
 use Rattle.segment_builder.proofs.Inserted.{inserted_in, inserted_ordered, more_in, more_ordered, seen_keys}
 use Rattle.segment_builder.proofs.by_field.put.Goals as goal
 
-pub place_behind-requires : goal.place_behind-requires
-place_behind-requires g c = rw c.as_slice.ensures.value (subst (IsStrictlySortedBy nat_cmp) (seen_keys c.args.groups.now.items) c.requires.ascending)
+pub place_from-requires : goal.place_from-requires
+place_from-requires g c = rw c.as_slice.ensures.value (subst (IsStrictlySortedBy nat_cmp) (seen_keys c.args.groups.now.items) c.requires.ascending)
 
 pub returns-in_ok-push-in-Ok-clause-gather : goal.returns-in_ok-push-in-Ok-clause-gather
 returns-in_ok-push-in-Ok-clause-gather g c = λ any.

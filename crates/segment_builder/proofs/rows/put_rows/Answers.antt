@@ -1,7 +1,10 @@
-use Rattle.std.proofs.Common.{◌+◌, drop, length, refl, ap, subst, arith, length-drop}
+use Rattle.std.proofs.Common.{◌+◌, ◌++◌, drop, length, refl, ap, subst, ◌∙◌, arith, length-drop}
+use Rattle.std.proofs.lemmas.List.{map-append}
 use Rattle.std.specs.List.{AllByRecursion}
 use Rattle.term_table.specs.Part.{row_text, IsRow}
+use Rattle.segment_builder.specs.Columns.{terms_in, terms_lent}
 use Rattle.segment_builder.specs.Terms.{field_rows}
+use Rattle.segment_builder.proofs.Among.{goes_on}
 use Rattle.segment_builder.proofs.Lent.{row_at}
 use Rattle.segment_builder.proofs.Listed.{put_one}
 use Rattle.segment_builder.proofs.rows.put_rows.Goals as goal
@@ -25,4 +28,8 @@ rows-preserved c =
       omega (arith, c.rows-test.true, c.run_len-count.ensures.within, ap length c.split_at.ensures.back, length-drop c.rows.at c.args.entries.now),
       (subst (AllByRecursion IsRow) here.1 c.rows.invariant.1).1,
       put_one row_text c.rows.into.items c.put_row.new.into.items _ _ (field_rows c.args.field (drop c.rows.at c.args.entries.now)) (field_rows c.args.field (drop (c.rows.at + c.run_len-count.result) c.args.entries.now)) here.1 (rw c.split_at-in-rows.ensures.front at c.in_ok-put_row.ensures) c.rows.invariant.2,
+      goes_on (terms_lent c.rows.terms.items) (terms_in (field_rows c.args.field (drop c.rows.at c.args.entries.now))) (terms_lent c.push.new.self.items) (terms_in (field_rows c.args.field (drop (c.rows.at + c.run_len-count.result) c.args.entries.now))) (terms_lent c.args.terms.now.items ++ terms_in (field_rows c.args.field c.args.entries.now)) _
+          (ap terms_in here.1)
+          (ap terms_lent c.in_ok-push.ensures.items ∙ map-append (λ term. (term.0, term.1.now)) c.rows.terms.items _)
+          c.rows.invariant.3,
     )

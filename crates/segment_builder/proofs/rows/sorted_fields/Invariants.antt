@@ -1,7 +1,8 @@
 use Rattle.std.proofs.Common.{◌≡◌, ℕ, List, ◌++◌}
 use Rattle.std.specs.Vec.Iter.{into_iter_items}
 use Rattle.segment_builder.specs.Groups.{groups_seen, keys}
-use Rattle.segment_builder.proofs.Fielded.{AreAllRising, at_field}
+use Rattle.segment_builder.specs.Terms.{at_field}
+use Rattle.segment_builder.proofs.Fielded.{AreAllRising}
 use Rattle.segment_builder.proofs.rows.sorted_fields.Given as goal
 
 abbrev pub invariant-fields : goal.invariant-fields

@@ -1,28 +1,20 @@
-use Rattle.std.proofs.Common.{refl, sym, ◌∙◌}
+use Rattle.std.proofs.Common.{[], ◌++◌, refl}
 use Rattle.std.proofs.lemmas.Cmp.{nat_cmp_total}
 use Rattle.std.specs.Ordering.{nat_cmp}
-use Rattle.segment_builder.proofs.Fielded.{put_all, put_on}
+use Rattle.segment_builder.specs.Entries.{entries_in, flats_lent}
+use Rattle.segment_builder.specs.Groups.{groups_seen}
+use Rattle.segment_builder.specs.Terms.{keyword_terms, number_terms}
+use Rattle.segment_builder.proofs.Fielded.{put_both}
 use Rattle.segment_builder.proofs.InOrder.{none_ordered}
 use Rattle.segment_builder.proofs.terms.fields_of.Goals as goal
 
-pub terms-init : goal.terms-init
-terms-init c = (
-  tt,
-  tt,
-  (λ field bytes. rw (c.new-fields.ensures.items, c.into_iter-field-iterator.ensures.into_iter_gives.0) refl),
-  none_ordered nat_cmp nat_cmp_total _ (rw c.new-fields.ensures.items refl),
-)
+pub put_words_of-requires-clause-ordered : goal.put_words_of-requires-clause-ordered
+put_words_of-requires-clause-ordered c = none_ordered nat_cmp nat_cmp_total _ (rw c.new-fields.ensures.items refl)
 
-pub terms-preserved : goal.terms-preserved
-terms-preserved c = (
-  tt,
-  tt,
-  (λ field bytes. put_on field bytes _ _ _ _ _ _ _ _ c.in-Some.ensures.steps.0 (c.in_ok-last.ensures.gather field) (c.terms.invariant.2 field bytes)),
-  c.in_ok-last.ensures.ordered,
-)
-
-pub returns-clause-same : goal.returns-clause-same
-returns-clause-same c = λ field bytes. put_all field bytes _ _ _ (sym c.terms.field-iterator.rest.ok.0 ∙ c.in-None.ensures.steps.0) (c.terms.invariant.2 field bytes)
-
-pub returns-clause-ordered : goal.returns-clause-ordered
-returns-clause-ordered c = c.terms.invariant.3
+pub returns-clause-put : goal.returns-clause-put
+returns-clause-put c =
+    let it = entries_in (flats_lent c.args.documents.now) in
+    put_both (it.words ++ keyword_terms it.keywords) (number_terms it.numbers) [] (groups_seen c.put_keyword_terms.new.into.items) (groups_seen c.put_number_terms.new.into.items)
+    (put_both it.words (keyword_terms it.keywords) [] (groups_seen c.put_words_of.new.into.items) (groups_seen c.put_keyword_terms.new.into.items)
+    (rw c.new-fields.ensures.items at c.in_ok-put_words_of.ensures.put) (rw c.requires.keywords at c.in_ok-put_keyword_terms.ensures.put))
+    (rw c.requires.keys at c.in_ok-put_number_terms.ensures.put)

@@ -1,0 +1,5 @@
+use Rattle.segment_builder.proofs.Fielded.{put_one}
+use Rattle.segment_builder.proofs.terms.put_term.Goals as goal
+
+pub returns-clause-put : goal.returns-clause-put
+returns-clause-put c = put_one c.args.field c.args.bytes (c.args.doc, c.args.positions) _ _ c.in_ok-put.ensures.gather
