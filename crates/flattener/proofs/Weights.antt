@@ -1,6 +1,6 @@
 -- The items that a value has along names are together no longer than its compact text, and no text is longer than the
 -- compact text that it is written by.
-use Rattle.std.proofs.Common.{◌≡◌, ℕ, zero, suc, ◌+◌, ◌<◌, ◌≤◌, ◌==◌, ◌/◌, ◌%◌, ℤ, pos, negsuc, Bool, true, false, nat_lt, List as Seq, [], ◌∷◌, ◌++◌, length, length-append, filter, map, get_or, ap, arith, bytes_eq, codes, Option, Some, None}
+use Rattle.std.proofs.Common.{◌≡◌, ℕ, zero, suc, ◌+◌, ◌*◌, ◌<◌, ◌≤◌, ◌==◌, ◌/◌, ◌%◌, ℤ, pos, negsuc, Bool, true, false, nat_lt, List as Seq, [], ◌∷◌, ◌++◌, length, length-append, filter, get_or, ap, arith, bytes_eq, codes, Some}
 use Rattle.std.specs.Fmt.{decimal, digit_glyph, digits, digits_onto, signed_decimal}
 use Rattle.json.specs.Print.{escape, escape_byte, escape_letter}
 use Rattle.mapping_body.proofs.Walks.{split}
@@ -36,6 +36,26 @@ escape_long (byte ∷ s) = omega (arith, letter_long byte, escape_long s, length
 pub quoted_long : (s : Seq ℕ) → length s + 2 ≤ length (quoted s)
 unfolding quoted
 quoted_long s = omega (arith, escape_long s, length-append (codes "\"") (escape s ++ codes "\""), length-append (escape s) (codes "\""))
+
+letter_short : (byte : ℕ) → length (escape_byte byte) ≤ 6
+unfolding escape_byte
+letter_short byte =
+    split (nat_lt 0 (escape_letter byte))
+    (λ short. rw short (omega arith))
+    (λ other. split (nat_lt byte 32)
+    (λ control. rw (other, control) (omega arith))
+    (λ plain. rw (other, plain) (omega arith)))
+
+escape_short : (s : Seq ℕ) → length (escape s) ≤ 6 * length s
+escape_short [] = omega arith
+escape_short (byte ∷ s) = omega (arith, letter_short byte, escape_short s, length-append (escape_byte byte) (escape s))
+
+-- a text that is short for the room that there is fits there, with two bytes more
+pub quoted_fits : (s : Seq ℕ) (room : ℕ) → length s < room / 8 → length (quoted s) + 2 ≤ room
+unfolding quoted
+quoted_fits s room short = omega (arith, short, escape_short s, length-append (codes "\"") (escape s ++ codes "\""), length-append (escape s) (codes "\""))
+
+pub ruleset fitting = (quoted_fits)
 
 onto_some : (k n : ℕ) (digits : Seq ℕ) → 1 ≤ length digits → 1 ≤ length (digits_onto k 10 false n digits)
 onto_some zero n digits some = some

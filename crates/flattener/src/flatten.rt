@@ -13,12 +13,16 @@ ghost use Rattle.flattener.specs.Walked.{flat_pair, walked};
 use crate::document::{Block, Document};
 use crate::join::join_of;
 use crate::refusal::{FlattenRefusal, NoMemory, WalkRefusal};
+use crate::source_text::compact_text;
 use crate::walk::walk;
 use mapping::Mapping;
 use segment::{Bytes, Root};
 use std::alloc::Global;
-use tree_json::{Json, OutText, print};
+use tree_json::Json;
 use tree_objects::{Fault, first_fault};
+
+/// The bytes of a source for each of its documents, for which room is made at first.
+const DOCUMENT_BYTES: u64 = 48;
 
 /// The block of a tree by its source, its id, its sequence number and the generation of the mapping that it is indexed
 /// under. The refusals are looked for in the order of `FlattenRefusal`: a fault is the first that a walk over the
@@ -42,7 +46,8 @@ pub fn block(
 {
     faultless(alloc, mapping, generation, source)?;
     let documents = documents(alloc, mapping, generation, source)?;
-    let root = root_of(alloc, mapping, generation, source, id, number)?;
+    let room = (documents.len() as u64).saturating_mul(DOCUMENT_BYTES);
+    let root = root_of(alloc, mapping, generation, source, id, number, room)?;
     Ok(Block { documents, root })
 }
 
@@ -98,7 +103,7 @@ fn documents(
     }
 }
 
-/// What is kept of a root.
+/// What is kept of a root, whose source has room from so many bytes on.
 #[tactic(auto, using(crate::proofs::Wholes::roots))]
 fn root_of(
     alloc: Global,
@@ -107,6 +112,7 @@ fn root_of(
     source: &Json,
     id: &[u8],
     number: u64,
+    room: u64,
 ) -> Result<Root, NoMemory>
     ensures root { IfOk result (λ r. root_seen r ≡ root_of_tree mapping.now (tree_given id.now number (view source.now) generation)) }
     ensures reads_back { IfOk result (λ r. levels (view source.now) ≤ most_levels → reading r.source ≡ is_value (view source.now)) }
@@ -116,16 +122,6 @@ fn root_of(
         number,
         generation,
         join: join_of(alloc, mapping, generation, source)?,
-        source: Bytes::of(compact_text(alloc, source)?),
+        source: Bytes::of(compact_text(alloc, source, room)?),
     })
-}
-
-/// The compact text of a value.
-fn compact_text(alloc: Global, value: &Json) -> Result<Vec<u8>, NoMemory>
-    ensures text { IfOk result (λ v. v.items ≡ compact (view value.now)) }
-    ensures reads_back { IfOk result (λ v. levels (view value.now) ≤ most_levels → reading v.items ≡ is_value (view value.now)) }
-{
-    let mut text = OutText::empty(alloc);
-    print(value, &mut text)?;
-    Ok(text.into_vec())
 }

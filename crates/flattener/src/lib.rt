@@ -14,6 +14,7 @@ mod law;
 mod names;
 mod refusal;
 mod shown;
+mod source_text;
 mod texts;
 mod values;
 mod walk;
