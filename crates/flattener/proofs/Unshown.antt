@@ -41,9 +41,8 @@ module _ (f : ℕ) (t : JsonValue → Option FieldValue) (vs : List JsonValue) (
   no_texts true = rw e refl
   no_texts false = refl
 
-pub unshown_adds : (m : Mapping) (g f s : ℕ) (v : JsonValue) (d : FlatDocument) → ((home_of m f == s) || included m f s) ≡ false → Adds m g s v f d d
-unshown_adds m g f s v d none =
-    let e = nothing_shown m g f s v none in
+pub nothing_adds : (m : Mapping) (g f s : ℕ) (v : JsonValue) (d : FlatDocument) → shown_items m g f s v ≡ [] → Adds m g s v f d d
+nothing_adds m g f s v d e =
     let numbers : numbers_of m g s v f ≡ [] = no_numbers f (convert (kind_at m f)) (shown_items m g f s v) e (has_numbers (kind_at m f)) in
     let keywords : keywords_of m g s v f ≡ [] = no_keywords f (convert (kind_at m f)) (shown_items m g f s v) e (is_keyword (kind_at m f)) in
     let words : words_of m g s v f ≡ [] = no_words f (convert (kind_at m f)) (shown_items m g f s v) e (is_text (kind_at m f)) in
@@ -55,6 +54,9 @@ unshown_adds m g f s v d none =
       words = rw words (sym (nothing_more d.words));
       texts = rw texts (sym (nothing_more d.texts));
     }
+
+pub unshown_adds : (m : Mapping) (g f s : ℕ) (v : JsonValue) (d : FlatDocument) → ((home_of m f == s) || included m f s) ≡ false → Adds m g s v f d d
+unshown_adds m g f s v d none = nothing_adds m g f s v d (nothing_shown m g f s v none)
 
 -- ---- where a field can be included
 

@@ -11,11 +11,12 @@ ghost use Rattle.flattener.specs.Flat.{ascending, bytes_cmp, numbers_in, texts_i
 ghost use Rattle.flattener.specs.Fits.{most_source};
 ghost use Rattle.flattener.specs.Placing.{room, texts_among};
 ghost use Rattle.flattener.specs.Seen.{document_seen};
-ghost use Rattle.flattener.specs.Walked.{flat_at, kept, valued};
+ghost use Rattle.flattener.specs.Walked.{flat_at, kept, shown_items, valued};
 
 use crate::document::{Document, KeywordField, NumberField};
+use crate::gather::MaybeSeveral;
 use crate::refusal::NoMemory;
-use crate::shown::{find_shown, is_shown};
+use crate::shown::{find_shown, is_shown, shown_alone};
 use crate::texts::{has_text, push_words_of_field, tokens};
 use crate::values::{keywords, numbers};
 use mapping::{Kind, Mapping};
@@ -87,8 +88,8 @@ fn add_if_shown<'a>(
     )
 }
 
-/// Adds what a field shows to a document.
-#[tactic(auto, using(crate::proofs::Wording::converting, crate::proofs::Lightness::light))]
+/// Adds what a field shows to a document, if its kind has values.
+#[tactic(auto, using(crate::proofs::Wording::converting))]
 fn add_field<'a>(
     alloc: Global,
     mapping: &Mapping,
@@ -105,26 +106,85 @@ fn add_field<'a>(
     ensures { OnOk result (Adds mapping.now generation scope (view content.now) field (document_seen into.old) (document_seen into.new)) }
 {
     match mapping.kind(field) {
-        Kind::Text => {
-            find_shown(alloc, mapping, generation, field, scope, content, found)?;
-            add_text(alloc, field, found.as_slice(), into)
+        Kind::Object => Ok(()),
+        Kind::Nested => Ok(()),
+        Kind::Join => Ok(()),
+        _ => add_shown(
+            alloc, mapping, generation, scope, content, field, found, into,
+        ),
+    }
+}
+
+/// Adds what a field shows to a document. A list is made only where the source has one.
+fn add_shown<'a>(
+    alloc: Global,
+    mapping: &Mapping,
+    generation: u32,
+    scope: u32,
+    content: &'a Json,
+    field: u32,
+    found: &mut Vec<&'a Json>,
+    into: &mut Document,
+) -> Result<(), NoMemory>
+    requires field { field < length mapping.now.fields }
+    requires scope { scope < length mapping.now.scopes }
+    requires light { length (compact (view content.now)) ≤ most_source }
+    ensures { OnOk result (Adds mapping.now generation scope (view content.now) field (document_seen into.old) (document_seen into.new)) }
+{
+    match shown_alone(mapping, generation, field, scope, content) {
+        Ok(None) => Ok(()),
+        Ok(Some(item)) => {
+            add_items(
+                alloc,
+                mapping,
+                generation,
+                scope,
+                content,
+                field,
+                &[item],
+                into,
+            )
         }
-        Kind::Keyword => {
+        Err(MaybeSeveral) => {
             find_shown(alloc, mapping, generation, field, scope, content, found)?;
-            add_keywords(alloc, field, found.as_slice(), into)
+            add_items(
+                alloc,
+                mapping,
+                generation,
+                scope,
+                content,
+                field,
+                found.as_slice(),
+                into,
+            )
         }
-        Kind::Long => {
-            find_shown(alloc, mapping, generation, field, scope, content, found)?;
-            add_numbers(alloc, Kind::Long, field, found.as_slice(), into)
-        }
-        Kind::Boolean => {
-            find_shown(alloc, mapping, generation, field, scope, content, found)?;
-            add_numbers(alloc, Kind::Boolean, field, found.as_slice(), into)
-        }
-        Kind::Date => {
-            find_shown(alloc, mapping, generation, field, scope, content, found)?;
-            add_numbers(alloc, Kind::Date, field, found.as_slice(), into)
-        }
+    }
+}
+
+/// Adds what a field's items are to a document.
+#[inline(always)]
+#[tactic(auto, using(crate::proofs::Wording::converting, crate::proofs::Lightness::light))]
+fn add_items(
+    alloc: Global,
+    mapping: &Mapping,
+    generation: u32,
+    scope: u32,
+    content: &Json,
+    field: u32,
+    items: &[&Json],
+    into: &mut Document,
+) -> Result<(), NoMemory>
+    requires field { field < length mapping.now.fields }
+    requires light { length (compact (view content.now)) ≤ most_source }
+    requires items { map (λ j. view j.now) items.now ≡ shown_items mapping.now generation field scope (view content.now) }
+    ensures { OnOk result (Adds mapping.now generation scope (view content.now) field (document_seen into.old) (document_seen into.new)) }
+{
+    match mapping.kind(field) {
+        Kind::Text => add_text(alloc, field, items, into),
+        Kind::Keyword => add_keywords(alloc, field, items, into),
+        Kind::Long => add_numbers(alloc, Kind::Long, field, items, into),
+        Kind::Boolean => add_numbers(alloc, Kind::Boolean, field, items, into),
+        Kind::Date => add_numbers(alloc, Kind::Date, field, items, into),
         Kind::Object => Ok(()),
         Kind::Nested => Ok(()),
         Kind::Join => Ok(()),

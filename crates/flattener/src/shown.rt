@@ -1,13 +1,14 @@
 //! The items of a field that an object shows.
 ghost use Rattle.std.specs.Prelude.{◌≡◌, ◌++◌, ◌<◌, ◌==◌, ◌||◌, length, map, filter, option_map, nat_le, reverse, IfOk, OnOk};
 ghost use Rattle.std.specs.List.{All, flat_map, list_all};
+ghost use Rattle.std.specs.Option.{option_to_list};
 ghost use Rattle.tree_json.specs.Value.{is_object};
 ghost use Rattle.tree_json.specs.View.{view};
 ghost use Rattle.mapping.specs.Mapping.{outer, home_of, included, scope_at};
 ghost use Rattle.tree_objects.specs.Object.{items, way};
 ghost use Rattle.flattener.specs.Walked.{names_left, children_at, along, own_items, shown_items};
 
-use crate::gather::gather;
+use crate::gather::{MaybeSeveral, alone, gather};
 use crate::names::below;
 use crate::refusal::NoMemory;
 use mapping::Mapping;
@@ -28,6 +29,30 @@ pub(crate) fn is_shown(mapping: &Mapping, field: u32, scope: u32) -> bool
         return false;
     }
     home == scope || mapping.included(field, scope)
+}
+
+/// The item of a field that an object of a scope shows, or none, where that is its home and no list stands on the way: most
+/// fields are such.
+pub(crate) fn shown_alone<'a>(
+    mapping: &Mapping,
+    generation: u32,
+    field: u32,
+    scope: u32,
+    content: &'a Json,
+) -> Result<Option<&'a Json>, MaybeSeveral>
+    requires field { field < length mapping.now.fields }
+    requires scope { scope < length mapping.now.scopes }
+    ensures { IfOk result (λ item. shown_items mapping.now generation field scope (view content.now) ≡ option_to_list (option_map (λ j. view j.now) item)) }
+{
+    if mapping.home(field) != scope {
+        Err(MaybeSeveral)
+    } else if mapping.knows(generation, field) {
+        let _ = mapping.scope_count();
+        let above = mapping.scope_path(scope);
+        alone(content, below(above, mapping.path(field)))
+    } else {
+        Ok(None)
+    }
 }
 
 /// Finds the items of a field that an object of a scope shows, in document order, in place of what was found before.

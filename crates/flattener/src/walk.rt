@@ -12,6 +12,7 @@ ghost use Rattle.flattener.specs.Walked.{children_at, inner, kid_part, names_beh
 
 use crate::document::Document;
 use crate::fields::{begun, fill};
+use crate::gather::member;
 use crate::names::first_name;
 use crate::refusal::{NoMemory, WalkRefusal};
 use crate::shown::{outer, path_of};
@@ -234,7 +235,7 @@ fn walk_member<'a>(
     ensures many { IsErrOf result WalkRefusal.TooManyObjects → most_documents < length into.old.items + length (walked_of mapping.now generation left kid (items (object (members_of within.now)) (names_behind path.now))) }
 {
     let (name, rest) = first_name(path);
-    match within.member(name) {
+    match member(within, name) {
         Some(value) => walk_items(
             alloc, mapping, generation, left, kid, value, rest, found, into,
         ),
