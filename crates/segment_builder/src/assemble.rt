@@ -16,7 +16,7 @@ ghost use Rattle.segment_builder.specs.Groups.{AreGroups};
 ghost use Rattle.segment_builder.specs.Made.{AreSetsOf, IsMade, all_terms};
 ghost use Rattle.segment_builder.specs.Terms.{keys_kept, number_terms, row_group, rows_in};
 
-use crate::entries::{counts_of, documents_of, keywords_of, numbers_of, scopes_of, texts_of};
+use crate::entries::{Lists, documents_of, lists_of};
 use crate::fit::blocks_fit;
 use crate::numbers::put_numbers;
 use crate::ordinals::put_ordinals;
@@ -87,18 +87,21 @@ fn bytes_of(alloc: Global, blocks: &[Block]) -> Result<Vec<u8>, NoMemory>
     keys_are_ordered();
     let list = documents_of(alloc, blocks)?;
     let documents = list.as_slice();
-    let counts = counts_of(documents);
-    let keywords = keywords_of(alloc, documents, counts.keywords)?;
-    let numbers = numbers_of(alloc, documents, counts.numbers)?;
+    let lists = lists_of(alloc, documents)?;
+    let Lists {
+        scopes,
+        numbers,
+        keywords,
+        texts,
+    } = lists;
     let keys = keys_of(alloc, numbers.as_slice())?;
     let fields = sorted_terms(alloc, documents, keywords.as_slice(), keys.as_slice())?;
     let mut bytes = Vec::new(alloc);
-    put_head(alloc, documents, &mut bytes)?;
+    put_head(alloc, documents, scopes.as_slice(), &mut bytes)?;
     put_roots(blocks, &mut bytes)?;
     let terms = put_terms(alloc, fields, &mut bytes)?;
     put_ordinals(alloc, terms.as_slice(), keywords, &mut bytes)?;
     put_numbers(alloc, numbers, &mut bytes)?;
-    let texts = texts_of(alloc, documents)?;
     put_texts(alloc, documents.len() as u32, texts, &mut bytes)?;
     // a segment lives long: it keeps no room that it grew by
     bytes.shrink_to_fit();
@@ -122,14 +125,19 @@ fn sorted_terms<'a>(
 }
 
 /// Appends the number of documents, and the documents of each scope.
-fn put_head(alloc: Global, documents: &[&Document], into: &mut Vec<u8>) -> Result<(), NoMemory>
+fn put_head(
+    alloc: Global,
+    documents: &[&Document],
+    scopes: &[u32],
+    into: &mut Vec<u8>,
+) -> Result<(), NoMemory>
+    requires scopes { scopes.now ≡ (entries_in (flats_lent documents.now)).scopes }
     requires below { All (λ scope. scope + 1 < 2 ^ 32) (entries_in (flats_lent documents.now)).scopes }
     requires few { length documents.now < 2 ^ 32 }
     ensures { OnOk result ((sets : List (List Bool)) × AreSetsOf (entries_in (flats_lent documents.now)).scopes sets
         × (into.new.items ≡ into.old.items ++ head_text (length documents.now) sets)) }
 {
-    let scopes = scopes_of(alloc, documents)?;
-    let sets = scope_sets(alloc, scopes.as_slice())?;
+    let sets = scope_sets(alloc, scopes)?;
     put_head_of(documents.len() as u32, sets.as_slice(), into)?;
     Ok(())
 }

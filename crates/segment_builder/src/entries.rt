@@ -32,26 +32,6 @@ fn document_count(blocks: &[Block]) -> usize {
     count
 }
 
-/// How many of each thing documents carry together: what the lists of them need room for.
-#[derive(Clone, Copy)]
-pub(crate) struct Counts {
-    pub numbers: usize,
-    pub keywords: usize,
-}
-
-/// How much documents carry.
-pub(crate) fn counts_of(documents: &[&Document]) -> Counts {
-    let mut counts = Counts {
-        numbers: 0,
-        keywords: 0,
-    };
-    'documents: for document in documents {
-        counts.numbers = counts.numbers.saturating_add(document.numbers.len());
-        counts.keywords = counts.keywords.saturating_add(document.keywords.len());
-    }
-    counts
-}
-
 /// Adds documents.
 fn add_documents<'a>(
     documents: &'a [Document],
@@ -65,63 +45,41 @@ fn add_documents<'a>(
     Ok(())
 }
 
-/// The scopes of documents.
-pub(crate) fn scopes_of(alloc: Global, documents: &[&Document]) -> Result<Vec<u32>, NoMemory>
-    ensures { IfOk result (λ scopes. scopes.items ≡ (entries_in (flats_lent documents.now)).scopes) }
+/// What documents carry besides words: their scopes, and each of the rest with the number of its document and by its field.
+#[derive(Drop)]
+pub(crate) struct Lists<'a> {
+    pub scopes: Vec<u32>,
+    pub numbers: Vec<(u32, (u32, &'a [i64]))>,
+    pub keywords: Vec<(u32, (u32, &'a [Keyword]))>,
+    /// The text fields that have a value.
+    pub texts: Vec<(u32, u32)>,
+}
+
+/// What documents carry besides words, listed in one pass over them.
+pub(crate) fn lists_of<'a>(alloc: Global, documents: &[&'a Document]) -> Result<Lists<'a>, NoMemory>
+    requires { length documents.now < 2 ^ 32 }
+    ensures scopes { IfOk result (λ lists. lists.scopes.items ≡ (entries_in (flats_lent documents.now)).scopes) }
+    ensures numbers { IfOk result (λ lists. numbers_lent lists.numbers.items ≡ (entries_in (flats_lent documents.now)).numbers) }
+    ensures keywords { IfOk result (λ lists. keywords_lent lists.keywords.items ≡ (entries_in (flats_lent documents.now)).keywords) }
+    ensures texts { IfOk result (λ lists. lists.texts.items ≡ (entries_in (flats_lent documents.now)).texts) }
 {
     let mut scopes = Vec::with_capacity(alloc, documents.len())?;
-    'documents: for document in documents {
-        scopes.push(document.scope)?;
-    }
-    Ok(scopes)
-}
-
-/// The numbers of documents by field, with room for so many.
-pub(crate) fn numbers_of<'a>(
-    alloc: Global,
-    documents: &[&'a Document],
-    count: usize,
-) -> Result<Vec<(u32, (u32, &'a [i64]))>, NoMemory>
-    requires { length documents.now < 2 ^ 32 }
-    ensures { IfOk result (λ numbers. numbers_lent numbers.items ≡ (entries_in (flats_lent documents.now)).numbers) }
-{
-    let mut numbers = Vec::with_capacity(alloc, count)?;
-    'documents: for doc in 0..documents.len() {
-        add_numbers(doc as u32, documents[doc].numbers.as_slice(), &mut numbers)?;
-    }
-    Ok(numbers)
-}
-
-/// The keywords of documents by field, with room for so many.
-pub(crate) fn keywords_of<'a>(
-    alloc: Global,
-    documents: &[&'a Document],
-    count: usize,
-) -> Result<Vec<(u32, (u32, &'a [Keyword]))>, NoMemory>
-    requires { length documents.now < 2 ^ 32 }
-    ensures { IfOk result (λ keywords. keywords_lent keywords.items ≡ (entries_in (flats_lent documents.now)).keywords) }
-{
-    let mut keywords = Vec::with_capacity(alloc, count)?;
-    'documents: for doc in 0..documents.len() {
-        add_keywords(
-            doc as u32,
-            documents[doc].keywords.as_slice(),
-            &mut keywords,
-        )?;
-    }
-    Ok(keywords)
-}
-
-/// The text fields of documents that have a value.
-pub(crate) fn texts_of(alloc: Global, documents: &[&Document]) -> Result<Vec<(u32, u32)>, NoMemory>
-    requires { length documents.now < 2 ^ 32 }
-    ensures { IfOk result (λ texts. texts.items ≡ (entries_in (flats_lent documents.now)).texts) }
-{
+    let mut numbers = Vec::with_capacity(alloc, documents.len())?;
+    let mut keywords = Vec::with_capacity(alloc, documents.len())?;
     let mut texts = Vec::new(alloc);
     'documents: for doc in 0..documents.len() {
-        add_texts(doc as u32, documents[doc].texts.as_slice(), &mut texts)?;
+        let document = documents[doc];
+        scopes.push(document.scope)?;
+        add_numbers(doc as u32, document.numbers.as_slice(), &mut numbers)?;
+        add_keywords(doc as u32, document.keywords.as_slice(), &mut keywords)?;
+        add_texts(doc as u32, document.texts.as_slice(), &mut texts)?;
     }
-    Ok(texts)
+    Ok(Lists {
+        scopes,
+        numbers,
+        keywords,
+        texts,
+    })
 }
 
 /// Adds the numbers of a document by field.
