@@ -1,25 +1,35 @@
 -- A field that stands where it is looked for first.
-use Rattle.std.proofs.Common.{◌≡◌, ◌∙◌, ◌<◌, ℕ, List as Seq, Bool, true, false, length, Some, refl, sym, ap, subst}
-use Rattle.std.specs.Cmp.Lexicographic.{slice_cmp}
-use Rattle.std.specs.Ordering.{is_eq, nat_cmp}
-use Rattle.std.specs.declared.cmp.Ordering.{Ordering}
-use Rattle.std.specs.declared.cmp.Ordering.TheVariants.{Less, Equal, Greater}
-use Rattle.std.proofs.lemmas.Map.Lookups.{exact_bytes}
+use Rattle.std.proofs.Common.{◌≡◌, ◌∙◌, ◌<◌, ℕ, List as Seq, [], ◌∷◌, ◌++◌, Bool, true, false, length, take, drop, Some, refl, sym, ap, subst, bytes_eq, get_or, arith}
+use Rattle.std.proofs.lemmas.List.{take-append-drop}
+use Rattle.std.proofs.lemmas.Slice.Eq.{bytes_eq-Decides}
 use Rattle.tree_json.specs.Value.{JsonValue}
 use Rattle.mapping_growth.specs.Bodies.{AreBodies}
-use Rattle.mapping_body.specs.Names.{has_dot, joined}
+use Rattle.mapping_body.specs.Names.{dot, has_dot, joined}
 use Rattle.mapping.specs.Mapping.{Mapping, field_at, field_below, field_named, knows, mapping_of}
 use Rattle.mapping.specs.Reached.{AreReached}
 
-equal_of : (order : Ordering) → is_eq order ≡ true → order ≡ Equal
-equal_of Less h = absurd (cc (h))
-equal_of Equal h = refl
-equal_of Greater h = absurd (cc (h))
+pub same_bytes : (one other : Seq ℕ) → bytes_eq one other ≡ true → one ≡ other
+same_bytes one other h = (bytes_eq-Decides one other).0 h
 
-pub same_path : (one other : Seq ℕ) → is_eq (slice_cmp nat_cmp one other) ≡ true → one ≡ other
-same_path one other h = exact_bytes one other (equal_of (slice_cmp nat_cmp one other) h)
+pub below_root : (whole path name : Seq ℕ) → length path ≡ 0 → whole ≡ name → whole ≡ joined path name
+below_root whole [] name h e = e
+below_root whole (byte ∷ path) name h e = absurd (omega (arith, h))
 
-pub ruleset same = (same_path)
+pub below_path : (whole path name : Seq ℕ) → 0 < length path → bytes_eq (take (length path) whole) path ≡ true → drop (length path) whole ≡ dot ∷ name → whole ≡ joined path name
+below_path whole [] name h front back = absurd (omega (arith, h))
+below_path whole (byte ∷ path) name h front back =
+    sym (take-append-drop (length (byte ∷ path)) whole)
+    ∙ ap (λ rest. take (length (byte ∷ path)) whole ++ rest) back
+    ∙ ap (λ start. start ++ (dot ∷ name)) (same_bytes (take (length (byte ∷ path)) whole) (byte ∷ path) front)
+
+pub dot_before : (rest name : Seq ℕ) → 0 < length rest → get_or rest 0 0 ≡ dot → bytes_eq (drop 1 rest) name ≡ true → rest ≡ dot ∷ name
+dot_before [] name h first same = absurd (omega (arith, h))
+dot_before (byte ∷ rest) name h first same =
+    let is : byte ≡ dot = first in
+    let more : rest ≡ name = same_bytes rest name same in
+    rw (is, more) refl
+
+pub ruleset same = (same_bytes, below_root, below_path, dot_before)
 
 pub field_here : (m : Mapping) (g : ℕ) (path name : Seq ℕ) (near : ℕ)
     → ((bodies : Seq JsonValue) (on : Bool) → AreBodies bodies → AreReached (mapping_of bodies on)) → AreBodies m.bodies → m ≡ mapping_of m.bodies m.dynamic

@@ -1,10 +1,10 @@
 //! The field of a member, looked for first where it most often stands.
-ghost use Rattle.std.specs.Prelude.{◌≡◌, ◌<◌, false, length, Some, IfSome, IsTrue};
+ghost use Rattle.std.specs.Prelude.{◌≡◌, ◌<◌, ◌∷◌, false, length, Some, IfSome, IsTrue};
 ghost use Rattle.mapping.specs.Mapping.{field_at, field_below};
-ghost use Rattle.mapping_body.specs.Names.{has_dot, joined};
+ghost use Rattle.mapping_body.specs.Names.{dot, has_dot, joined};
 
 use mapping::{Mapping, names_lead_to_fields};
-use mapping_body::{Below, Sought, has_dot};
+use mapping_body::has_dot;
 
 /// The field of a name below a path, as `Mapping::field_below` finds it. `near` is looked at first, and the answer is the
 /// same whatever it is: a body numbers its fields in the order in which a walk over a source meets them, so that most
@@ -42,10 +42,32 @@ fn is_here(mapping: &Mapping, generation: u32, path: &[u8], name: &[u8], field: 
 }
 
 /// Whether a path is that of a name without a dot below another path.
-#[tactic(auto, using(crate::proofs::Guesses::same))]
 fn stands_at(whole: &[u8], path: &[u8], name: &[u8]) -> bool
     ensures path { IsTrue result → whole.now ≡ joined path.now name.now }
     ensures name { IsTrue result → has_dot name.now ≡ false }
 {
-    !has_dot(name) && (Below { path, name }).order_of(whole).is_eq()
+    is_joined(whole, path, name) && !has_dot(name)
+}
+
+/// Whether a path is that of a name below another path.
+#[tactic(auto, using(crate::proofs::Guesses::same))]
+fn is_joined(whole: &[u8], path: &[u8], name: &[u8]) -> bool
+    ensures { IsTrue result → whole.now ≡ joined path.now name.now }
+{
+    if path.is_empty() {
+        whole == name
+    } else if whole.len() > path.len() {
+        let (front, back) = whole.split_at(path.len());
+        front == path && goes_on(back, name)
+    } else {
+        false
+    }
+}
+
+/// Whether the rest of a path is a dot and a name.
+#[tactic(auto, using(crate::proofs::Guesses::same))]
+fn goes_on(rest: &[u8], name: &[u8]) -> bool
+    ensures { IsTrue result → rest.now ≡ dot ∷ name.now }
+{
+    !rest.is_empty() && rest[0] == b'.' && rest.split_at(1).1 == name
 }
