@@ -88,7 +88,7 @@ def refused(folder, row):
         return False, "NOT REFUSED"
     if not verdict.startswith("logic=not-proved"):
         return False, "the bug did not reach the prover: " + said[-1][:200]
-    return True, "refused: " + next((it for it in said if ": not proved" in it), verdict)[:200]
+    return True, "refused: " + next((it for it in said if ": not proved" in it or ": error: " in it), verdict)[:200]
 
 
 def main():
