@@ -53,6 +53,7 @@ fn words_of_texts(rt: HostRuntime) -> Result<(), Fail> {
             found.extend_from_slice(token.folded.as_slice())?;
         }
         assert_eq!(rt; found.as_slice(), words.as_bytes(), "{text}");
+        assert!(rt; text.len() < 100, "{text}");
         let mut numbered = Vec::new(rt.alloc());
         push_words(rt.alloc(), text, 7, &mut numbered)?;
         found.clear();
