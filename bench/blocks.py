@@ -3,9 +3,10 @@
 
 It puts a program into a copy of `crates`, which `rt` (on the path) proves and builds, and runs it over made sources:
 products with up to three offers, each of up to two stocks. A round reads each line (`read`), has the kit's `serde_json` read it
-(`serde`), reads it and looks for faults (`faults`), or reads it and makes its block (`block`). The four go by turns, five times,
-and the best of each counts, in processor time. Then the built program is given the same sources, 256 at a time, and each `refresh`
-behind them, which makes a segment of their blocks, is timed from outside (`segment`); the best of three loads counts. Run `./run --prove examples/shop.ndjson` once before.
+(`serde`), reads it and looks for faults (`faults`), reads it and makes its block (`block`), or does so and makes a segment of each
+256 blocks (`segment`: all three). The five go by turns, five times, and the best of each counts, in processor time. Then the built
+program is given the same sources, 256 at a time, and each `refresh` behind them, which makes a segment of their blocks, is timed
+from outside (`refresh`); the best of three loads counts. Run `./run --prove examples/shop.ndjson` once before.
 
     python3 bench/blocks.py [TREES [WORK [PROGRAM]]]      # 100,000 trees; the copy is made in the folder WORK
 """
@@ -20,15 +21,21 @@ from made import MAPPING, Draws, product
 
 PROGRAM = r'''//! Times what is done with each line of the standard input.
 #![tactic(auto)]
+ghost use Rattle.std.specs.Prelude.{◌≡◌, ◌≤◌, true, map, IfSome};
+ghost use Rattle.std.specs.List.{All};
+ghost use Rattle.flattener.specs.Fits.{BlockFits};
+ghost use Rattle.flattener.specs.Seen.{block_seen};
+ghost use Rattle.segment_builder.specs.Blocks.{objects_of};
 
-use flattener::block;
+use flattener::{Block, block};
 use mapping::Mapping;
+use segment_builder::built;
 use serde_json::Value;
 use std::alloc::{AllocError, AllocFailed, Global};
 use std::io;
 use std::io::Read;
 use std::time::CpuClock;
-use tree_json::{Json, JsonReader, compact_len, read};
+use tree_json::{Json, JsonReader, read};
 use tree_objects::first_fault;
 
 const FIELDS: &str =
@@ -76,17 +83,107 @@ fn faults(alloc: Global, mapping: &Mapping, source: &Json) -> u64 {
     }
 }
 
-fn documents(alloc: Global, mapping: &Mapping, source: &Json) -> u64 {
+/// The block of a source, if it has one.
+fn block_of(alloc: Global, mapping: &Mapping, source: &Json) -> Option<Block>
+    ensures { IfSome result (λ block. BlockFits mapping.now (block_seen block)) }
+{
     let Json::Object(_) = source else {
-        return 0;
+        return None;
     };
-    if compact_len(source) > 16_777_216 || mapping.generation() < 1 {
-        return 0;
+    if mapping.generation() < 1 {
+        return None;
     }
     match block(alloc, mapping, 1, source, b"1", 0) {
-        Ok(block) => block.documents.len() as u64,
+        Ok(block) => Some(block),
+        Err(_) => None,
+    }
+}
+
+fn documents(alloc: Global, mapping: &Mapping, source: &Json) -> u64 {
+    match block_of(alloc, mapping, source) {
+        Some(block) => block.documents.len() as u64,
+        None => 0,
+    }
+}
+
+/// Adds the block of a line.
+fn add(
+    alloc: Global,
+    mapping: &Mapping,
+    reader: &mut JsonReader,
+    line: &[u8],
+    blocks: &mut Vec<Block>,
+)
+    requires { All (BlockFits mapping.now) (map block_seen blocks.old.items) }
+    ensures { All (BlockFits mapping.now) (map block_seen blocks.new.items) }
+{
+    if let Ok(source) = reader.read(alloc, line) {
+        if let Some(block) = block_of(alloc, mapping, &source) {
+            let _ = blocks.push(block);
+        }
+    }
+}
+
+/// Adds the blocks of so many lines, or of all that there are. The text behind them.
+fn add_lines<'a>(
+    alloc: Global,
+    mapping: &Mapping,
+    reader: &mut JsonReader,
+    count: u32,
+    text: &'a [u8],
+    blocks: &mut Vec<Block>,
+) -> &'a [u8]
+    requires { All (BlockFits mapping.now) (map block_seen blocks.old.items) }
+    ensures { All (BlockFits mapping.now) (map block_seen blocks.new.items) }
+{
+    let at = line_end(text);
+    if count == 0 || at >= text.len() {
+        return text;
+    }
+    add(alloc, mapping, reader, text.split_at(at).0, blocks);
+    add_lines(alloc, mapping, reader, count - 1, text.split_at(at + 1).1, blocks)
+}
+
+/// Whether blocks have no more than so many objects.
+fn are_few(blocks: &[Block], most: u64) -> bool
+    ensures { result ≡ true → objects_of (map block_seen blocks.now) ≤ most }
+{
+    match blocks {
+        [] => true,
+        [block, more @ ..] => {
+            let own = block.documents.len() as u64;
+            own <= most && are_few(more, most - own)
+        }
+    }
+}
+
+/// How many documents the segment of blocks has.
+fn sealed(alloc: Global, mapping: &Mapping, blocks: &[Block]) -> u64
+    requires { All (BlockFits mapping.now) (map block_seen blocks.now) }
+{
+    if blocks.is_empty() || !are_few(blocks, 67_108_864) {
+        return 0;
+    }
+    match built(alloc, mapping, blocks) {
+        Ok(segment) => u64::from(segment.docs()),
         Err(_) => 0,
     }
+}
+
+/// How many documents the segments of each 256 lines have.
+fn segments(alloc: Global, mapping: &Mapping, text: &[u8]) -> u64 {
+    let mut reader = JsonReader::new(alloc);
+    let mut sum = 0u64;
+    let mut rest = text;
+    for _ in 0..u64::MAX {
+        let mut blocks = Vec::new(alloc);
+        rest = add_lines(alloc, mapping, &mut reader, 256, rest, &mut blocks);
+        if blocks.is_empty() {
+            break;
+        }
+        sum = sum.wrapping_add(sealed(alloc, mapping, blocks.as_slice()));
+    }
+    sum
 }
 
 fn serde(alloc: Global, line: &[u8]) -> u64 {
@@ -172,14 +269,17 @@ fn main(rt: HostRuntime) -> Result<(), Fault> {
         let from = spent(&rt)?;
         let sum = round(rt.alloc(), Work::Block, &mapping, text.as_slice());
         report(&rt, "block", from, sum)?;
+        let from = spent(&rt)?;
+        let sum = segments(rt.alloc(), &mapping, text.as_slice());
+        report(&rt, "segment", from, sum)?;
     }
     Ok(())
 }
 '''
 NAME = "block_times"
 BELOW = (
-    "flattener layout block_bits segment segment_parts stored_sources tree_objects mapping_growth mapping_body"
-    " mapping tree_json analysis itoa json serde_json smallvec"
+    "segment_builder flattener layout part_text block_bits term_table doc_values postings segment segment_parts stored_sources"
+    " tree_objects mapping_growth mapping_body mapping tree_json analysis itoa json serde_json smallvec"
 )
 HERE = os.path.dirname(os.path.dirname(os.path.abspath(__file__)))
 
@@ -246,12 +346,12 @@ def main():
     for line in said.splitlines():
         name, spent, total = line.split()
         best[name] = min(best.get(name, (10**12, 0)), (int(spent), int(total)))
-    read = best["read"][0]
+    read, serde = best["read"][0], best["serde"][0]
     for name, (spent, total) in best.items():
-        print("%-7s %8.1f ms  %5.2f times reading  %d" % (name, spent / 1000, spent / read, total))
+        print("%-7s %8.1f ms  %5.2f times reading  %5.2f times serde  %d" % (name, spent / 1000, spent / read, spent / serde, total))
     own = sys.argv[3] if len(sys.argv) > 3 else os.path.join(HERE, "crates/nestsearch/out/nestsearch")
-    segment = min(seals(own, trees) for _ in range(3))
-    print("segment %8.1f ms  %5.2f times reading" % (segment, segment * 1000 / read))
+    refresh = min(seals(own, trees) for _ in range(3))
+    print("refresh %8.1f ms  %5.2f times reading  %5.2f times serde" % (refresh, refresh * 1000 / read, refresh * 1000 / serde))
 
 
 main()

@@ -12,7 +12,7 @@ use Rattle.tree_objects.specs.Values.{join_at, join_field, join_of}
 use Rattle.flattener.specs.Block.{block_of, block_refusal, root_of_tree, nested_count, most_nested, most_documents, kept_join, tree_given, BlockState}
 use Rattle.flattener.specs.declared.refusal.FlattenRefusal.TheVariants.{WrongType, TermTooLong, BadJoin, TooManyObjects}
 use Rattle.tree_objects.specs.declared.fault.Fault.TheVariants as fault
-use Rattle.flattener.specs.Fits.{BlockFits, IsGiven}
+use Rattle.flattener.specs.Fits.{BlockFits, IsGiven, IsTreeUnder, most_source}
 use Rattle.flattener.specs.Walked.{flat_pair, walked}
 use Rattle.flattener.proofs.Objects.{tree_walked, tree_count}
 
@@ -74,6 +74,9 @@ pub block_made : (m : Mapping) (id : List ℕ) (number : ℕ) (v : JsonValue) (g
 block_made m id number v g flats root a b =
     state_same flats _ root _ (a ∙ sym (tree_walked m (tree_given id number v g))) b
 
+pub tree_short : (m : Mapping) (tree : Tree) → IsTreeUnder m tree → length (compact tree.source) ≤ most_source → IsGiven m tree
+tree_short m tree under short = record { id = under.id; source = (under.object, short); first = under.first; last = under.last }
+
 pub block_fits : (m : Mapping) (id : List ℕ) (number : ℕ) (v : JsonValue) (g : ℕ) (block : BlockState) → IsGiven m (tree_given id number v g) → first_fault m g v ≡ None
     → length (walked m g (length m.scopes) 0 v) ≤ most_documents → number ≤ 2 ^ 62 → block ≡ block_of m (tree_given id number v g) → BlockFits m block
 block_fits m id number v g block given sound few small is = record {
@@ -84,4 +87,4 @@ block_fits m id number v g block given sound few small is = record {
   is = is;
 }
 
-pub ruleset wholes = (accepted_few, refused_many)
+pub ruleset wholes = (accepted_few, refused_many, tree_short)

@@ -27,7 +27,14 @@ most_source = 16_777_216
 abbrev pub IsSource : JsonValue → Type 0
 IsSource source = (is_object source ≡ true) × (length (compact source) ≤ most_source)
 
--- what `block` asks of a tree: its id, its source, and a generation that the mapping has had
+-- what `block` asks of a tree: its id, an object as its source, and a generation that the mapping has had
+pub record IsTreeUnder (m : Mapping) (tree : Tree) : Type 0 where
+  pub id : IsId tree.id
+  pub object : is_object tree.source ≡ true
+  pub first : 1 ≤ tree.generation
+  pub last : tree.generation ≤ length m.bodies
+
+-- such a tree, of a source that is short enough
 pub record IsGiven (m : Mapping) (tree : Tree) : Type 0 where
   pub id : IsId tree.id
   pub source : IsSource tree.source

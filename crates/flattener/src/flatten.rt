@@ -6,14 +6,14 @@ ghost use Rattle.tree_json.specs.Text.{compact};
 ghost use Rattle.tree_json.specs.View.{view};
 ghost use Rattle.tree_objects.specs.Fault.{first_fault};
 ghost use Rattle.flattener.specs.Block.{block_of, block_refusal, most_documents, root_of_tree, tree_given};
-ghost use Rattle.flattener.specs.Fits.{BlockFits, IsGiven, most_source};
+ghost use Rattle.flattener.specs.Fits.{BlockFits, IsGiven, IsTreeUnder, most_source};
 ghost use Rattle.flattener.specs.Seen.{block_seen, document_seen, root_seen};
 ghost use Rattle.flattener.specs.Walked.{flat_pair, walked};
 
 use crate::document::{Block, Document};
 use crate::join::join_of;
 use crate::refusal::{FlattenRefusal, NoMemory, WalkRefusal};
-use crate::source_text::compact_text;
+use crate::source_text::source_text;
 use crate::walk::walk;
 use mapping::Mapping;
 use segment::{Bytes, Root};
@@ -21,13 +21,10 @@ use std::alloc::Global;
 use tree_json::Json;
 use tree_objects::{Fault, first_fault};
 
-/// The bytes of a source for each of its documents, for which room is made at first.
-const DOCUMENT_BYTES: u64 = 48;
-
 /// The block of a tree by its source, its id, its sequence number and the generation of the mapping that it is indexed
-/// under. The refusals are looked for in the order of `FlattenRefusal`: a fault is the first that a walk over the
-/// source meets, names in byte order, lists in order, depth first. The source that the root keeps reads back as the
-/// value that it was, where that nests as little as what is read.
+/// under. The refusals are looked for in the order of `FlattenRefusal`: the text of the source is written first, and
+/// a fault is the first that a walk over the source meets, names in byte order, lists in order, depth first. The source
+/// that the root keeps reads back as the value that it was, where that nests as little as what is read.
 #[tactic(auto, using(crate::proofs::Wholes::wholes))]
 pub fn block(
     alloc: Global,
@@ -37,17 +34,18 @@ pub fn block(
     id: &[u8],
     number: u64,
 ) -> Result<Block, FlattenRefusal>
-    requires { IsGiven mapping.now (tree_given id.now number (view source.now) generation) }
+    requires { IsTreeUnder mapping.now (tree_given id.now number (view source.now) generation) }
+    ensures given { IsOk result → IsGiven mapping.now (tree_given id.now number (view source.now) generation) }
     ensures block { IfOk result (λ b. block_seen b ≡ block_of mapping.now (tree_given id.now number (view source.now) generation)) }
     ensures fits { number ≤ 2 ^ 62 → IfOk result (λ b. BlockFits mapping.now (block_seen b)) }
     ensures reads_back { IfOk result (λ b. levels (view source.now) ≤ most_levels → reading b.root.source ≡ is_value (view source.now)) }
     ensures accepted { IsOk result → block_refusal mapping.now (tree_given id.now number (view source.now) generation) ≡ None }
-    ensures refused { IfErr result (λ e. (e ≡ FlattenRefusal.NoMemory) ⊎ (block_refusal mapping.now (tree_given id.now number (view source.now) generation) ≡ Some e)) }
+    ensures refused { IfErr result (λ e. (e ≡ FlattenRefusal.NoMemory) ⊎ (((e ≡ FlattenRefusal.SourceTooLong) × (most_source < length (compact (view source.now)))) ⊎ (block_refusal mapping.now (tree_given id.now number (view source.now) generation) ≡ Some e))) }
 {
+    let text = source_text(alloc, source)?;
     faultless(alloc, mapping, generation, source)?;
     let documents = documents(alloc, mapping, generation, source)?;
-    let room = (documents.len() as u64).saturating_mul(DOCUMENT_BYTES);
-    let root = root_of(alloc, mapping, generation, source, id, number, room)?;
+    let root = root_of(alloc, mapping, generation, source, id, number, text)?;
     Ok(Block { documents, root })
 }
 
@@ -103,7 +101,7 @@ fn documents(
     }
 }
 
-/// What is kept of a root, whose source has room from so many bytes on.
+/// What is kept of a root, with the text of its source.
 #[tactic(auto, using(crate::proofs::Wholes::roots))]
 fn root_of(
     alloc: Global,
@@ -112,16 +110,17 @@ fn root_of(
     source: &Json,
     id: &[u8],
     number: u64,
-    room: u64,
+    text: Vec<u8>,
 ) -> Result<Root, NoMemory>
+    requires { text.items ≡ compact (view source.now) }
     ensures root { IfOk result (λ r. root_seen r ≡ root_of_tree mapping.now (tree_given id.now number (view source.now) generation)) }
-    ensures reads_back { IfOk result (λ r. levels (view source.now) ≤ most_levels → reading r.source ≡ is_value (view source.now)) }
+    ensures text { IfOk result (λ r. r.source ≡ text.items) }
 {
     Ok(Root {
         id: Bytes::of(id.to_vec(alloc)?),
         number,
         generation,
         join: join_of(alloc, mapping, generation, source)?,
-        source: Bytes::of(compact_text(alloc, source, room)?),
+        source: Bytes::of(text),
     })
 }

@@ -38,6 +38,8 @@ impl From<mapping::NoMemory> for NoMemory {
 /// Why a source has no block, in the order in which the reasons are looked for.
 #[derive(Clone, Copy, Debug, PartialEq, Eq)]
 pub enum FlattenRefusal {
+    /// A compact text of the source of more than 16,777,216 bytes.
+    SourceTooLong,
     /// A value that its field's kind doesn't take; the number of the field.
     WrongType(u32),
     /// A keyword value or a folded token of a text of more than 32,766 bytes; the number of the field.

@@ -1,6 +1,6 @@
 //! The compact text of a source. It is walked once, into room that grows with the text: a text is measured only where it
 //! might not fit.
-ghost use Rattle.std.specs.Prelude.{◌≡◌, ◌+◌, ◌≤◌, ◌++◌, ◌∷◌, [], codes, false, length, IfOk, OnOk};
+ghost use Rattle.std.specs.Prelude.{◌≡◌, ◌⊎◌, ◌+◌, ◌<◌, ◌≤◌, ◌++◌, ◌∷◌, [], codes, false, length, IfErr, IfOk, IsOk, OnOk};
 ghost use Rattle.std.specs.Fmt.{signed_decimal};
 ghost use Rattle.tree_json.specs.Levels.{levels, most_levels};
 ghost use Rattle.tree_json.specs.Reading.{reading, value as is_value};
@@ -8,19 +8,40 @@ ghost use Rattle.tree_json.specs.Sound.{IsSound, AreSound, MembersAreSound};
 ghost use Rattle.tree_json.specs.Text.{comma_if, compact, compact_elements, compact_members, quoted};
 ghost use Rattle.tree_json.specs.Value.{elements_of, members_of};
 ghost use Rattle.tree_json.specs.View.{view, values, entries};
+ghost use Rattle.flattener.specs.Fits.{most_source};
 
-use crate::refusal::NoMemory;
+use crate::refusal::{FlattenRefusal, NoMemory};
 use std::alloc::Global;
 use tree_json::{Json, JsonText, OutText, print, put_quoted, put_whole, quoted_len, whole_len};
 
-/// The compact text of a value, for which room is made from so many bytes on.
+/// The most bytes of a source's compact text.
+pub const LONGEST_SOURCE: u64 = 16_777_216;
+
+/// The bytes for which a text has room at first.
+const FIRST_ROOM: u64 = 256;
+
+/// The compact text of a source, unless it is too long.
+pub(crate) fn source_text(alloc: Global, source: &Json) -> Result<Vec<u8>, FlattenRefusal>
+    ensures text { IfOk result (λ v. v.items ≡ compact (view source.now)) }
+    ensures reads_back { IfOk result (λ v. levels (view source.now) ≤ most_levels → reading v.items ≡ is_value (view source.now)) }
+    ensures short { IsOk result → length (compact (view source.now)) ≤ most_source }
+    ensures refused { IfErr result (λ e. (e ≡ FlattenRefusal.NoMemory) ⊎ ((e ≡ FlattenRefusal.SourceTooLong) × (most_source < length (compact (view source.now))))) }
+{
+    let text = compact_text(alloc, source)?;
+    if text.len() as u64 > LONGEST_SOURCE {
+        return Err(FlattenRefusal::SourceTooLong);
+    }
+    Ok(text)
+}
+
+/// The compact text of a value.
 #[tactic(auto, using(tree_json::proofs::RoundTrip::reads_back))]
-pub(crate) fn compact_text(alloc: Global, value: &Json, room: u64) -> Result<Vec<u8>, NoMemory>
+fn compact_text(alloc: Global, value: &Json) -> Result<Vec<u8>, NoMemory>
     ensures text { IfOk result (λ v. v.items ≡ compact (view value.now)) }
     ensures reads_back { IfOk result (λ v. levels (view value.now) ≤ most_levels → reading v.items ≡ is_value (view value.now)) }
 {
     let mut text = OutText::empty(alloc);
-    text.reserve(room)?;
+    text.reserve(FIRST_ROOM)?;
     push(value, &mut text)?;
     Ok(text.into_vec())
 }

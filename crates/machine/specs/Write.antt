@@ -118,6 +118,7 @@ abbrev pub path_of : Mapping → ℕ → List ℕ
 path_of m field = (field_at m field).path
 
 abbrev pub refusal_flattened : Mapping → FlattenRefusal → Option Refusal
+refusal_flattened m flat.SourceTooLong = Some why.SourceTooLong
 refusal_flattened m (flat.WrongType field) = Some (why.WrongType (path_of m field))
 refusal_flattened m (flat.TermTooLong field) = Some (why.TermTooLong (path_of m field))
 refusal_flattened m flat.BadJoin = Some why.BadJoin

@@ -23,15 +23,12 @@ ghost use Rattle.write_plan.specs.Planned.{IsGrownFrom, IsPlanned, mapping_after
 ghost use Rattle.write_plan.specs.Update.{IsTextOf};
 
 use crate::refusal::{PlanRefusal, limit_named};
-use flattener::{Block, FlattenRefusal, block};
+use flattener::{Block, FlattenRefusal, LONGEST_SOURCE, block};
 use mapping::{Bytes, Growth, Mapping, MappingRefusal, NoMemory, further_bodies_stand_behind};
 use reply_text::Refusal;
 use source_growth::{growth_is_taken, seen};
 use std::alloc::Global;
 use tree_json::{Json, compact_len};
-
-/// The most bytes of a source's compact text.
-const LONGEST_SOURCE: u64 = 16_777_216;
 
 /// A tree that may be put.
 #[derive(Drop)]
@@ -42,7 +39,8 @@ pub struct Plan {
     pub block: Block,
 }
 
-/// What is put by a source under an id and a sequence number, or the first of the source's refusals.
+/// What is put by a source under an id and a sequence number, or the first of the source's refusals. That it is too long comes
+/// before all others: a source is measured where it was refused, and only there.
 #[tactic(auto, using(crate::proofs::Refusals::firsts))]
 pub fn planned(
     alloc: Global,
@@ -58,9 +56,33 @@ pub fn planned(
     ensures accepted { IsOk result → first_of (refusals_of mapping.now id.now (view source.now) number) ≡ None }
     ensures refused { (why : Refusal) → IsErrOf result (PlanRefusal.Refused why) → first_of (refusals_of mapping.now id.now (view source.now) number) ≡ Some why }
 {
-    if compact_len(source) > LONGEST_SOURCE {
-        return Err(PlanRefusal::Refused(Refusal::SourceTooLong));
+    match plan_of(alloc, mapping, id, source, number) {
+        Ok(plan) => Ok(plan),
+        Err(why) => {
+            if compact_len(source) > LONGEST_SOURCE {
+                return Err(PlanRefusal::Refused(Refusal::SourceTooLong));
+            }
+            Err(why)
+        }
     }
+}
+
+/// What is put by a source, or a refusal: the first where the source is short enough.
+#[tactic(auto, using(crate::proofs::Refusals::firsts))]
+fn plan_of(
+    alloc: Global,
+    mapping: &Mapping,
+    id: &[u8],
+    source: &Json,
+    number: u64,
+) -> Result<Plan, PlanRefusal>
+    requires id { IsId id.now }
+    requires source { IsSourceValue (view source.now) }
+    requires number { number ≤ 2 ^ 62 }
+    ensures planned { IfOk result (IsPlanned mapping.now id.now (view source.now) number) }
+    ensures accepted { IsOk result → first_of (refusals_of mapping.now id.now (view source.now) number) ≡ None }
+    ensures refused { (why : Refusal) → length (compact (view source.now)) ≤ most_source → IsErrOf result (PlanRefusal.Refused why) → first_of (refusals_of mapping.now id.now (view source.now) number) ≡ Some why }
+{
     let grown = grown(alloc, mapping, source)?;
     let block = block_under(alloc, later(mapping, &grown), id, source, number)?;
     Ok(Plan { grown, block })
@@ -137,14 +159,13 @@ fn block_under(
     requires object { is_object (view source.now) ≡ true }
     requires sound { IsSound (view source.now) }
     requires levels { levels (view source.now) ≤ most_levels }
-    requires short { length (compact (view source.now)) ≤ most_source }
     requires number { number ≤ 2 ^ 62 }
     ensures given { IsOk result → IsGiven mapping.now (new_tree id.now (view source.now) mapping.now number) }
     ensures block { IfOk result (λ b. block_seen b ≡ block_of mapping.now (new_tree id.now (view source.now) mapping.now number)) }
     ensures fits { IfOk result (λ b. BlockFits mapping.now (block_seen b)) }
     ensures text { IfOk result (λ b. IsTextOf b.root.source (view source.now)) }
     ensures accepted { IsOk result → source_refusal mapping.now (new_tree id.now (view source.now) mapping.now number) ≡ None }
-    ensures refused { (why : Refusal) → IsErrOf result (PlanRefusal.Refused why) → source_refusal mapping.now (new_tree id.now (view source.now) mapping.now number) ≡ Some why }
+    ensures refused { (why : Refusal) → length (compact (view source.now)) ≤ most_source → IsErrOf result (PlanRefusal.Refused why) → source_refusal mapping.now (new_tree id.now (view source.now) mapping.now number) ≡ Some why }
 {
     match block(alloc, mapping, mapping.generation(), source, id, number) {
         Ok(block) => Ok(block),
@@ -157,6 +178,7 @@ fn refusal_of(alloc: Global, mapping: &Mapping, why: FlattenRefusal) -> PlanRefu
     ensures { (named : Refusal) → result ≡ PlanRefusal.Refused named → refusal_flattened mapping.now why ≡ Some named }
 {
     match why {
+        FlattenRefusal::SourceTooLong => PlanRefusal::Refused(Refusal::SourceTooLong),
         FlattenRefusal::WrongType(field) => match path_of(alloc, mapping, field) {
             Ok(field) => PlanRefusal::Refused(Refusal::WrongType { field }),
             Err(NoMemory) => PlanRefusal::NoMemory,
