@@ -9,10 +9,7 @@ use Rattle.mapping.specs.IsMapping.{IsMapping}
 use Rattle.mapping.specs.Mapping.{Mapping, mapping_of}
 use Rattle.mapping_body.specs.Body.{is_body, member_named}
 use Rattle.mapping_growth.specs.Bodies.{AreBodies, adds}
-use Rattle.tree_json.proofs.RoundTrip.{reads_back}
-use Rattle.tree_json.specs.Reading.{reading}
-use Rattle.tree_json.specs.Levels.{levels, most_levels}
-use Rattle.tree_json.specs.Sound.{IsSound}
+use Rattle.tree_json.specs.Reading.{reading, value}
 use Rattle.tree_json.specs.Text.{compact}
 use Rattle.tree_json.specs.Value.{JsonValue}
 use Rattle.tree_objects.specs.Tree.{Tree}
@@ -25,10 +22,10 @@ kept_source : (m : Mapping) (tree : Tree) (b : Block) → block_seen b ≡ block
 unfolding root_of_tree
 kept_source m tree b e = ap (λ it. it.root.source) e
 
-pub block_text : (m : Mapping) (id : List ℕ) (source : JsonValue) (number : ℕ) (b : Block) → block_seen b ≡ block_of m (new_tree id source m number) → IsSound source → levels source ≤ most_levels → IsTextOf b.root.source source
-block_text m id source number b e sound few = record {
+pub block_text : (m : Mapping) (id : List ℕ) (source : JsonValue) (number : ℕ) (b : Block) → block_seen b ≡ block_of m (new_tree id source m number) → reading b.root.source ≡ value source → IsTextOf b.root.source source
+block_text m id source number b e again = record {
   text = kept_source m (new_tree id source m number) b e;
-  reads = ap reading (kept_source m (new_tree id source m number) b e) ∙ reads_back source sound few;
+  reads = again;
 }
 
 pub ruleset blocks = (block_text)

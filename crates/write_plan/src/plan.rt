@@ -2,7 +2,6 @@
 ghost use Rattle.std.specs.Prelude.{◌≡◌, ◌≤◌, ◌<◌, ◌^◌, ◌++◌, ◌∷◌, [], ℕ, true, length, nat_lt, Option, Some, None, IfOk, IfErr, IsErrOf, IsOk, OnOk, unwrap_or};
 ghost use Rattle.request_form.specs.Formed.{IsSourceValue};
 ghost use Rattle.tree_json.specs.Levels.{levels, most_levels};
-ghost use Rattle.tree_json.specs.Sound.{IsSound};
 ghost use Rattle.tree_json.specs.Text.{compact};
 ghost use Rattle.tree_json.specs.Value.{is_object};
 ghost use Rattle.tree_json.specs.View.{view};
@@ -157,7 +156,6 @@ fn block_under(
 ) -> Result<Block, PlanRefusal>
     requires id { IsId id.now }
     requires object { is_object (view source.now) ≡ true }
-    requires sound { IsSound (view source.now) }
     requires levels { levels (view source.now) ≤ most_levels }
     requires number { number ≤ 2 ^ 62 }
     ensures given { IsOk result → IsGiven mapping.now (new_tree id.now (view source.now) mapping.now number) }

@@ -6,4 +6,5 @@ use Rattle.write_plan.proofs.plan.block_under.Goals as goal
 
 pub returns-in-Ok-clause-text : goal.returns-in-Ok-clause-text
 returns-in-Ok-clause-text c =
-    block_text c.args.mapping.now c.args.id.now (view c.args.source.now) c.args.number c.in-Ok.block (c.in-Ok.ensures.block ∙ ap (λ (g : ℕ). block_of c.args.mapping.now (tree_given c.args.id.now c.args.number (view c.args.source.now) g)) c.generation.ensures.generation) c.requires.sound c.requires.levels
+    block_text c.args.mapping.now c.args.id.now (view c.args.source.now) c.args.number c.in-Ok.block (c.in-Ok.ensures.block ∙ ap (λ (g : ℕ). block_of c.args.mapping.now (tree_given c.args.id.now c.args.number (view c.args.source.now) g)) c.generation.ensures.generation)
+    (c.in-Ok.ensures.reads_back c.requires.levels)
