@@ -18,7 +18,7 @@ use tree_json::{Json, JsonText, OutText, print, put_quoted, put_whole, quoted_le
 pub const LONGEST_SOURCE: u64 = 16_777_216;
 
 /// The bytes for which a text has room at first.
-const FIRST_ROOM: u64 = 256;
+const FIRST_ROOM: u64 = 512;
 
 /// The compact text of a source, unless it is too long.
 pub(crate) fn source_text(alloc: Global, source: &Json) -> Result<Vec<u8>, FlattenRefusal>

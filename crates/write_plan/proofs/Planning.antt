@@ -1,5 +1,5 @@
 -- What is put, and mappings that have grown.
-use Rattle.std.proofs.Common.{ℕ, ◌≡◌, ◌≤◌, ◌++◌, ◌∷◌, [], List, Bool, true, false, cond, codes, Option, Some, None, IfSome, refl, ap, subst, sym, ◌∙◌, append-nil}
+use Rattle.std.proofs.Common.{ℕ, ◌≡◌, ◌++◌, ◌∷◌, [], List, Bool, true, false, cond, codes, Option, Some, None, refl, ap, subst, sym, append-nil}
 use Rattle.std.specs.List.{list_all}
 use Rattle.flattener.specs.Block.{block_of, root_of_tree}
 use Rattle.flattener.specs.Seen.{block_seen}

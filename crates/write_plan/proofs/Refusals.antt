@@ -4,9 +4,8 @@ use Rattle.std.proofs.lemmas.Bool.{and_parts}
 use Rattle.std.proofs.lemmas.Bool.Decides.{nat_tests}
 use Rattle.std.specs.List.{list_all}
 use Rattle.mapping_body.specs.Body.{is_body}
-use Rattle.mapping_body.specs.declared.refusal.Limit.{Limit}
 use Rattle.mapping_growth.specs.Bodies.{AreBodies, exceeded}
-use Rattle.mapping.specs.Mapping.{Mapping, mapping_of}
+use Rattle.mapping.specs.Mapping.{Mapping}
 use Rattle.reply_text.specs.declared.refusal.Refusal.{Refusal}
 use Rattle.reply_text.specs.declared.refusal.Refusal.TheVariants.{SourceTooLong}
 use Rattle.flattener.specs.Fits.{most_source}
