@@ -1,27 +1,30 @@
 -- Terms field by field: what fields carry at a term, and the rows that they make.
-use denote.Ref.{Bor}
-use Rattle.std.proofs.Common.{◌≡◌, ℕ, suc, ◌+◌, ◌<◌, ◌^◌, Bool, true, false, cond, List, [], ◌∷◌, ◌++◌, length, map, drop, get_or, refl, sym, ap, subst, ◌∙◌, append_assoc, append-nil, arith, length-append, Vec}
+use Rattle.std.proofs.Common.{◌≡◌, ℕ, ◌+◌, ◌<◌, Bool, true, false, cond, List, [], ◌∷◌, ◌++◌, length, map, drop, get_or, refl, sym, ap, subst, ◌∙◌, append_assoc, append-nil, arith, Vec}
 use Rattle.std.specs.Cmp.Lexicographic.{slice_cmp}
 use Rattle.std.specs.List.{AllByRecursion, flat_map}
 use Rattle.std.specs.List.Sorted.{IsStrictlySortedBy}
 use Rattle.std.specs.Ordering.{eq_by_cmp, is_eq, nat_cmp, ordering_then}
 use Rattle.std.specs.declared.cmp.Ordering.{Ordering}
 use Rattle.std.specs.declared.cmp.Ordering.TheVariants.{Less, Equal, Greater}
-use Rattle.std.proofs.lemmas.List.{at_drop_more, map-append}
+use Rattle.std.proofs.lemmas.Cmp.{eq_by_cmp_equiv}
+use Rattle.std.proofs.lemmas.List.{at_drop_more, length-map, map-append}
 use Rattle.term_table.specs.Terms.{term_cmp}
-use Rattle.term_table.specs.declared.rows.TermRow.{TermRow}
 use Rattle.segment_builder.specs.Groups.{groups_seen, in_groups, keys, of_key, runs, AreGroups, AreOrdered, AreRising}
-use Rattle.segment_builder.specs.Terms.{at_field, entries_lent, field_row, field_rows, row_group, rows_in, rows_of, ArePut}
+use Rattle.segment_builder.specs.Terms.{at_field, field_entries, field_row, field_rows, fields_seen, row_group, rows_in, rows_of, AreAllRising, ArePut}
+use Rattle.segment_builder.specs.declared.rows.FieldTerms.{FieldTerms}
 use Rattle.segment_builder.proofs.Assembled.{map_twice}
+use Rattle.segment_builder.proofs.AtFields.{group_of, in_mapped}
 use Rattle.segment_builder.proofs.Grown.{of_append}
-use Rattle.segment_builder.proofs.InOrder.{are_groups}
+use Rattle.segment_builder.proofs.InOrder.{are_groups, each_both, own_groups}
 use Rattle.segment_builder.proofs.Keys.{groups_append, split}
 use Rattle.segment_builder.proofs.Orders.{exact_bytes, nat_order, term_order}
 use Rattle.segment_builder.proofs.Runs.{gather, ordered}
 use Rattle.segment_builder.proofs.Sorted.{each_append, same_field, sorted_append, sorted_cons, sorted_first, sorted_none, sorted_rest}
+use Rattle.segment_builder.proofs.Taking.{none_of_kind}
 
-abbrev pub TermEntry : Type 0
-TermEntry = Bor (List ℕ) × (ℕ × Bor (List ℕ))
+-- the bytes of a term, a document, and the positions in it
+abbrev pub Entry : Type 0
+Entry = List ℕ × (ℕ × List ℕ)
 
 abbrev pub bytes_cmp : List ℕ → List ℕ → Ordering
 bytes_cmp = slice_cmp nat_cmp
@@ -36,32 +39,61 @@ both_equal Greater b = refl
 term_is : (f g : ℕ) (b c : List ℕ) → eq_by_cmp term_cmp (f, b) (g, c) ≡ cond (eq_by_cmp nat_cmp f g) (eq_by_cmp bytes_cmp b c) false
 term_is f g b c = both_equal (nat_cmp f g) (bytes_cmp b c)
 
--- what a field's entries carry at bytes is what terms carry at the field and the bytes
-one_here : (f g : ℕ) (b : List ℕ) (bytes : Bor (List ℕ)) (posting : ℕ × Bor (List ℕ))
-    → of_key bytes_cmp b (entries_lent (of_key nat_cmp f ((g, (bytes, posting)) ∷ []))) ≡ of_key term_cmp (f, b) (((g, bytes.now), (posting.0, posting.1.now)) ∷ [])
-one_here f g b bytes posting =
+-- what a field's entry carries at bytes is what a term carries at the field and the bytes
+one_here : (f g : ℕ) (b : List ℕ) (entry : Entry) → of_key bytes_cmp b (of_key nat_cmp f ((g, entry) ∷ [])) ≡ of_key term_cmp (f, b) (((g, entry.0), entry.1) ∷ [])
+one_here f g b entry =
     split (eq_by_cmp nat_cmp f g)
-    (λ is. rw (term_is f g b bytes.now, is) refl)
-    (λ isnt. rw (term_is f g b bytes.now, isnt) refl)
-
-here_more : (f : ℕ) (b : List ℕ) (xs ys : List TermEntry) → of_key bytes_cmp b (entries_lent (xs ++ ys)) ≡ of_key bytes_cmp b (entries_lent xs) ++ of_key bytes_cmp b (entries_lent ys)
-here_more f b xs ys =
-    ap (of_key bytes_cmp b) (map-append (λ (entry : TermEntry). (entry.0.now, (entry.1.0, entry.1.1.now))) xs ys)
-    ∙ of_append bytes_cmp b (entries_lent xs) (entries_lent ys)
+    (λ is. rw (term_is f g b entry.0, is) refl)
+    (λ isnt. rw (term_is f g b entry.0, isnt) refl)
 
 abbrev pub Fields : Type 0
-Fields = List (ℕ × List TermEntry)
+Fields = List (ℕ × List Entry)
 
 abbrev pub Terms : Type 0
 Terms = List ((ℕ × List ℕ) × (ℕ × List ℕ))
 
--- one more of the terms goes to its field
-pub put_one : (g : ℕ) (bytes : Bor (List ℕ)) (posting : ℕ × Bor (List ℕ)) (old new : Fields)
-    → ((any : ℕ) → in_groups nat_cmp any new ≡ in_groups nat_cmp any old ++ of_key nat_cmp any ((g, (bytes, posting)) ∷ [])) → ArePut (((g, bytes.now), (posting.0, posting.1.now)) ∷ []) old new
-put_one g bytes posting old new more = λ f b.
-    ap (λ entries. of_key bytes_cmp b (entries_lent entries)) (more f)
-    ∙ here_more f b (in_groups nat_cmp f old) (of_key nat_cmp f ((g, (bytes, posting)) ∷ []))
-    ∙ ap (λ last. at_field f b old ++ last) (one_here f g b bytes posting)
+one_seen : {E : Type 0} (seen : E → Entry) (f g : ℕ) (entry : E) → map seen (of_key nat_cmp f ((g, entry) ∷ [])) ≡ of_key nat_cmp f ((g, seen entry) ∷ [])
+one_seen seen f g entry =
+    split (eq_by_cmp nat_cmp f g)
+    (λ is. rw is refl)
+    (λ isnt. rw isnt refl)
+
+-- entries that are seen so
+module _ {E A : Type 0} (seen : E → Entry) where
+  abbrev entries_by : Vec E A → List Entry
+  entries_by entries = map seen entries.items
+
+  in_seen : (f : ℕ) (fields : List (ℕ × Vec E A)) → in_groups nat_cmp f (fields_seen entries_by fields) ≡ map seen (in_groups nat_cmp f (groups_seen fields))
+  in_seen f fields =
+      ap (in_groups nat_cmp f) (sym (map_twice (group_of nat_cmp seen) (λ (field : ℕ × Vec E A). (field.0, field.1.items)) fields))
+      ∙ in_mapped nat_cmp seen f (groups_seen fields)
+
+  -- one more of the terms goes to its field
+  pub put_one : (g : ℕ) (entry : E) (old new : List (ℕ × Vec E A)) → ((any : ℕ) → in_groups nat_cmp any (groups_seen new) ≡ in_groups nat_cmp any (groups_seen old) ++ of_key nat_cmp any ((g, entry) ∷ []))
+      → ArePut (((g, (seen entry).0), (seen entry).1) ∷ []) (fields_seen entries_by old) (fields_seen entries_by new)
+  put_one g entry old new more = λ f b.
+      ap (of_key bytes_cmp b)
+      (in_seen f new
+      ∙ ap (map seen) (more f)
+      ∙ map-append seen (in_groups nat_cmp f (groups_seen old)) (of_key nat_cmp f ((g, entry) ∷ []))
+      ∙ ap (λ front. front ++ map seen (of_key nat_cmp f ((g, entry) ∷ []))) (sym (in_seen f old))
+      ∙ ap (λ last. in_groups nat_cmp f (fields_seen entries_by old) ++ last) (one_seen seen f g entry))
+      ∙ of_append bytes_cmp b (in_groups nat_cmp f (fields_seen entries_by old)) (of_key nat_cmp f ((g, seen entry) ∷ []))
+      ∙ ap (λ last. at_field f b (fields_seen entries_by old) ++ last) (one_here f g b (seen entry))
+
+  seen_keys : (fields : List (ℕ × Vec E A)) → keys (fields_seen entries_by fields) ≡ keys (groups_seen fields)
+  seen_keys [] = refl
+  seen_keys (field ∷ fields) = ap (λ rest. field.0 ∷ rest) (seen_keys fields)
+
+  seen_some : (fields : List (ℕ × Vec E A)) → AllByRecursion (λ (group : ℕ × List E). 0 < length group.1) (groups_seen fields) → AllByRecursion (λ (field : ℕ × List Entry). 0 < length field.1) (fields_seen entries_by fields)
+  seen_some [] all = tt
+  seen_some (field ∷ fields) all = (omega (arith, all.0, length-map field.1.items seen), seen_some fields all.1)
+
+  pub seen_ordered : (fields : List (ℕ × Vec E A)) → AreOrdered nat_cmp (groups_seen fields) → AreOrdered nat_cmp (fields_seen entries_by fields)
+  seen_ordered fields up = record {
+    ascending = subst (IsStrictlySortedBy nat_cmp) (sym (seen_keys fields)) up.ascending;
+    some = seen_some fields up.some;
+  }
 
 pub put_none : (fields : Fields) → ArePut [] fields fields
 put_none fields = λ f b. sym (append-nil (at_field f b fields))
@@ -90,60 +122,80 @@ put_all left all begun fields none goes = λ f b.
 
 -- ---- one field after the other is put in order
 
-seen_more : {A : Type 0} (old new : List (ℕ × Vec TermEntry A)) (g : ℕ) (after : Vec TermEntry A) → new ≡ old ++ (g, after) ∷ [] → groups_seen new ≡ groups_seen old ++ (g, after.items) ∷ []
-seen_more {A} old new g after is = ap (λ (gs : List (ℕ × Vec TermEntry A)). groups_seen gs) is ∙ map-append (λ (group : ℕ × Vec TermEntry A). (group.0, group.1.items)) old ((g, after) ∷ [])
-
-at_one : (f g : ℕ) (b : List ℕ) (before after : List TermEntry) → of_key bytes_cmp b (entries_lent after) ≡ of_key bytes_cmp b (entries_lent before)
-    → of_key bytes_cmp b (entries_lent (in_groups nat_cmp f ((g, after) ∷ []))) ≡ of_key bytes_cmp b (entries_lent (in_groups nat_cmp f ((g, before) ∷ [])))
+at_one : (f g : ℕ) (b : List ℕ) (before after : List Entry) → of_key bytes_cmp b after ≡ of_key bytes_cmp b before → at_field f b ((g, after) ∷ []) ≡ at_field f b ((g, before) ∷ [])
 at_one f g b before after same =
     split (eq_by_cmp nat_cmp f g)
-    (λ is. rw is (ap (λ entries. of_key bytes_cmp b (entries_lent entries)) (append-nil after) ∙ same ∙ ap (λ entries. of_key bytes_cmp b (entries_lent entries)) (sym (append-nil before))))
+    (λ is. rw is (ap (of_key bytes_cmp b) (append-nil after) ∙ same ∙ ap (of_key bytes_cmp b) (sym (append-nil before))))
     (λ isnt. rw isnt refl)
 
-fields_more : (f : ℕ) (b : List ℕ) (xs ys : List (ℕ × List TermEntry)) → at_field f b (xs ++ ys) ≡ at_field f b xs ++ at_field f b ys
+pub fields_more : (f : ℕ) (b : List ℕ) (xs ys : Fields) → at_field f b (xs ++ ys) ≡ at_field f b xs ++ at_field f b ys
 fields_more f b xs ys =
-    ap (λ entries. of_key bytes_cmp b (entries_lent entries)) (groups_append nat_cmp nat_order.total f xs ys) ∙ here_more f b (in_groups nat_cmp f xs) (in_groups nat_cmp f ys)
+    ap (of_key bytes_cmp b) (groups_append nat_cmp nat_order.total f xs ys) ∙ of_append bytes_cmp b (in_groups nat_cmp f xs) (in_groups nat_cmp f ys)
 
-pub sorted_on : {A : Type 0} (f : ℕ) (b : List ℕ) (g : ℕ) (before after : Vec TermEntry A) (old new left rest : List (ℕ × Vec TermEntry A)) (whole : List (ℕ × List ℕ))
-    → left ≡ (g, before) ∷ rest → new ≡ old ++ (g, after) ∷ [] → of_key bytes_cmp b (entries_lent after.items) ≡ of_key bytes_cmp b (entries_lent before.items)
-    → at_field f b (groups_seen old) ++ at_field f b (groups_seen left) ≡ whole → at_field f b (groups_seen new) ++ at_field f b (groups_seen rest) ≡ whole
-sorted_on f b g before after old new left rest whole is more same goes =
-    let one = at_field f b ((g, before.items) ∷ []) in
-    let parts : at_field f b (groups_seen left) ≡ one ++ at_field f b (groups_seen rest) =
-    ap (λ fields. at_field f b (groups_seen fields)) is ∙ fields_more f b ((g, before.items) ∷ []) (groups_seen rest) in
-    let longer : at_field f b (groups_seen new) ≡ at_field f b (groups_seen old) ++ one =
-    ap (at_field f b) (seen_more old new g after more) ∙ fields_more f b (groups_seen old) ((g, after.items) ∷ [])
-    ∙ ap (λ last. at_field f b (groups_seen old) ++ last) (at_one f g b before.items after.items same) in
-    ap (λ front. front ++ at_field f b (groups_seen rest)) longer
-    ∙ append_assoc (at_field f b (groups_seen old)) one (at_field f b (groups_seen rest))
-    ∙ ap (λ last. at_field f b (groups_seen old) ++ last) (sym parts)
-    ∙ goes
+module _ {Y : Type 0} (are : Y → List Entry) where
+  seen_more : (old new : List (ℕ × Y)) (g : ℕ) (after : Y) → new ≡ old ++ (g, after) ∷ [] → fields_seen are new ≡ fields_seen are old ++ (g, are after) ∷ []
+  seen_more old new g after is = ap (fields_seen are) is ∙ map-append (λ (field : ℕ × Y). (field.0, are field.1)) old ((g, after) ∷ [])
 
-pub sorted_all : {A : Type 0} (f : ℕ) (b : List ℕ) (old left : List (ℕ × Vec TermEntry A)) (whole : List (ℕ × List ℕ)) → length left ≡ 0
-    → at_field f b (groups_seen old) ++ at_field f b (groups_seen left) ≡ whole → at_field f b (groups_seen old) ≡ whole
-sorted_all f b old [] whole none goes = sym (append-nil (at_field f b (groups_seen old))) ∙ goes
-sorted_all f b old (field ∷ left) whole none goes = absurd (omega (arith, none))
+  pub rising_on : (g : ℕ) (after : Y) (old new : List (ℕ × Y)) → new ≡ old ++ (g, after) ∷ [] → AreRising bytes_cmp (are after) → AreAllRising (fields_seen are old) → AreAllRising (fields_seen are new)
+  rising_on g after old new more up all =
+      subst AreAllRising (sym (seen_more old new g after more))
+      (each_append (λ (field : ℕ × List Entry). AreRising bytes_cmp field.1) (fields_seen are old) ((g, are after) ∷ []) all (up, tt))
 
-pub keys_on : {A : Type 0} (g : ℕ) (before after : Vec TermEntry A) (old new left rest : List (ℕ × Vec TermEntry A)) (whole : List ℕ)
-    → left ≡ (g, before) ∷ rest → new ≡ old ++ (g, after) ∷ [] → keys (groups_seen old) ++ keys (groups_seen left) ≡ whole → keys (groups_seen new) ++ keys (groups_seen rest) ≡ whole
-keys_on g before after old new left rest whole is more goes =
-    let longer : keys (groups_seen new) ≡ keys (groups_seen old) ++ g ∷ [] = ap (λ (gs : List (ℕ × List TermEntry)). keys gs) (seen_more old new g after more) ∙ map-append (λ (group : ℕ × List TermEntry). group.0) (groups_seen old) ((g, after.items) ∷ []) in
-    ap (λ front. front ++ keys (groups_seen rest)) longer
-    ∙ append_assoc (keys (groups_seen old)) (g ∷ []) (keys (groups_seen rest))
-    ∙ ap (λ fields. keys (groups_seen old) ++ keys (groups_seen fields)) (sym is)
-    ∙ goes
+-- fields before, and those that are in order, each as its entries are seen
+module _ {X Y : Type 0} (was : X → List Entry) (are : Y → List Entry) where
+  pub sorted_on : (f : ℕ) (b : List ℕ) (g : ℕ) (before : X) (after : Y) (old new : List (ℕ × Y)) (left rest : List (ℕ × X)) (whole : List (ℕ × List ℕ))
+      → left ≡ (g, before) ∷ rest → new ≡ old ++ (g, after) ∷ [] → of_key bytes_cmp b (are after) ≡ of_key bytes_cmp b (was before)
+      → at_field f b (fields_seen are old) ++ at_field f b (fields_seen was left) ≡ whole → at_field f b (fields_seen are new) ++ at_field f b (fields_seen was rest) ≡ whole
+  sorted_on f b g before after old new left rest whole is more same goes =
+      let one = at_field f b ((g, was before) ∷ []) in
+      let parts : at_field f b (fields_seen was left) ≡ one ++ at_field f b (fields_seen was rest) =
+      ap (λ fields. at_field f b (fields_seen was fields)) is ∙ fields_more f b ((g, was before) ∷ []) (fields_seen was rest) in
+      let longer : at_field f b (fields_seen are new) ≡ at_field f b (fields_seen are old) ++ one =
+      ap (at_field f b) (seen_more are old new g after more) ∙ fields_more f b (fields_seen are old) ((g, are after) ∷ [])
+      ∙ ap (λ last. at_field f b (fields_seen are old) ++ last) (at_one f g b (was before) (are after) same) in
+      ap (λ front. front ++ at_field f b (fields_seen was rest)) longer
+      ∙ append_assoc (at_field f b (fields_seen are old)) one (at_field f b (fields_seen was rest))
+      ∙ ap (λ last. at_field f b (fields_seen are old) ++ last) (sym parts)
+      ∙ goes
 
-pub keys_all : {A : Type 0} (old left : List (ℕ × Vec TermEntry A)) (whole : List ℕ) → length left ≡ 0 → keys (groups_seen old) ++ keys (groups_seen left) ≡ whole → keys (groups_seen old) ≡ whole
-keys_all old [] whole none goes = sym (append-nil (keys (groups_seen old))) ∙ goes
-keys_all old (field ∷ left) whole none goes = absurd (omega (arith, none))
+  pub sorted_all : (f : ℕ) (b : List ℕ) (old : List (ℕ × Y)) (left : List (ℕ × X)) (whole : List (ℕ × List ℕ)) → length left ≡ 0
+      → at_field f b (fields_seen are old) ++ at_field f b (fields_seen was left) ≡ whole → at_field f b (fields_seen are old) ≡ whole
+  sorted_all f b old [] whole none goes = sym (append-nil (at_field f b (fields_seen are old))) ∙ goes
+  sorted_all f b old (field ∷ left) whole none goes = absurd (omega (arith, none))
 
-abbrev pub AreAllRising : List (ℕ × List TermEntry) → Type 0
-AreAllRising fields = AllByRecursion (λ (field : ℕ × List TermEntry). AreRising bytes_cmp (entries_lent field.1)) fields
+  pub keys_on : (g : ℕ) (before : X) (after : Y) (old new : List (ℕ × Y)) (left rest : List (ℕ × X)) (whole : List ℕ)
+      → left ≡ (g, before) ∷ rest → new ≡ old ++ (g, after) ∷ [] → keys (fields_seen are old) ++ keys (fields_seen was left) ≡ whole → keys (fields_seen are new) ++ keys (fields_seen was rest) ≡ whole
+  keys_on g before after old new left rest whole is more goes =
+      let longer : keys (fields_seen are new) ≡ keys (fields_seen are old) ++ g ∷ [] = ap (λ (fields : Fields). keys fields) (seen_more are old new g after more) ∙ map-append (λ (field : ℕ × List Entry). field.0) (fields_seen are old) ((g, are after) ∷ []) in
+      ap (λ front. front ++ keys (fields_seen was rest)) longer
+      ∙ append_assoc (keys (fields_seen are old)) (g ∷ []) (keys (fields_seen was rest))
+      ∙ ap (λ fields. keys (fields_seen are old) ++ keys (fields_seen was fields)) (sym is)
+      ∙ goes
 
-pub rising_on : {A : Type 0} (g : ℕ) (after : Vec TermEntry A) (old new : List (ℕ × Vec TermEntry A)) → new ≡ old ++ (g, after) ∷ [] → AreRising bytes_cmp (entries_lent after.items) → AreAllRising (groups_seen old) → AreAllRising (groups_seen new)
-rising_on g after old new more up all =
-    subst AreAllRising (sym (seen_more old new g after more))
-    (each_append (λ (field : ℕ × List TermEntry). AreRising bytes_cmp (entries_lent field.1)) (groups_seen old) ((g, after.items) ∷ []) all (up, tt))
+  pub keys_all : (old : List (ℕ × Y)) (left : List (ℕ × X)) (whole : List ℕ) → length left ≡ 0 → keys (fields_seen are old) ++ keys (fields_seen was left) ≡ whole → keys (fields_seen are old) ≡ whole
+  keys_all old [] whole none goes = sym (append-nil (keys (fields_seen are old))) ∙ goes
+  keys_all old (field ∷ left) whole none goes = absurd (omega (arith, none))
+
+-- what holds of the field of each term holds of each field, since none of them is empty
+pub fields_of_terms : (terms : Terms) (fields : Fields) → ArePut terms [] fields → AreOrdered nat_cmp fields
+    → (test : ℕ → Bool) → AllByRecursion (λ (entry : (ℕ × List ℕ) × (ℕ × List ℕ)). test entry.0.0 ≡ true) terms → AllByRecursion (λ field. test field ≡ true) (keys fields)
+fields_of_terms terms fields put up test all =
+    by_keys fields (each_both (λ (field : ℕ × List Entry). in_groups nat_cmp field.0 fields ≡ field.1) (λ (field : ℕ × List Entry). 0 < length field.1) (λ (field : ℕ × List Entry). test field.0 ≡ true)
+    (λ field own some. known field.0 field.1 own some) fields (own_groups nat_cmp nat_order.total fields up.ascending) up.some)
+  where
+    by_keys : (xs : Fields) → AllByRecursion (λ (field : ℕ × List Entry). test field.0 ≡ true) xs → AllByRecursion (λ field. test field ≡ true) (keys xs)
+    by_keys [] is = tt
+    by_keys (x ∷ xs) is = (is.0, by_keys xs is.1)
+    known : (f : ℕ) (entries : List Entry) → in_groups nat_cmp f fields ≡ entries → 0 < length entries → test f ≡ true
+    known f [] own some = absurd (omega (arith, some))
+    known f (entry ∷ entries) own some =
+        split (test f)
+        (λ is. is)
+        (λ isnt.
+        let none : of_key term_cmp (f, entry.0) terms ≡ [] = none_of_kind test (f, entry.0) terms all isnt in
+        let here : of_key bytes_cmp entry.0 (entry ∷ entries) ≡ [] = ap (of_key bytes_cmp entry.0) (sym own) ∙ put f entry.0 ∙ none in
+        let more : of_key bytes_cmp entry.0 (entry ∷ entries) ≡ entry.1 ∷ of_key bytes_cmp entry.0 entries = rw ((eq_by_cmp_equiv exact_bytes.total).refl entry.0) refl in
+        absurd (omega (arith, ap length (sym more ∙ here))))
 
 -- ---- the rows of fields
 
@@ -157,22 +209,22 @@ in_field f g b (group ∷ groups) =
     (λ is. rw (term_is f g b group.0, in_field f g b groups, is) refl)
     (λ isnt. rw (term_is f g b group.0, in_field f g b groups, isnt) refl)
 
-parts_of : (field : ℕ × List TermEntry) (fields : List (ℕ × List TermEntry)) → map row_group (rows_of (field ∷ fields)) ≡ map (of_field field.0) (runs bytes_cmp (entries_lent field.1)) ++ map row_group (rows_of fields)
+parts_of : (field : ℕ × List Entry) (fields : Fields) → map row_group (rows_of (field ∷ fields)) ≡ map (of_field field.0) (runs bytes_cmp field.1) ++ map row_group (rows_of fields)
 parts_of field fields =
     map-append row_group (field_rows field.0 field.1) (rows_of fields)
-    ∙ ap (λ (groups : List ((ℕ × List ℕ) × List (ℕ × List ℕ))). groups ++ map row_group (rows_of fields)) (map_twice row_group (field_row field.0) (runs bytes_cmp (entries_lent field.1)))
+    ∙ ap (λ (groups : List ((ℕ × List ℕ) × List (ℕ × List ℕ))). groups ++ map row_group (rows_of fields)) (map_twice row_group (field_row field.0) (runs bytes_cmp field.1))
 
-rows_carry : (f : ℕ) (b : List ℕ) (fields : List (ℕ × List TermEntry)) → in_groups term_cmp (f, b) (map row_group (rows_of fields)) ≡ at_field f b fields
+rows_carry : (f : ℕ) (b : List ℕ) (fields : Fields) → in_groups term_cmp (f, b) (map row_group (rows_of fields)) ≡ at_field f b fields
 rows_carry f b [] = refl
 rows_carry f b (field ∷ fields) =
-    let own = runs bytes_cmp (entries_lent field.1) in
-    let first : in_groups bytes_cmp b own ≡ of_key bytes_cmp b (entries_lent field.1) = gather bytes_cmp exact_bytes.total b (entries_lent field.1) in
+    let own = runs bytes_cmp field.1 in
+    let first : in_groups bytes_cmp b own ≡ of_key bytes_cmp b field.1 = gather bytes_cmp exact_bytes.total b field.1 in
     ap (in_groups term_cmp (f, b)) (parts_of field fields)
     ∙ groups_append term_cmp term_order.total (f, b) (map (of_field field.0) own) (map row_group (rows_of fields))
     ∙ ap (λ xs. xs ++ in_groups term_cmp (f, b) (map row_group (rows_of fields))) (in_field f field.0 b own)
     ∙ ap (λ xs. cond (eq_by_cmp nat_cmp f field.0) (in_groups bytes_cmp b own) [] ++ xs) (rows_carry f b fields)
     ∙ split (eq_by_cmp nat_cmp f field.0)
-    (λ is. rw (is, first) (sym (here_more f b field.1 (in_groups nat_cmp f fields))))
+    (λ is. rw (is, first) (sym (of_append bytes_cmp b field.1 (in_groups nat_cmp f fields))))
     (λ isnt. rw isnt refl)
 
 terms_up : (f : ℕ) (groups : List (List ℕ × List (ℕ × List ℕ))) → IsStrictlySortedBy bytes_cmp (keys groups) → IsStrictlySortedBy term_cmp (keys (map (of_field f) groups))
@@ -195,22 +247,22 @@ terms_behind : (f g : ℕ) (groups : List (List ℕ × List (ℕ × List ℕ))) 
 terms_behind f g [] less = tt
 terms_behind f g (group ∷ groups) less = (less, terms_behind f g groups less)
 
-keys_of : (field : ℕ × List TermEntry) (fields : List (ℕ × List TermEntry)) → keys (map row_group (rows_of (field ∷ fields))) ≡ keys (map (of_field field.0) (runs bytes_cmp (entries_lent field.1))) ++ keys (map row_group (rows_of fields))
+keys_of : (field : ℕ × List Entry) (fields : Fields) → keys (map row_group (rows_of (field ∷ fields))) ≡ keys (map (of_field field.0) (runs bytes_cmp field.1)) ++ keys (map row_group (rows_of fields))
 keys_of field fields =
-    ap (λ (gs : List ((ℕ × List ℕ) × List (ℕ × List ℕ))). keys gs) (parts_of field fields) ∙ map-append (λ (group : (ℕ × List ℕ) × List (ℕ × List ℕ)). group.0) (map (of_field field.0) (runs bytes_cmp (entries_lent field.1))) (map row_group (rows_of fields))
+    ap (λ (gs : List ((ℕ × List ℕ) × List (ℕ × List ℕ))). keys gs) (parts_of field fields) ∙ map-append (λ (group : (ℕ × List ℕ) × List (ℕ × List ℕ)). group.0) (map (of_field field.0) (runs bytes_cmp field.1)) (map row_group (rows_of fields))
 
-rows_behind : (f : ℕ) (fields : List (ℕ × List TermEntry)) → AllByRecursion (λ k. nat_cmp f k ≡ Less) (keys fields) → AllByRecursion (λ (term : ℕ × List ℕ). nat_cmp f term.0 ≡ Less) (keys (map row_group (rows_of fields)))
+rows_behind : (f : ℕ) (fields : Fields) → AllByRecursion (λ k. nat_cmp f k ≡ Less) (keys fields) → AllByRecursion (λ (term : ℕ × List ℕ). nat_cmp f term.0 ≡ Less) (keys (map row_group (rows_of fields)))
 rows_behind f [] all = tt
 rows_behind f (field ∷ fields) all =
     subst (AllByRecursion (λ (term : ℕ × List ℕ). nat_cmp f term.0 ≡ Less)) (sym (keys_of field fields))
-    (each_append (λ (term : ℕ × List ℕ). nat_cmp f term.0 ≡ Less) (keys (map (of_field field.0) (runs bytes_cmp (entries_lent field.1)))) (keys (map row_group (rows_of fields)))
-    (terms_behind f field.0 (runs bytes_cmp (entries_lent field.1)) all.0) (rows_behind f fields all.1))
+    (each_append (λ (term : ℕ × List ℕ). nat_cmp f term.0 ≡ Less) (keys (map (of_field field.0) (runs bytes_cmp field.1))) (keys (map row_group (rows_of fields)))
+    (terms_behind f field.0 (runs bytes_cmp field.1) all.0) (rows_behind f fields all.1))
 
-rows_up : (fields : List (ℕ × List TermEntry)) → IsStrictlySortedBy nat_cmp (keys fields) → AreAllRising fields → AreOrdered term_cmp (map row_group (rows_of fields))
+rows_up : (fields : Fields) → IsStrictlySortedBy nat_cmp (keys fields) → AreAllRising fields → AreOrdered term_cmp (map row_group (rows_of fields))
 rows_up [] up rising = record { ascending = sorted_none term_cmp; some = tt }
 rows_up (field ∷ fields) up rising =
-    let own = runs bytes_cmp (entries_lent field.1) in
-    let first : AreOrdered bytes_cmp own = ordered bytes_cmp exact_bytes.total (entries_lent field.1) rising.0 in
+    let own = runs bytes_cmp field.1 in
+    let first : AreOrdered bytes_cmp own = ordered bytes_cmp exact_bytes.total field.1 rising.0 in
     let rest : AreOrdered term_cmp (map row_group (rows_of fields)) = rows_up fields (sorted_rest nat_cmp field.0 (keys fields) up) rising.1 in
     record {
       ascending = subst (IsStrictlySortedBy term_cmp) (sym (keys_of field fields))
@@ -220,7 +272,7 @@ rows_up (field ∷ fields) up rising =
     }
 
 -- the rows of fields in order are the groups of all terms
-pub rows_grouped : (terms : List ((ℕ × List ℕ) × (ℕ × List ℕ))) (fields : List (ℕ × List TermEntry)) → ((f : ℕ) (b : List ℕ) → at_field f b fields ≡ of_key term_cmp (f, b) terms) → IsStrictlySortedBy nat_cmp (keys fields) → AreAllRising fields
+pub rows_grouped : (terms : List ((ℕ × List ℕ) × (ℕ × List ℕ))) (fields : Fields) → ((f : ℕ) (b : List ℕ) → at_field f b fields ≡ of_key term_cmp (f, b) terms) → IsStrictlySortedBy nat_cmp (keys fields) → AreAllRising fields
     → AreGroups term_cmp terms (map row_group (rows_of fields))
 rows_grouped terms fields same up rising = are_groups term_cmp term_order.total terms (map row_group (rows_of fields)) carry (rows_up fields up rising)
   where
@@ -238,7 +290,6 @@ pub part_on : {Y : Type 0} (old new part next rest whole : List Y) → next ≡ 
 part_on old new part next rest whole is more goes = ap (λ front. front ++ rest) more ∙ append_assoc old part rest ∙ ap (λ ys. old ++ ys) (sym is) ∙ goes
 
 -- the rows of fields from one of them on
-pub fields_at : {A : Type 0} (fields : List (ℕ × Vec TermEntry A)) (at : ℕ) (item : ℕ × Vec TermEntry A) → at < length fields → item ≡ get_or fields at item → rows_in (drop at fields) ≡ field_rows item.0 item.1.items ++ rows_in (drop (at + 1) fields)
-fields_at {A} fields at item inside is =
-    ap (λ (fs : List (ℕ × Vec TermEntry A)). rows_in fs) (at_drop_more (λ (es : List (ℕ × Vec TermEntry A)). es) fields at item inside)
-    ∙ ap (λ (field : ℕ × Vec TermEntry A). field_rows field.0 field.1.items ++ rows_in (drop (at + 1) fields)) (sym is)
+pub fields_at : (fields : List (ℕ × FieldTerms)) (at : ℕ) (item : ℕ × FieldTerms) → at < length fields → item ≡ get_or fields at item → rows_in (drop at fields) ≡ field_rows item.0 (field_entries item.1) ++ rows_in (drop (at + 1) fields)
+fields_at fields at item inside is =
+    ap rows_in (at_drop_more (λ (fs : List (ℕ × FieldTerms)). fs) fields at item inside) ∙ ap (λ (field : ℕ × FieldTerms). field_rows field.0 (field_entries field.1) ++ rows_in (drop (at + 1) fields)) (sym is)

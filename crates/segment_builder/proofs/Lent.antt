@@ -31,11 +31,14 @@ keywords_grouped {A} entries groups are =
     (map_twice (λ (group : ℕ × List (ℕ × Bor (List (SmallVec ℕ)))). (group.0, map (λ (row : ℕ × Bor (List (SmallVec ℕ))). (row.0, bytes_lent row.1.now)) group.1)) (λ (group : ℕ × Vec (ℕ × Bor (List (SmallVec ℕ))) A). (group.0, group.1.items)) groups)
     (regrouped nat_cmp nat_cmp (λ (field : ℕ). field) (λ (row : ℕ × Bor (List (SmallVec ℕ))). (row.0, bytes_lent row.1.now)) (λ a b. refl) entries (groups_seen groups) are)
 
-abbrev TermEntry : Type 0
+abbrev pub TermEntry : Type 0
 TermEntry = Bor (List ℕ) × (ℕ × Bor (List ℕ))
 
-abbrev lent_entry : TermEntry → List ℕ × (ℕ × List ℕ)
+abbrev pub lent_entry : TermEntry → List ℕ × (ℕ × List ℕ)
 lent_entry entry = (entry.0.now, (entry.1.0, entry.1.1.now))
+
+abbrev pub key_entry : List ℕ × ℕ → List ℕ × (ℕ × List ℕ)
+key_entry entry = (entry.0, (entry.1, []))
 
 abbrev pub lent_bytes_cmp : Bor (List ℕ) → Bor (List ℕ) → Ordering
 lent_bytes_cmp one other = slice_cmp nat_cmp one.now other.now
@@ -44,40 +47,52 @@ lent_bytes_cmp one other = slice_cmp nat_cmp one.now other.now
 abbrev pub lent_bytes : List ℕ → Bor (List ℕ)
 lent_bytes bytes = record { ref_ptr = (0, 0); now = bytes }
 
--- what entries carry at bytes, as they are lent
-pub same_lent : (old new : List TermEntry) → ((key : Bor (List ℕ)) → of_key lent_bytes_cmp key new ≡ of_key lent_bytes_cmp key old) → (bytes : List ℕ) → of_key (slice_cmp nat_cmp) bytes (entries_lent new) ≡ of_key (slice_cmp nat_cmp) bytes (entries_lent old)
-same_lent old new same bytes =
-    seen new ∙ ap (map (λ (posting : ℕ × Bor (List ℕ)). (posting.0, posting.1.now))) (same (lent_bytes bytes)) ∙ sym (seen old)
-  where
-    seen : (entries : List TermEntry) → of_key (slice_cmp nat_cmp) bytes (entries_lent entries) ≡ map (λ (posting : ℕ × Bor (List ℕ)). (posting.0, posting.1.now)) (of_key lent_bytes_cmp (lent_bytes bytes) entries)
-    seen entries = key_as lent_bytes_cmp (slice_cmp nat_cmp) (λ (key : Bor (List ℕ)). key.now) (λ (posting : ℕ × Bor (List ℕ)). (posting.0, posting.1.now)) (λ a b. refl) (lent_bytes bytes) entries
+-- ---- entries by keys that are ordered as the bytes that they stand for
 
-later_lent : (key : Bor (List ℕ)) (entries : List TermEntry) → AllByRecursion (λ (later : TermEntry). is_gt (lent_bytes_cmp key later.0) ≡ false) entries → AllByRecursion (λ (later : List ℕ × (ℕ × List ℕ)). is_gt (slice_cmp nat_cmp key.now later.0) ≡ false) (entries_lent entries)
-later_lent key [] all = tt
-later_lent key (entry ∷ entries) all = (all.0, later_lent key entries all.1)
+module _ {K P : Type 0} (cmp : K → K → Ordering) (bytes : K → List ℕ) (posting : P → ℕ × List ℕ) (same : (a b : K) → cmp a b ≡ slice_cmp nat_cmp (bytes a) (bytes b)) where
+  abbrev seen : K × P → List ℕ × (ℕ × List ℕ)
+  seen entry = (bytes entry.0, posting entry.1)
 
-pub rising_lent : (entries : List TermEntry) → AreRising lent_bytes_cmp entries → AreRising (slice_cmp nat_cmp) (entries_lent entries)
-rising_lent [] up = tt
-rising_lent (entry ∷ entries) up = (later_lent entry.0 entries up.0, rising_lent entries up.1)
+  -- what entries carry at bytes
+  pub same_seen : (key : K) (old new : List (K × P)) → of_key cmp key new ≡ of_key cmp key old → of_key (slice_cmp nat_cmp) (bytes key) (map seen new) ≡ of_key (slice_cmp nat_cmp) (bytes key) (map seen old)
+  same_seen key old new is = key_as cmp (slice_cmp nat_cmp) bytes posting same key new ∙ ap (map posting) is ∙ sym (key_as cmp (slice_cmp nat_cmp) bytes posting same key old)
 
-run_lent : (key : Bor (List ℕ)) (entries : List TermEntry) → run_length (slice_cmp nat_cmp) key.now (entries_lent entries) ≡ run_length lent_bytes_cmp key entries
-run_lent key [] = refl
-run_lent key (entry ∷ entries) = ap (λ n. cond (eq_by_cmp (slice_cmp nat_cmp) key.now entry.0.now) (suc n) 0) (run_lent key entries)
+  later_seen : (key : K) (entries : List (K × P)) → AllByRecursion (λ (later : K × P). is_gt (cmp key later.0) ≡ false) entries → AllByRecursion (λ (later : List ℕ × (ℕ × List ℕ)). is_gt (slice_cmp nat_cmp (bytes key) later.0) ≡ false) (map seen entries)
+  later_seen key [] all = tt
+  later_seen key (entry ∷ entries) all = (ap is_gt (sym (same key entry.0)) ∙ all.0, later_seen key entries all.1)
 
--- the row of the entries from a place on, and those behind it
-pub row_at : (field : ℕ) (entries rest : List TermEntry) (at n : ℕ) (d : TermEntry) → at < length entries → rest ≡ drop at entries → n ≡ run_length lent_bytes_cmp (get_or entries at d).0 rest
-    → (0 < n) × (field_rows field (drop at entries) ≡ field_row field ((get_or entries at d).0.now, members (entries_lent (take n rest))) ∷ field_rows field (drop (at + n) entries))
-row_at field entries rest at n d inside is same =
-    let first = get_or entries at d in
-    let behind : entries_lent rest ≡ lent_entry first ∷ entries_lent (drop (at + 1) entries) = ap entries_lent (is ∙ at_drop_more (λ (es : List TermEntry). es) entries at d inside) in
-    let run = first_run (slice_cmp nat_cmp) exact_bytes.total (entries_lent rest) (lent_entry first) (entries_lent (drop (at + 1) entries)) n behind (same ∙ sym (run_lent first.0 rest)) in
-    let left : drop n (entries_lent rest) ≡ entries_lent (drop (at + n) entries) = drop-map lent_entry n rest ∙ ap entries_lent (ap (drop n) is ∙ drop-drop n at entries) in (
-      run.0,
-      ap (field_rows field) (sym is)
-          ∙ ap (map (field_row field)) run.1
-          ∙ ap (λ es. field_row field (first.0.now, members es) ∷ map (field_row field) (runs (slice_cmp nat_cmp) (drop n (entries_lent rest)))) (take-map lent_entry n rest)
-          ∙ ap (λ es. field_row field (first.0.now, members (entries_lent (take n rest))) ∷ map (field_row field) (runs (slice_cmp nat_cmp) es)) left,
-    )
+  pub rising_seen : (entries : List (K × P)) → AreRising cmp entries → AreRising (slice_cmp nat_cmp) (map seen entries)
+  rising_seen [] up = tt
+  rising_seen (entry ∷ entries) up = (later_seen entry.0 entries up.0, rising_seen entries up.1)
+
+  run_seen : (key : K) (entries : List (K × P)) → run_length (slice_cmp nat_cmp) (bytes key) (map seen entries) ≡ run_length cmp key entries
+  run_seen key [] = refl
+  run_seen key (entry ∷ entries) = rw (same key entry.0, run_seen key entries) refl
+
+  -- the row of the entries from a place on, and those behind it
+  pub row_at : (field : ℕ) (entries rest : List (K × P)) (at n : ℕ) (d : K × P) → at < length entries → rest ≡ drop at entries → n ≡ run_length cmp (get_or entries at d).0 rest
+      → (0 < n) × (field_rows field (map seen (drop at entries)) ≡ field_row field (bytes (get_or entries at d).0, members (map seen (take n rest))) ∷ field_rows field (map seen (drop (at + n) entries)))
+  row_at field entries rest at n d inside is long =
+      let first = get_or entries at d in
+      let behind : map seen rest ≡ seen first ∷ map seen (drop (at + 1) entries) = ap (map seen) (is ∙ at_drop_more (λ (es : List (K × P)). es) entries at d inside) in
+      let run = first_run (slice_cmp nat_cmp) exact_bytes.total (map seen rest) (seen first) (map seen (drop (at + 1) entries)) n behind (long ∙ sym (run_seen first.0 rest)) in
+      let left : drop n (map seen rest) ≡ map seen (drop (at + n) entries) = drop-map seen n rest ∙ ap (map seen) (ap (drop n) is ∙ drop-drop n at entries) in (
+        run.0,
+        ap (λ es. field_rows field (map seen es)) (sym is)
+            ∙ ap (map (field_row field)) run.1
+            ∙ ap (λ es. field_row field (bytes first.0, members es) ∷ map (field_row field) (runs (slice_cmp nat_cmp) (drop n (map seen rest)))) (take-map seen n rest)
+            ∙ ap (λ es. field_row field (bytes first.0, members (map seen (take n rest))) ∷ map (field_row field) (runs (slice_cmp nat_cmp) es)) left,
+      )
+
+  pub run_long : (entries : List (K × P)) → AreAscending (map (λ (posting : ℕ × List ℕ). posting.0) (members (map seen entries))) → length entries < 2 ^ 32
+  run_long entries up =
+      omega (
+        arith,
+        up.fewer,
+        length-map (members (map seen entries)) (λ (posting : ℕ × List ℕ). posting.0),
+        length-map {B = ℕ × List ℕ} (map seen entries) (λ (entry : List ℕ × (ℕ × List ℕ)). entry.1),
+        length-map {B = List ℕ × (ℕ × List ℕ)} entries seen,
+      )
 
 -- as many rows as terms
 pub rows_few : (terms : List (ℕ × Bor (List ℕ))) (rows : List TermRow) → terms_lent terms ≡ terms_in rows → length terms < 2 ^ 64 → length rows < 2 ^ 64
@@ -89,13 +104,3 @@ pub positions_fit : (entries : List TermEntry) → All (λ (posting : ℕ × Lis
 positions_fit entries all = λ i d inside.
     (seen_at (λ (entry : TermEntry). (entry.1.0, entry.1.1.now)) (λ (posting : ℕ × List ℕ). AreAscending posting.1) entries i d inside
     (subst (All (λ (posting : ℕ × List ℕ). AreAscending posting.1)) (map_twice (λ (entry : List ℕ × (ℕ × List ℕ)). entry.1) lent_entry entries) all)).fewer
-
-pub run_long : (entries : List TermEntry) → AreAscending (map (λ (posting : ℕ × List ℕ). posting.0) (members (entries_lent entries))) → length entries < 2 ^ 32
-run_long entries up =
-    omega (
-      arith,
-      up.fewer,
-      length-map (members (entries_lent entries)) (λ (posting : ℕ × List ℕ). posting.0),
-      length-map {B = ℕ × List ℕ} (entries_lent entries) (λ (entry : List ℕ × (ℕ × List ℕ)). entry.1),
-      length-map {B = List ℕ × (ℕ × List ℕ)} entries lent_entry,
-    )

@@ -46,3 +46,4 @@ pub mod Gathered
 pub mod Put
 pub mod Ranked
 pub mod Fielded
+pub mod Mixed

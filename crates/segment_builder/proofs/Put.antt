@@ -1,10 +1,11 @@
 -- What the documents of blocks carry can be written, and parts that were written are a segment's text.
-use Rattle.std.proofs.Common.{◌≡◌, ℕ, ◌+◌, ◌<◌, ◌^◌, List, [], ◌++◌, length, map, Contains, FitsSigned, w64, refl, sym, ap, subst, ◌∙◌, append_assoc}
+use Rattle.std.proofs.Common.{◌≡◌, ℕ, ◌+◌, ◌<◌, ◌^◌, true, false, List, [], ◌++◌, length, map, Contains, FitsSigned, w64, refl, sym, ap, subst, ◌∙◌, append_assoc}
 use Rattle.std.specs.Cmp.Lexicographic.{slice_cmp}
 use Rattle.std.specs.List.{All}
 use Rattle.std.specs.Ordering.{int_cmp, nat_cmp}
 use Rattle.flattener.specs.Block.{BlockState}
-use Rattle.mapping.specs.Mapping.{Mapping}
+use Rattle.flattener.specs.Flat.{has_numbers, is_keyword, is_text}
+use Rattle.mapping.specs.Mapping.{Mapping, kind_at}
 use Rattle.segment.specs.Flat.{FlatDocument}
 use Rattle.segment_parts.specs.Text.{head_text, rows_part, ordinals_text, numbers_text, present_text, segment_text}
 use Rattle.segment_parts.specs.Whole.{all_written}
@@ -19,13 +20,15 @@ use Rattle.segment_builder.specs.Given.{AreGiven}
 use Rattle.segment_builder.specs.Groups.{AreGroups}
 use Rattle.segment_builder.specs.Made.{all_terms}
 use Rattle.segment_builder.specs.Taken.{AreTermEntries, AreTextEntries, AreValueEntries}
-use Rattle.segment_builder.specs.Terms.{row_group}
+use Rattle.segment_builder.specs.Terms.{keyword_terms, number_terms, row_group, AreFieldsApart}
 use Rattle.segment_builder.proofs.Agreed.{keywords_found}
 use Rattle.segment_builder.proofs.Agreeing.{apart_of, few_documents, kinds_of, scopes_below}
 use Rattle.segment_builder.proofs.Agreeing.{all_written as written}
+use Rattle.segment_builder.proofs.Among.{each_both_sides}
 use Rattle.segment_builder.proofs.ByDocuments.{by_documents}
+use Rattle.segment_builder.proofs.InOrder.{each_then}
 use Rattle.segment_builder.proofs.Onced.{KeysAreOrdered}
-use Rattle.segment_builder.proofs.Taking.{keyword_entries, number_entries, term_entries, text_entries}
+use Rattle.segment_builder.proofs.Taking.{keyword_entries, keywords_kind, number_entries, numbers_kind, term_entries, text_entries, words_kind, TermEntry}
 
 module _ (m : Mapping) (blocks : List BlockState) (docs : List FlatDocument) (given : AreGiven m blocks) (flats : docs ≡ flats_in blocks) where
   abbrev it : EntriesState
@@ -41,6 +44,18 @@ module _ (m : Mapping) (blocks : List BlockState) (docs : List FlatDocument) (gi
   terms_fit law =
       subst (λ (e : EntriesState). AreTermEntries (length (flats_in blocks)) (all_terms e)) (sym entries_are)
       (term_entries (kinds_of m) it blocks refl (written m blocks given) (apart_of m) law given.numbered.fields (few_documents m blocks given))
+
+  pub fields_apart : AreFieldsApart ((entries_in docs).words ++ keyword_terms (entries_in docs).keywords) (number_terms (entries_in docs).numbers)
+  fields_apart =
+      subst (λ (e : EntriesState). AreFieldsApart (e.words ++ keyword_terms e.keywords) (number_terms e.numbers)) (sym entries_are)
+      (record {
+        is_number = λ f. has_numbers (kind_at m f);
+        others_are =
+            each_both_sides (λ (entry : TermEntry). has_numbers (kind_at m entry.0.0) ≡ false) it.words (keyword_terms it.keywords)
+            (each_then (λ (entry : TermEntry). is_text (kind_at m entry.0.0) ≡ true) (λ (entry : TermEntry). has_numbers (kind_at m entry.0.0) ≡ false) (λ entry is. (apart_of m).word_num entry.0.0 is) it.words (words_kind (kinds_of m) it blocks refl (written m blocks given)))
+            (each_then (λ (entry : TermEntry). is_keyword (kind_at m entry.0.0) ≡ true) (λ (entry : TermEntry). has_numbers (kind_at m entry.0.0) ≡ false) (λ entry is. (apart_of m).key_num entry.0.0 is) (keyword_terms it.keywords) (keywords_kind (kinds_of m) it blocks refl (written m blocks given)));
+        numbers_are = numbers_kind (kinds_of m) it blocks refl (written m blocks given);
+      })
 
   pub numbers_fit : AreValueEntries int_cmp (λ field number. FitsSigned w64 number) (length (flats_in blocks)) (entries_in docs).numbers
   numbers_fit =

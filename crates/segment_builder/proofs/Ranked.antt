@@ -12,7 +12,7 @@ use Rattle.segment_builder.proofs.Keys.{split}
 use Rattle.segment_builder.proofs.Merged.{IsExact}
 use Rattle.segment_builder.proofs.Sorted.{same_field}
 
-equal_from : (x : Ordering) → is_eq x ≡ true → x ≡ Equal
+pub equal_from : (x : Ordering) → is_eq x ≡ true → x ≡ Equal
 equal_from Less is = absurd (cc (is))
 equal_from Equal is = refl
 equal_from Greater is = absurd (cc (is))

@@ -10,21 +10,22 @@ ghost use Rattle.segment_parts.specs.Text.{head_text, segment_text};
 ghost use Rattle.segment_parts.specs.declared.columns.Columns.{Columns};
 ghost use Rattle.term_table.specs.Terms.{term_cmp};
 ghost use Rattle.segment_builder.specs.Blocks.{blocks_of, objects_of};
-ghost use Rattle.segment_builder.specs.Entries.{entries_in, flats_in, flats_lent, keywords_lent, no_entries, with_blocks};
+ghost use Rattle.segment_builder.specs.Entries.{entries_in, flats_in, flats_lent, keywords_lent, no_entries, numbers_lent, with_blocks};
 ghost use Rattle.segment_builder.specs.Given.{AreGiven};
 ghost use Rattle.segment_builder.specs.Groups.{AreGroups};
 ghost use Rattle.segment_builder.specs.Made.{AreSetsOf, IsMade, all_terms};
-ghost use Rattle.segment_builder.specs.Terms.{keys_kept, number_terms, row_group, rows_in};
+ghost use Rattle.segment_builder.specs.Terms.{fields_of_keys, keyword_terms, number_terms, row_group, rows_in, AreFieldsApart, AreSortedFields};
 
 use crate::entries::{Lists, documents_of, lists_of};
 use crate::fit::blocks_fit;
+use crate::grouping::sort;
 use crate::numbers::put_numbers;
 use crate::ordinals::put_ordinals;
 use crate::present::put_texts;
 use crate::roots::put_roots;
-use crate::rows::{put_terms, sorted_fields};
+use crate::rows::{FieldTerms, add_numbers, put_terms, sorted_numbers, sorted_words};
 use crate::scopes::scope_sets;
-use crate::terms::{fields_of, keys_of};
+use crate::terms::{fields_of, number_fields_of};
 use crate::{NoMemory, made_columns_agree, made_segments_are_blocks};
 use block_bits::words_are_of_one_set;
 use flattener::{Block, Document, Keyword, blocks_are_of_their_mapping, blocks_are_small};
@@ -88,7 +89,7 @@ fn bytes_of(alloc: Global, blocks: &[Block]) -> Result<Vec<u8>, NoMemory>
     let list = documents_of(alloc, blocks)?;
     let documents = list.as_slice();
     let lists = lists_of(alloc, documents)?;
-    let keys = keys_of(alloc, lists.numbers.as_slice())?;
+    let keys = sorted_keys(alloc, lists.numbers.as_slice())?;
     let fields = sorted_terms(alloc, documents, lists.keywords.as_slice(), keys.as_slice())?;
     let mut bytes = Vec::new(alloc);
     put_head(alloc, documents, lists.scopes.as_slice(), &mut bytes)?;
@@ -111,20 +112,37 @@ fn bytes_of(alloc: Global, blocks: &[Block]) -> Result<Vec<u8>, NoMemory>
     Ok(bytes)
 }
 
-/// The terms of documents field by field, in order; those of one term keep the order of the documents.
+/// The keys of the numbers of documents field by field, in order; those of one number keep the order of the documents.
+fn sorted_keys(
+    alloc: Global,
+    numbers: &[(u32, (u32, &[i64]))],
+) -> Result<Vec<(u32, Vec<([u8; 8], u32)>)>, NoMemory>
+    ensures { IfOk result (λ fields. AreSortedFields (number_terms (numbers_lent numbers.now)) (fields_of_keys fields.items)) }
+{
+    let fields = number_fields_of(alloc, numbers)?;
+    Ok(sorted_numbers(alloc, fields)?)
+}
+
+/// The terms of documents field by field, in order, where numbers are so already; those of one term keep the order of the
+/// documents.
 fn sorted_terms<'a>(
     alloc: Global,
     documents: &[&'a Document],
     keywords: &[(u32, (u32, &'a [Keyword]))],
-    keys: &'a [(u32, (u32, [u8; 8]))],
-) -> Result<Vec<(u32, Vec<(&'a [u8], (u32, &'a [u32]))>)>, NoMemory>
+    numbers: &'a [(u32, Vec<([u8; 8], u32)>)],
+) -> Result<Vec<(u32, FieldTerms<'a>)>, NoMemory>
     requires few { length documents.now < 2 ^ 32 }
     requires keywords { keywords_lent keywords.now ≡ (entries_in (flats_lent documents.now)).keywords }
-    requires keys { keys_kept keys.now ≡ number_terms (entries_in (flats_lent documents.now)).numbers }
+    requires numbers { AreSortedFields (number_terms (entries_in (flats_lent documents.now)).numbers) (fields_of_keys numbers.now) }
+    requires apart { AreFieldsApart ((entries_in (flats_lent documents.now)).words ++ keyword_terms (entries_in (flats_lent documents.now)).keywords)
+        (number_terms (entries_in (flats_lent documents.now)).numbers) }
     ensures { IfOk result (λ fields. AreGroups term_cmp (all_terms (entries_in (flats_lent documents.now))) (map row_group (rows_in fields.items))) }
 {
-    let fields = fields_of(alloc, documents, keywords, keys)?;
-    Ok(sorted_fields(alloc, fields)?)
+    let words = fields_of(alloc, documents, keywords)?;
+    let mut fields = sorted_words(alloc, words)?;
+    add_numbers(numbers, &mut fields)?;
+    sort(&mut fields)?;
+    Ok(fields)
 }
 
 /// Appends the number of documents, and the documents of each scope.

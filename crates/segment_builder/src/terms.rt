@@ -1,4 +1,4 @@
-//! The terms of documents, put together by field.
+//! The terms of documents, put together by field: words and keywords, and apart from them numbers.
 
 ghost use Rattle.std.specs.Prelude.{◌≡◌, ◌<◌, ◌^◌, ◌++◌, ◌∷◌, [], length, map, IfOk, OnOk};
 ghost use Rattle.std.specs.Ordering.{nat_cmp};
@@ -6,9 +6,8 @@ ghost use Rattle.term_table.specs.Keys.{number_key};
 ghost use Rattle.flattener.specs.Seen.{word_seen};
 ghost use Rattle.segment_builder.specs.Entries.{bytes_lent, entries_in, flats_lent, keywords_lent, numbers_lent};
 ghost use Rattle.segment_builder.specs.Groups.{groups_seen, AreOrdered};
-ghost use Rattle.segment_builder.specs.Made.{all_terms};
 ghost use Rattle.segment_builder.specs.Parts.{tagged};
-ghost use Rattle.segment_builder.specs.Terms.{terms_at, unless_same, once_after, once, keyword_terms, keys_kept, number_terms, ArePut};
+ghost use Rattle.segment_builder.specs.Terms.{terms_at, unless_same, once_after, once, fields_lent, fields_of_keys, keyword_terms, number_terms, ArePut};
 
 use crate::NoMemory;
 use crate::by_field::{KnownPlaces, put};
@@ -16,24 +15,21 @@ use flattener::{Document, Keyword, Word};
 use std::alloc::Global;
 use term_table::number_key;
 
-/// The terms of documents by field: their words, their keywords, and numbers by their keys.
+/// The words and the keywords of documents by field.
 pub(crate) fn fields_of<'a>(
     alloc: Global,
     documents: &[&'a Document],
     keywords: &[(u32, (u32, &'a [Keyword]))],
-    keys: &'a [(u32, (u32, [u8; 8]))],
 ) -> Result<Vec<(u32, Vec<(&'a [u8], (u32, &'a [u32]))>)>, NoMemory>
     requires few { length documents.now < 2 ^ 32 }
     requires keywords { keywords_lent keywords.now ≡ (entries_in (flats_lent documents.now)).keywords }
-    requires keys { keys_kept keys.now ≡ number_terms (entries_in (flats_lent documents.now)).numbers }
-    ensures put { IfOk result (λ fields. ArePut (all_terms (entries_in (flats_lent documents.now))) [] (groups_seen fields.items)) }
+    ensures put { IfOk result (λ fields. ArePut ((entries_in (flats_lent documents.now)).words ++ keyword_terms (entries_in (flats_lent documents.now)).keywords) [] (fields_lent fields.items)) }
     ensures ordered { IfOk result (λ fields. AreOrdered nat_cmp (groups_seen fields.items)) }
 {
     let mut known = KnownPlaces::new();
     let mut fields = Vec::new(alloc);
     put_words_of(alloc, documents, &mut known, &mut fields)?;
     put_keyword_terms(alloc, keywords, &mut known, &mut fields)?;
-    put_number_terms(alloc, keys, &mut known, &mut fields)?;
     Ok(fields)
 }
 
@@ -46,7 +42,7 @@ fn put_words_of<'a>(
 ) -> Result<(), NoMemory>
     requires few { length documents.now < 2 ^ 32 }
     requires ordered { AreOrdered nat_cmp (groups_seen into.old.items) }
-    ensures put { OnOk result (ArePut ((entries_in (flats_lent documents.now)).words) (groups_seen into.old.items) (groups_seen into.new.items)) }
+    ensures put { OnOk result (ArePut ((entries_in (flats_lent documents.now)).words) (fields_lent into.old.items) (fields_lent into.new.items)) }
     ensures ordered { OnOk result (AreOrdered nat_cmp (groups_seen into.new.items)) }
 {
     'documents: for doc in 0..documents.len() {
@@ -70,7 +66,7 @@ fn put_words<'a>(
     into: &mut Vec<(u32, Vec<(&'a [u8], (u32, &'a [u32]))>)>,
 ) -> Result<(), NoMemory>
     requires ordered { AreOrdered nat_cmp (groups_seen into.old.items) }
-    ensures put { OnOk result (ArePut (tagged doc (map word_seen words.now)) (groups_seen into.old.items) (groups_seen into.new.items)) }
+    ensures put { OnOk result (ArePut (tagged doc (map word_seen words.now)) (fields_lent into.old.items) (fields_lent into.new.items)) }
     ensures ordered { OnOk result (AreOrdered nat_cmp (groups_seen into.new.items)) }
 {
     'words: for word in words {
@@ -96,7 +92,7 @@ fn put_keyword_terms<'a>(
     into: &mut Vec<(u32, Vec<(&'a [u8], (u32, &'a [u32]))>)>,
 ) -> Result<(), NoMemory>
     requires ordered { AreOrdered nat_cmp (groups_seen into.old.items) }
-    ensures put { OnOk result (ArePut (keyword_terms (keywords_lent keywords.now)) (groups_seen into.old.items) (groups_seen into.new.items)) }
+    ensures put { OnOk result (ArePut (keyword_terms (keywords_lent keywords.now)) (fields_lent into.old.items) (fields_lent into.new.items)) }
     ensures ordered { OnOk result (AreOrdered nat_cmp (groups_seen into.new.items)) }
 {
     'entries: for (field, (doc, values)) in keywords {
@@ -115,7 +111,7 @@ fn put_keywords<'a>(
     into: &mut Vec<(u32, Vec<(&'a [u8], (u32, &'a [u32]))>)>,
 ) -> Result<(), NoMemory>
     requires ordered { AreOrdered nat_cmp (groups_seen into.old.items) }
-    ensures put { OnOk result (ArePut (terms_at field doc (once (bytes_lent values.now))) (groups_seen into.old.items) (groups_seen into.new.items)) }
+    ensures put { OnOk result (ArePut (terms_at field doc (once (bytes_lent values.now))) (fields_lent into.old.items) (fields_lent into.new.items)) }
     ensures ordered { OnOk result (AreOrdered nat_cmp (groups_seen into.new.items)) }
 {
     match values {
@@ -139,7 +135,7 @@ fn put_later_keywords<'a>(
     into: &mut Vec<(u32, Vec<(&'a [u8], (u32, &'a [u32]))>)>,
 ) -> Result<(), NoMemory>
     requires ordered { AreOrdered nat_cmp (groups_seen into.old.items) }
-    ensures put { OnOk result (ArePut (terms_at field doc (once_after first.now (bytes_lent rest.now))) (groups_seen into.old.items) (groups_seen into.new.items)) }
+    ensures put { OnOk result (ArePut (terms_at field doc (once_after first.now (bytes_lent rest.now))) (fields_lent into.old.items) (fields_lent into.new.items)) }
     ensures ordered { OnOk result (AreOrdered nat_cmp (groups_seen into.new.items)) }
 {
     let mut last = first;
@@ -162,7 +158,7 @@ fn put_unless_same<'a>(
     into: &mut Vec<(u32, Vec<(&'a [u8], (u32, &'a [u32]))>)>,
 ) -> Result<(), NoMemory>
     requires ordered { AreOrdered nat_cmp (groups_seen into.old.items) }
-    ensures put { OnOk result (ArePut (terms_at field doc (unless_same last.now value.now)) (groups_seen into.old.items) (groups_seen into.new.items)) }
+    ensures put { OnOk result (ArePut (terms_at field doc (unless_same last.now value.now)) (fields_lent into.old.items) (fields_lent into.new.items)) }
     ensures ordered { OnOk result (AreOrdered nat_cmp (groups_seen into.new.items)) }
 {
     if value == last {
@@ -171,23 +167,6 @@ fn put_unless_same<'a>(
         put_term(alloc, field, value, doc, &[], known, into)?;
         Ok(())
     }
-}
-
-/// Adds the keys of numbers.
-fn put_number_terms<'a>(
-    alloc: Global,
-    keys: &'a [(u32, (u32, [u8; 8]))],
-    known: &mut KnownPlaces,
-    into: &mut Vec<(u32, Vec<(&'a [u8], (u32, &'a [u32]))>)>,
-) -> Result<(), NoMemory>
-    requires ordered { AreOrdered nat_cmp (groups_seen into.old.items) }
-    ensures put { OnOk result (ArePut (keys_kept keys.now) (groups_seen into.old.items) (groups_seen into.new.items)) }
-    ensures ordered { OnOk result (AreOrdered nat_cmp (groups_seen into.new.items)) }
-{
-    'keys: for (field, (doc, key)) in keys {
-        put_term(alloc, *field, key.as_slice(), *doc, &[], known, into)?;
-    }
-    Ok(())
 }
 
 /// Adds a term of a document, with its positions there.
@@ -201,80 +180,111 @@ fn put_term<'a>(
     into: &mut Vec<(u32, Vec<(&'a [u8], (u32, &'a [u32]))>)>,
 ) -> Result<(), NoMemory>
     requires ordered { AreOrdered nat_cmp (groups_seen into.old.items) }
-    ensures put { OnOk result (ArePut (((field, bytes.now), (doc, positions.now)) ∷ []) (groups_seen into.old.items) (groups_seen into.new.items)) }
+    ensures put { OnOk result (ArePut (((field, bytes.now), (doc, positions.now)) ∷ []) (fields_lent into.old.items) (fields_lent into.new.items)) }
     ensures ordered { OnOk result (AreOrdered nat_cmp (groups_seen into.new.items)) }
 {
     put(alloc, field, (bytes, (doc, positions)), known, into)?;
     Ok(())
 }
 
-/// The keys of numbers, each once in a document.
-pub(crate) fn keys_of(
+/// The keys of the numbers of documents by field, each once in a document.
+pub(crate) fn number_fields_of(
     alloc: Global,
     numbers: &[(u32, (u32, &[i64]))],
-) -> Result<Vec<(u32, (u32, [u8; 8]))>, NoMemory>
-    ensures { IfOk result (λ keys. keys_kept keys.items ≡ number_terms (numbers_lent numbers.now)) }
+) -> Result<Vec<(u32, Vec<([u8; 8], u32)>)>, NoMemory>
+    ensures put { IfOk result (λ fields. ArePut (number_terms (numbers_lent numbers.now)) [] (fields_of_keys fields.items)) }
+    ensures ordered { IfOk result (λ fields. AreOrdered nat_cmp (groups_seen fields.items)) }
 {
-    let mut keys = Vec::with_capacity(alloc, numbers.len())?;
+    let mut known = KnownPlaces::new();
+    let mut fields = Vec::new(alloc);
     'entries: for (field, (doc, values)) in numbers {
-        add_keys(*field, *doc, *values, &mut keys)?;
+        put_keys(alloc, *field, *doc, *values, &mut known, &mut fields)?;
     }
-    Ok(keys)
+    Ok(fields)
 }
 
 /// Adds the keys of the numbers of a field in one document, each once.
-fn add_keys(
+fn put_keys(
+    alloc: Global,
     field: u32,
     doc: u32,
     values: &[i64],
-    into: &mut Vec<(u32, (u32, [u8; 8]))>,
+    known: &mut KnownPlaces,
+    into: &mut Vec<(u32, Vec<([u8; 8], u32)>)>,
 ) -> Result<(), NoMemory>
-    ensures { OnOk result (keys_kept into.new.items ≡ keys_kept into.old.items ++ terms_at field doc (once (map number_key values.now))) }
+    requires ordered { AreOrdered nat_cmp (groups_seen into.old.items) }
+    ensures put { OnOk result (ArePut (terms_at field doc (once (map number_key values.now))) (fields_of_keys into.old.items) (fields_of_keys into.new.items)) }
+    ensures ordered { OnOk result (AreOrdered nat_cmp (groups_seen into.new.items)) }
 {
     match values {
         [] => Ok(()),
         [first, rest @ ..] => {
             let key = number_key(*first);
-            into.push((field, (doc, key)))?;
-            add_later_keys(field, doc, key, rest, into)?;
+            put_key(alloc, field, doc, key, known, into)?;
+            put_later_keys(alloc, field, doc, key, rest, known, into)?;
             Ok(())
         }
     }
 }
 
 /// Adds the keys of numbers that come behind one, each once.
-fn add_later_keys(
+fn put_later_keys(
+    alloc: Global,
     field: u32,
     doc: u32,
     first: [u8; 8],
     rest: &[i64],
-    into: &mut Vec<(u32, (u32, [u8; 8]))>,
+    known: &mut KnownPlaces,
+    into: &mut Vec<(u32, Vec<([u8; 8], u32)>)>,
 ) -> Result<(), NoMemory>
-    ensures { OnOk result (keys_kept into.new.items ≡ keys_kept into.old.items ++ terms_at field doc (once_after first (map number_key rest.now))) }
+    requires ordered { AreOrdered nat_cmp (groups_seen into.old.items) }
+    ensures put { OnOk result (ArePut (terms_at field doc (once_after first (map number_key rest.now))) (fields_of_keys into.old.items) (fields_of_keys into.new.items)) }
+    ensures ordered { OnOk result (AreOrdered nat_cmp (groups_seen into.new.items)) }
 {
     let mut last = first;
     'rest: for value in rest {
         let key = number_key(*value);
-        add_key_unless_same(field, doc, last, key, into)?;
+        put_key_unless_same(alloc, field, doc, last, key, known, into)?;
         last = key;
     }
     Ok(())
 }
 
 /// Adds a key, unless it is the one before it.
-fn add_key_unless_same(
+fn put_key_unless_same(
+    alloc: Global,
     field: u32,
     doc: u32,
     last: [u8; 8],
     key: [u8; 8],
-    into: &mut Vec<(u32, (u32, [u8; 8]))>,
+    known: &mut KnownPlaces,
+    into: &mut Vec<(u32, Vec<([u8; 8], u32)>)>,
 ) -> Result<(), NoMemory>
-    ensures { OnOk result (keys_kept into.new.items ≡ keys_kept into.old.items ++ terms_at field doc (unless_same last key)) }
+    requires ordered { AreOrdered nat_cmp (groups_seen into.old.items) }
+    ensures put { OnOk result (ArePut (terms_at field doc (unless_same last key)) (fields_of_keys into.old.items) (fields_of_keys into.new.items)) }
+    ensures ordered { OnOk result (AreOrdered nat_cmp (groups_seen into.new.items)) }
 {
     if key.as_slice() == last.as_slice() {
         Ok(())
     } else {
-        into.push((field, (doc, key)))?;
+        put_key(alloc, field, doc, key, known, into)?;
         Ok(())
     }
+}
+
+/// Adds the key of a number in a document.
+fn put_key(
+    alloc: Global,
+    field: u32,
+    doc: u32,
+    key: [u8; 8],
+    known: &mut KnownPlaces,
+    into: &mut Vec<(u32, Vec<([u8; 8], u32)>)>,
+) -> Result<(), NoMemory>
+    requires ordered { AreOrdered nat_cmp (groups_seen into.old.items) }
+    ensures put { OnOk result (ArePut (((field, key), (doc, [])) ∷ []) (fields_of_keys into.old.items) (fields_of_keys into.new.items)) }
+    ensures ordered { OnOk result (AreOrdered nat_cmp (groups_seen into.new.items)) }
+{
+    put(alloc, field, (key, doc), known, into)?;
+    Ok(())
 }

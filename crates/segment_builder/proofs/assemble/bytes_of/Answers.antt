@@ -7,15 +7,25 @@ use Rattle.segment.specs.Flat.{FlatDocument}
 use Rattle.segment_parts.specs.declared.columns.Columns.{Columns}
 use Rattle.term_table.specs.Terms.{term_cmp}
 use Rattle.segment_builder.specs.Columns.{column_terms, named_group, ordinal_column, terms_in, terms_lent}
-use Rattle.segment_builder.specs.Entries.{EntriesState, entries_in, flats_in, flats_lent, no_entries, with_blocks}
+use Rattle.segment_builder.specs.Entries.{EntriesState, entries_in, flats_in, flats_lent, no_entries, numbers_lent, with_blocks}
 use Rattle.segment_builder.specs.Groups.{AreGroups}
 use Rattle.segment_builder.specs.Made.{AreSetsOf, IsMade, all_terms, marked_groups}
 use Rattle.segment_builder.specs.Taken.{AreValueEntries}
-use Rattle.segment_builder.specs.Terms.{row_group, rows_in}
+use Rattle.segment_builder.specs.Terms.{fields_of_keys, number_terms, row_group, rows_in, AreSortedFields}
 use Rattle.segment_builder.proofs.Agreeing.{fit_roots}
-use Rattle.segment_builder.proofs.Put.{all_put, entries_are, keywords_fit, numbers_fit, scopes_fit, terms_fit, texts_fit}
+use Rattle.segment_builder.proofs.Put.{all_put, entries_are, fields_apart, keywords_fit, numbers_fit, scopes_fit, terms_fit, texts_fit}
 use Rattle.segment_builder.proofs.Stored.{roots_fit, roots_seen}
 use Rattle.segment_builder.proofs.assemble.bytes_of.Goals as goal
+
+pub sorted_terms-requires-clause-numbers : goal.sorted_terms-requires-clause-numbers
+sorted_terms-requires-clause-numbers c =
+    rw c.as_slice-3.ensures.value
+    (subst (λ own. AreSortedFields (number_terms own) (fields_of_keys c.in_ok-keys.keys.items)) (ap numbers_lent c.as_slice.ensures.value ∙ c.in_ok-lists.ensures.numbers) c.in_ok-keys.ensures)
+
+pub sorted_terms-requires-clause-apart : goal.sorted_terms-requires-clause-apart
+sorted_terms-requires-clause-apart c =
+    let flats = ap flats_lent c.as_slice-documents.ensures.value ∙ c.in_ok-list.ensures in
+    fields_apart c.requires.0 (map block_seen c.args.blocks.now) (flats_lent c.as_slice-documents.result.now) c.requires.1 flats
 
 pub put_head-requires-clause-below : goal.put_head-requires-clause-below
 put_head-requires-clause-below c =

@@ -1,4 +1,4 @@
-use Rattle.std.proofs.Common.{[], ◌+◌, drop, refl, ◌∙◌}
+use Rattle.std.proofs.Common.{[], ◌+◌, drop, ◌∙◌}
 use Rattle.std.proofs.lemmas.List.{at_drop_more, map-append}
 use Rattle.segment_builder.specs.Entries.{bytes_lent}
 use Rattle.segment_builder.specs.Terms.{once_after, terms_at, unless_same}

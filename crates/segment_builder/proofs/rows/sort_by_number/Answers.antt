@@ -1,0 +1,14 @@
+use Rattle.std.proofs.Common.{rules, ℕ, List, w64}
+use Rattle.std.specs.Cmp.Lexicographic.{slice_cmp}
+use Rattle.std.specs.Int.{from_be_bytes}
+use Rattle.std.specs.Ordering.{nat_cmp}
+use Rattle.std.proofs.lemmas.List.Sorted.{answers_always}
+use Rattle.segment_builder.proofs.Lent.{key_entry}
+use Rattle.segment_builder.proofs.Orders.{exact_bytes}
+use Rattle.segment_builder.proofs.Ranked.{kept_at}
+use Rattle.segment_builder.proofs.rows.sort_by_number.Goals as goal
+
+pub returns : goal.returns
+returns c =
+    kept_at (slice_cmp nat_cmp) exact_bytes key_entry (from_be_bytes w64) _ _ c.in_ok-sort_by_key.ensures.permutation
+    (c.in_ok-sort_by_key.ensures.stable (λ (entry : List ℕ × ℕ). from_be_bytes w64 entry.0) (answers_always _ _ _ (λ f a r h called. search rules)))
