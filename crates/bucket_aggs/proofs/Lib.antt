@@ -11,6 +11,7 @@ pub mod Onces
 pub mod Ordinals
 pub mod Numbered
 pub mod Termed
+pub mod Within
 pub mod Placed
 pub mod Listed
 pub mod Viewed

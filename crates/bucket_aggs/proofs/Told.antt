@@ -1,11 +1,10 @@
 -- What the marked documents have, row by row.
-use Rattle.std.proofs.Common.{◌≡◌, ℕ, zero, suc, ◌+◌, ◌-◌, ◌==◌, ◌<◌, ◌≤◌, Bool, true, false, cond, List, [], ◌∷◌, ◌++◌, length, drop, get_or, slice_get, sum_by, Some, inl, inr, refl, sym, ap, ◌∙◌, arith}
+use Rattle.std.proofs.Common.{◌≡◌, ℕ, zero, suc, ◌+◌, ◌-◌, ◌==◌, ◌<◌, ◌≤◌, Bool, true, false, cond, List, [], ◌∷◌, ◌++◌, length, drop, get_or, slice_get, sum_by, Some, refl, sym, ap, ◌∙◌, arith}
 use Rattle.std.specs.List.{All, flat_map}
 use Rattle.std.specs.List.Sorted.{IsStrictlyIncreasing}
-use Rattle.std.proofs.lemmas.Bool.{cases_lt, eqb-false, eqb-true, ne_eqb}
-use Rattle.std.proofs.lemmas.List.{get_or-map, get_or_default, length-append, length-map}
+use Rattle.std.proofs.lemmas.Bool.{eqb-false, eqb-true, ne_eqb}
+use Rattle.std.proofs.lemmas.List.{get_or-map, length-append, length-map}
 use Rattle.std.proofs.lemmas.List.Sums.{sum_by-cons}
-use Rattle.std.proofs.lemmas.Map.Keys.{below_from_sorted, sorted_from_strictly_increasing}
 use Rattle.std.proofs.lemmas.Option.{get_or_from_slice_get, same_Some}
 use Rattle.doc_values.specs.Values.{documents, values_of}
 use Rattle.segment_parts.specs.Text.{marked_places}
@@ -193,14 +192,3 @@ module _ {A : Type 0} where
         length-append (cond here (value ∷ []) []) (flat_map (told flags 0) (drop (at + 1) rows)),
         length_if here (value ∷ []),
       )
-
--- where the last of ascending documents is below an end, each is
-pub all_within : (docs : List ℕ) (end : ℕ) → IsStrictlyIncreasing docs → get_or docs (length docs - 1) 0 < end → All (λ d. d < end) docs
-all_within docs end up last = λ k d below. elim (cases_lt k (length docs - 1)) [
-  | inl earlier ↦
-      let less : get_or docs k 0 < get_or docs (length docs - 1) 0 = below_from_sorted docs k (length docs - 1) 0 (sorted_from_strictly_increasing docs up) earlier (omega (arith, below)) in
-      omega (arith, less, last, get_or_default docs k d 0 below)
-  | inr from ↦
-      let same : get_or docs k 0 ≡ get_or docs (length docs - 1) 0 = ap (λ i. get_or docs i 0) (omega (arith, from, below)) in
-      omega (arith, same, last, get_or_default docs k d 0 below)
-]

@@ -24,32 +24,17 @@ pub(crate) fn has_most<T: ColumnValue>(set: &BitSet, column: &Column<T>) -> bool
     column.rows() / ROWS_EACH < set.count()
 }
 
-/// The rows of a column, if each document has one value there, and a place in a set.
-pub(crate) fn single_rows<'a, T: ColumnValue>(
-    set: &BitSet,
-    column: &Column<'a, T>,
-) -> Option<SingleRows<'a, T>>
+/// The rows of a column, if each document has one value there.
+pub(crate) fn single_rows<'a, T: ColumnValue>(column: &Column<'a, T>) -> Option<SingleRows<'a, T>>
     ensures rows { IfSome result (λ rows. (rows ≡ column.now) × AreSingle rows) }
     ensures ascending { IfSome result (λ rows. IsStrictlyIncreasing (documents rows)) }
-    ensures within { IfSome result (λ rows. All (λ doc. doc < length set.now) (documents rows)) }
 {
-    if have_places(set, column) {
-        column.single_rows()
-    } else {
-        None
-    }
+    let _ascending = column.rows();
+    column.single_rows()
 }
 
-/// Whether the documents of a column are known to have places in a set: the last has one, if there is any.
-fn have_places<T: ColumnValue>(set: &BitSet, column: &Column<T>) -> bool
-    ensures within { IsTrue result → All (λ doc. doc < length set.now) (documents column.now) }
-    ensures ascending { IsStrictlyIncreasing (documents column.now) }
-{
-    let count = column.rows();
-    count == 0 || column.doc(count - 1) < set.len()
-}
-
-/// Adds the documents of a set to the counts of the ordinals that they have; the first count is that of the ordinal `first`.
+/// Adds the documents of a set to the counts of the ordinals that they have; the first count is that of the ordinal `first`. Each
+/// document of the column has a place in the set.
 ///
 /// Where the set has most documents of the column its rows are walked over, else each document's row is looked for near the one before.
 pub(crate) fn count_ordinals(
@@ -58,12 +43,13 @@ pub(crate) fn count_ordinals(
     first: u64,
     counts: &mut Vec<u64>,
 ) -> Result<(), NoMemory>
+    requires { All (λ doc. doc < length set.now) (documents column.now) }
     ensures { OnOk result (Counted first (map (λ doc. values_of doc column.now) (marked_places 0 set.now)) counts.old.items counts.new.items) }
 {
     if !has_most(set, column) {
         return count_documents(set, column, first, counts);
     }
-    match single_rows(set, column) {
+    match single_rows(column) {
         Some(rows) => count_single_rows(set, &rows, first, counts),
         None => count_rows(set, column, first, counts),
     }

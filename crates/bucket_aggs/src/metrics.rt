@@ -190,9 +190,11 @@ fn add_numbers(
     set: &BitSet,
     sums: &mut Running,
 ) -> Result<(), NoMemory>
+    requires { length set.now ≡ segment.now.documents }
     ensures { (zs : List ℤ) → IsAdded no_numbers zs sums.old → OnOk result (IsAdded no_numbers (zs ++ flat_map (numbers_in field) (map (flat_of segment.now) (marked_places 0 set.now))) sums.new) }
 {
     values_are_of_documents(segment);
+    let _agree = segment.docs();
     let Some(column) = segment.numbers(field) else {
         return Ok(());
     };
@@ -201,17 +203,18 @@ fn add_numbers(
     Ok(())
 }
 
-/// With the numbers that the documents of a set have in a column; no sum has begun.
+/// With the numbers that the documents of a set have in a column, each of whose documents has a place in the set; no sum has begun.
 ///
 /// Where the set has most documents of the column its rows are walked over, else each document's row is looked for near the one before.
 fn added(set: &BitSet, column: &NumberColumn, start: Running) -> Running
-    requires { start.total ≡ pos 0 }
+    requires zero { start.total ≡ pos 0 }
+    requires within { All (λ doc. doc < length set.now) (documents column.now) }
     ensures { IsAdded start (flat_map (λ doc. values_of doc column.now) (marked_places 0 set.now)) result }
 {
     if !has_most(set, column) {
         return with_documents(set, column, start);
     }
-    match single_rows(set, column) {
+    match single_rows(column) {
         Some(rows) => with_single_rows(set, &rows, start),
         None => with_rows(set, column, start),
     }
@@ -317,9 +320,11 @@ pub(crate) fn value_count(
 
 /// Those of the documents of a set.
 fn own_count(segment: &Segment, kind: Kind, field: u32, set: &BitSet) -> Result<u64, NoMemory>
+    requires { length set.now ≡ segment.now.documents }
     ensures { IfOk result (λ count. count ≡ sum_by (values_in kind field) (map (flat_of segment.now) (marked_places 0 set.now))) }
 {
     values_are_of_documents(segment);
+    let _agree = segment.docs();
     if is_text(kind) {
         match segment.ordinals(field) {
             Some(column) => Ok(column_count(set, &column)?),
@@ -333,16 +338,17 @@ fn own_count(segment: &Segment, kind: Kind, field: u32, set: &BitSet) -> Result<
     }
 }
 
-/// How many values the documents of a set have in a column.
+/// How many values the documents of a set have in a column, each of whose documents has a place in the set.
 ///
 /// Where the set has most documents of the column its rows are walked over, else each document's row is looked for near the one before.
 fn column_count<T: ColumnValue>(set: &BitSet, column: &Column<T>) -> Result<u64, NoMemory>
+    requires { All (λ doc. doc < length set.now) (documents column.now) }
     ensures { IfOk result (λ count. count ≡ sum_by (λ doc. length (values_of doc column.now)) (marked_places 0 set.now)) }
 {
     if !has_most(set, column) {
         return documents_count(set, column);
     }
-    match single_rows(set, column) {
+    match single_rows(column) {
         Some(rows) => Ok(single_rows_count(set, &rows)),
         None => rows_count(set, column),
     }

@@ -76,6 +76,7 @@ fn add_rows(
     found: &mut Vec<TermSet>,
     rows: &mut Vec<CountRow>,
 ) -> Result<(), NoMemory>
+    requires { length set.now ≡ segment.now.documents }
     ensures found { OnOk result (AreFound segment.now set.now entry found.old.items found.new.items) }
     ensures counts { OnOk result (Weighed kind field (map (flat_of segment.now) (marked_places 0 set.now)) rows.old.items rows.new.items) }
     ensures keys { AreKeys kind rows.old.items → OnOk result (AreKeys kind rows.new.items) }
@@ -104,7 +105,8 @@ fn add_texts(
     found: &mut Vec<TermSet>,
     rows: &mut Vec<CountRow>,
 ) -> Result<(), NoMemory>
-    requires { is_written kind ≡ true }
+    requires written { is_written kind ≡ true }
+    requires long { length set.now ≡ segment.now.documents }
     ensures found { OnOk result (AreFound segment.now set.now entry found.old.items found.new.items) }
     ensures counts { OnOk result (Weighed kind field (map (flat_of segment.now) (marked_places 0 set.now)) rows.old.items rows.new.items) }
     ensures keys { AreKeys kind rows.old.items → OnOk result (AreKeys kind rows.new.items) }
@@ -161,16 +163,17 @@ fn term_counts(
     found: &mut Vec<TermSet>,
 ) -> Result<Vec<u64>, NoMemory>
     requires column { column_of field segment.now.ordinals ≡ Some column.now }
+    requires long { length set.now ≡ segment.now.documents }
     requires ordered { first ≤ end }
     requires within { end ≤ length (terms_of segment.now) }
     requires range { IsRange (is_of_field field) (terms_of segment.now) first end }
     ensures counted { IfOk result (λ counts. Counted first (map (λ doc. values_of doc column.now) (marked_places 0 set.now)) (replicate (end - first) 0) counts.items) }
     ensures found { OnOk result (AreFound segment.now set.now entry found.old.items found.new.items) }
 {
+    let _agree = segment.docs();
     if has_most(set, column) && end - first < u64::from(set.count()) / DOCUMENTS_EACH {
-        let documents = segment.docs();
         let _ascending = segment.terms().count();
-        if keep && are_kept(end - first, set) && set.len() == documents {
+        if keep && are_kept(end - first, set) {
             return Ok(posting_sets(alloc, segment, set, first, end, entry, found)?);
         }
         return Ok(posting_counts(alloc, set, &segment.postings(), first, end)?);

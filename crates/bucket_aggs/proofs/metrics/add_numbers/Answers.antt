@@ -7,6 +7,7 @@ use Rattle.bucket_aggs.specs.declared.metrics.Running.{Running}
 use Rattle.bucket_aggs.specs.Sums.{IsAdded, no_numbers}
 use Rattle.bucket_aggs.proofs.Documents.{nothing_behind}
 use Rattle.bucket_aggs.proofs.Numbered.{no_numbers_told, numbers_told}
+use Rattle.bucket_aggs.proofs.Within.{numbers_below}
 use Rattle.bucket_aggs.proofs.metrics.add_numbers.Goals as goal
 
 pub returns-in_default : goal.returns-in_default
@@ -14,6 +15,11 @@ returns-in_default c = λ zs is.
     let none : column_of c.args.field c.args.segment.now.numbers ≡ None = sym c.numbers.ensures ∙ c.in_default.is in
     subst (λ (l : List ℤ). IsAdded no_numbers (zs ++ l) c.args.sums.now) (sym (no_numbers_told c.args.segment.now c.args.field (marked_places 0 c.args.set.now) c.values_are_of_documents.ensures.numbers none))
     (subst (λ (l : List ℤ). IsAdded no_numbers l c.args.sums.now) (nothing_behind zs) is)
+
+pub added-own-requires-clause-within : goal.added-own-requires-clause-within
+added-own-requires-clause-within c =
+    let some : column_of c.args.field c.args.segment.now.numbers ≡ Some c.in-Some.column = sym c.numbers.ensures ∙ c.in-Some.is in
+    numbers_below c.args.segment.now c.args.field c.args.set.now c.docs-agree.ensures.agree c.requires c.in-Some.column some
 
 pub returns : goal.returns
 returns c = λ zs is.

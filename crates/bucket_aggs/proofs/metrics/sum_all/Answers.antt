@@ -1,9 +1,18 @@
-use Rattle.std.proofs.Common.{◌≡◌, ◌+◌, ◌++◌, List, length, get_or, ap, ◌∙◌, arith}
+use Rattle.std.proofs.Common.{◌≡◌, ◌+◌, ◌++◌, List, length, is_some, get_or, ap, ◌∙◌, arith}
+use Rattle.std.proofs.lemmas.List.{length-map}
+use Rattle.bucket_aggs.proofs.Cuts.{entry_long}
 use Rattle.bucket_aggs.proofs.Viewed.{Scores, flats_from, flats_step, long_view, own_flats, summing_step}
 use Rattle.bucket_aggs.proofs.metrics.sum_all.Goals as goal
 
 pub bounds-objects-at : goal.bounds-objects-at
 bounds-objects-at c = omega (arith, c.entries-test.true, long_view c.args.entries.now c.args.objects.now c.requires, ap (λ (l : List Scores). length l) c.as_slice-objects.ensures)
+
+pub add_numbers-requires : goal.add_numbers-requires
+add_numbers-requires c =
+    let s = c.index-objects-at.result in
+    ap length c.set.ensures ∙ length-map s is_some
+    ∙ entry_long c.entries.at c.args.entries.now c.args.objects.now c.index-entries-at.result s c.segment.result.now c.requires c.entries-test.true c.index-entries-at.is
+    (c.index-objects-at.is ∙ ap (λ (l : List Scores). get_or l c.entries.at s) c.as_slice-objects.ensures) c.segment.ensures
 
 pub entries-preserved : goal.entries-preserved
 entries-preserved c =

@@ -12,7 +12,7 @@ use Rattle.bucket_aggs.proofs.terms.add_texts.Goals as goal
 pub returns-in_default-clause-counts : goal.returns-in_default-clause-counts
 returns-in_default-clause-counts c =
     let none : column_of c.args.field c.args.segment.now.ordinals ≡ None = sym c.ordinals.ensures ∙ c.in_default.is in
-    record { each = λ v. omega (arith, no_texts_shown c.args.segment.now c.args.kind c.args.field v (marked_places 0 c.args.set.now) c.requires c.values_are_of_documents.ensures.keywords none) }
+    record { each = λ v. omega (arith, no_texts_shown c.args.segment.now c.args.kind c.args.field v (marked_places 0 c.args.set.now) c.requires.written c.values_are_of_documents.ensures.keywords none) }
 
 pub returns-clause-counts : goal.returns-clause-counts
 returns-clause-counts c =
@@ -25,7 +25,7 @@ returns-clause-counts c =
             c.in_ok-put_terms.ensures.counts v,
             texts_counted c.args.segment.now c.args.field c.in-Some.column docs c.docs-documents.ensures.agree some c.terms-terms.result c.terms-terms.ensures c.count-ascending.ensures.ascending c.terms_of_field-first.result.0 c.terms_of_field-first.result.1 c.terms_of_field-first.ensures.ordered
                 c.terms_of_field-first.ensures.within c.terms_of_field-first.ensures.of_field (replicate (c.terms_of_field-first.result.1 - c.terms_of_field-first.result.0) 0) c.in_ok-counts.counts.items c.as_slice.result.now refl c.in_ok-counts.ensures.counted c.as_slice.ensures.value v,
-            texts_shown c.args.segment.now c.args.kind c.args.field v c.in-Some.column docs c.requires c.values_are_of_documents.ensures.keywords some,
+            texts_shown c.args.segment.now c.args.kind c.args.field v c.in-Some.column docs c.requires.written c.values_are_of_documents.ensures.keywords some,
           );
     }
 
@@ -58,7 +58,7 @@ returns-then-few-clause-counts c =
             ap (count_by (is_term c.terms-terms.result v)) c.as_slice-sorted.ensures.value,
             ordinals_counted columns f c.in-Some.column docs agree some c.values-sorted.ensures.rows c.terms-terms.result c.terms-terms.ensures c.count-ascending.ensures.ascending c.terms_of_field-first.result.0 c.terms_of_field-first.result.1
                 c.terms_of_field-first.ensures.ordered c.terms_of_field-first.ensures.within c.terms_of_field-first.ensures.of_field sorted same v,
-            texts_shown columns c.args.kind f v c.in-Some.column docs c.requires c.values_are_of_documents.ensures.keywords some,
+            texts_shown columns c.args.kind f v c.in-Some.column docs c.requires.written c.values_are_of_documents.ensures.keywords some,
           );
     }
 
