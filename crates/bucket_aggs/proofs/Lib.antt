@@ -18,6 +18,7 @@ pub mod Viewed
 pub mod Groups
 pub mod Searched
 pub mod Told
+pub mod Gathered
 pub mod Sums
 pub mod Least
 pub mod Formed

@@ -1,7 +1,5 @@
 -- The documents of a view with scores, entry by entry.
-use Rattle.std.proofs.Common.{◌≡◌, ℕ, zero, suc, ℤ, ◌+◌, ◌<◌, ◌≤◌, Bool, List, [], ◌∷◌, ◌++◌, length, map, drop, get_or, sum_by, Option, is_some, refl, sym, ap, subst, ◌∙◌, arith, append_assoc}
-use Rattle.std.specs.List.{flat_map}
-use Rattle.std.proofs.lemmas.List.Concat.{flat_map-append}
+use Rattle.std.proofs.Common.{◌≡◌, ℕ, zero, suc, ◌+◌, ◌<◌, ◌≤◌, Bool, List, [], ◌∷◌, ◌++◌, length, map, drop, get_or, sum_by, Option, is_some, refl, sym, ap, subst, ◌∙◌, arith}
 use Rattle.std.proofs.lemmas.List.Sums.{sum_by-append}
 use Rattle.mapping_body.specs.declared.kind.Kind.{Kind}
 use Rattle.query_eval.specs.Found.{AreLong}
@@ -11,8 +9,6 @@ use Rattle.segment_parts.specs.Text.{marked_places}
 use Rattle.segment_parts.specs.declared.columns.Columns.{Columns}
 use Rattle.tree_objects.specs.declared.field_value.FieldValue.{FieldValue}
 use Rattle.bucket_aggs.specs.Counts.{AreCounts, AreKeys, KeysAscend, Weighed, flats_in, flats_of_view, shows, weight}
-use Rattle.bucket_aggs.specs.Sums.{IsAdded, no_numbers, numbers_in}
-use Rattle.bucket_aggs.specs.declared.metrics.Running.{Running}
 use Rattle.bucket_aggs.specs.declared.rows.CountRow.{CountRow}
 use Rattle.bucket_aggs.proofs.Rowed.{one_if}
 
@@ -99,32 +95,3 @@ counting_end kind f at view scores rows made past was ascend same keys = record 
   keys = keys was.keys;
   counts = λ v. same v ∙ adds_end (one_if (shows kind f v)) at view scores (weight v rows) past (was.weighs v);
 }
-
--- ---- numbers, one after the other
-
-pub record Summing (f at : ℕ) (view : View) (scores : List Scores) (s : Running) : Type 0 where
-  pub done : List ℤ
-  pub sums : IsAdded no_numbers done s
-  pub rest : done ++ flat_map (numbers_in f) (flats_from at view scores) ≡ flat_map (numbers_in f) (flats_of_view view scores)
-
-pub summing_start : (f : ℕ) (view : View) (scores : List Scores) (s : Running) → IsAdded no_numbers [] s → Summing f 0 view scores s
-summing_start f view scores s is = record { done = []; sums = is; rest = refl }
-
-pub summing_step : (f at : ℕ) (view : View) (scores : List Scores) (own : List FlatDocument) (old new : Running) → flats_from at view scores ≡ own ++ flats_from (at + 1) view scores → Summing f at view scores old
-    → ((zs : List ℤ) → IsAdded no_numbers zs old → IsAdded no_numbers (zs ++ flat_map (numbers_in f) own) new) → Summing f (at + 1) view scores new
-summing_step f at view scores own old new step was more = record {
-  done = was.done ++ flat_map (numbers_in f) own;
-  sums = more was.done was.sums;
-  rest =
-      append_assoc was.done (flat_map (numbers_in f) own) (flat_map (numbers_in f) (flats_from (at + 1) view scores))
-      ∙ ap (λ (l : List ℤ). was.done ++ l) (sym (flat_map-append (numbers_in f) own (flats_from (at + 1) view scores)) ∙ ap (flat_map (numbers_in f)) (sym step))
-      ∙ was.rest;
-}
-
-pub summing_end : (f at : ℕ) (view : View) (scores : List Scores) (s : Running) → length view ≤ at → Summing f at view scores s → IsAdded no_numbers (flat_map (numbers_in f) (flats_of_view view scores)) s
-summing_end f at view scores s past was =
-    subst (λ (zs : List ℤ). IsAdded no_numbers zs s) (nothing_behind was.done ∙ ap (λ (l : List FlatDocument). was.done ++ flat_map (numbers_in f) l) (sym (flats_end at view scores past)) ∙ was.rest) was.sums
-  where
-    nothing_behind : (zs : List ℤ) → zs ≡ zs ++ []
-    nothing_behind [] = refl
-    nothing_behind (z ∷ zs) = ap (λ (l : List ℤ). z ∷ l) (nothing_behind zs)

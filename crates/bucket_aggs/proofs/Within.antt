@@ -1,12 +1,15 @@
 -- The documents of a segment's columns have places in a set that is as long as the segment has documents.
-use Rattle.std.proofs.Common.{◌≡◌, ℕ, ℤ, ◌<◌, Bool, List, [], length, Some, sym, subst, arith}
+use Rattle.std.proofs.Common.{◌≡◌, ℕ, ℤ, ◌<◌, Bool, List, [], length, Option, Some, None, IfSome, sym, subst, arith}
 use Rattle.std.specs.List.{All}
+use Rattle.std.specs.List.Sorted.{IsStrictlyIncreasing}
 use Rattle.std.proofs.lemmas.List.{get_or-map, length-map}
 use Rattle.std.proofs.lemmas.List.Elements.{recursion_from_All}
+use Rattle.doc_values.specs.Single.{AreSingle}
 use Rattle.doc_values.specs.Values.{documents}
 use Rattle.segment_parts.specs.Agree.{AreColumns, AreWithin}
 use Rattle.segment_parts.specs.Fields.{column_of}
 use Rattle.segment_parts.specs.declared.columns.Columns.{Columns}
+use Rattle.bucket_aggs.specs.Columns.{AreOwnRows}
 use Rattle.bucket_aggs.proofs.Termed.{column_has}
 
 rows_below : {A : Type 0} (rows : List (ℕ × List A)) (end : ℕ) → AreWithin end rows → All (λ doc. doc < end) (documents rows)
@@ -29,3 +32,9 @@ module _ (columns : Columns) (f : ℕ) (flags : List Bool) (are : AreColumns col
   pub ordinals_below : (found : List (ℕ × List ℕ)) → column_of f columns.ordinals ≡ Some found → All (λ doc. doc < length flags) (documents found)
   ordinals_below found is =
       subst (λ (end : ℕ). All (λ doc. doc < end) (documents found)) (sym long) (column_below f columns.documents found columns.ordinals are.fields.ordinals_within is)
+
+-- its rows, if each has one value
+pub own_rows : (column : List (ℕ × List ℤ)) (flags : List Bool) (found : Option (List (ℕ × List ℤ))) → All (λ doc. doc < length flags) (documents column) → IfSome found (λ rows. (rows ≡ column) × AreSingle rows) → IfSome found (λ rows. IsStrictlyIncreasing (documents rows)) → IfSome found (AreOwnRows column flags)
+own_rows column flags None within same up = tt
+own_rows column flags (Some rows) within same up =
+    record { same = same.0; ascending = up; within = subst (λ (l : List (ℕ × List ℤ)). All (λ doc. doc < length flags) (documents l)) (sym same.0) within }

@@ -6,4 +6,5 @@ pub mod Once
 pub mod Known
 pub mod Parents
 pub mod Counts
+pub mod Columns
 pub mod Sums

@@ -265,9 +265,9 @@ fn value(
             scope,
             objects,
         )?),
-        AggForm::Min(field) => Ok(AggValue::Metric(least(entries, *field, objects, kept)?)),
-        AggForm::Max(field) => Ok(AggValue::Metric(greatest(entries, *field, objects, kept)?)),
-        AggForm::Sum(field) => Ok(AggValue::Metric(Some(sum(entries, *field, objects, kept)?))),
+        AggForm::Min(field) => Ok(AggValue::Metric(least(alloc, entries, *field, objects, kept)?)),
+        AggForm::Max(field) => Ok(AggValue::Metric(greatest(alloc, entries, *field, objects, kept)?)),
+        AggForm::Sum(field) => Ok(AggValue::Metric(Some(sum(alloc, entries, *field, objects, kept)?))),
         AggForm::ValueCount(field) => Ok(AggValue::Metric(Some(count(
             entries, mapping, *field, objects,
         )?))),

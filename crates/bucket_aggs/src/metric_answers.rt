@@ -14,10 +14,12 @@ use crate::metrics::{FieldSummary, summed, value_count};
 use block_join::Matches;
 use mapping::Mapping;
 use segment_view::Entry;
+use std::alloc::Global;
 use view_objects::documents_show_values;
 
 /// The least value of a field; None where there is none.
 pub(crate) fn least(
+    alloc: Global,
     entries: &[Entry],
     field: Option<u32>,
     objects: &Matches,
@@ -31,7 +33,7 @@ pub(crate) fn least(
     documents_show_values();
     match field {
         Some(field) => {
-            let sums = summed(entries, field, objects, kept)?;
+            let sums = summed(alloc, entries, field, objects, kept)?;
             Ok(sums.least)
         }
         None => Ok(None),
@@ -40,6 +42,7 @@ pub(crate) fn least(
 
 /// The greatest value of a field; None where there is none.
 pub(crate) fn greatest(
+    alloc: Global,
     entries: &[Entry],
     field: Option<u32>,
     objects: &Matches,
@@ -53,7 +56,7 @@ pub(crate) fn greatest(
     documents_show_values();
     match field {
         Some(field) => {
-            let sums = summed(entries, field, objects, kept)?;
+            let sums = summed(alloc, entries, field, objects, kept)?;
             Ok(sums.greatest)
         }
         None => Ok(None),
@@ -62,6 +65,7 @@ pub(crate) fn greatest(
 
 /// The sum of the values of a field, clamped to 64 bits; 0 where there is none.
 pub(crate) fn sum(
+    alloc: Global,
     entries: &[Entry],
     field: Option<u32>,
     objects: &Matches,
@@ -75,7 +79,7 @@ pub(crate) fn sum(
     documents_show_values();
     match field {
         Some(field) => {
-            let sums = summed(entries, field, objects, kept)?;
+            let sums = summed(alloc, entries, field, objects, kept)?;
             Ok(sums.sum())
         }
         None => Ok(0),

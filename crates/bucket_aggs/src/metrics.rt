@@ -1,6 +1,6 @@
 //! What the values of a field come to over all objects.
 
-ghost use Rattle.std.specs.Prelude.{◌≡◌, ◌<◌, ◌+◌, ◌^◌, ◌++◌, ℕ, ℤ, pos, List, [], ◌∷◌, false, if◌then◌else◌, map, length, slice_get, slice_index, slice_index_or, sum_by, IfOk, OnOk, Some, None};
+ghost use Rattle.std.specs.Prelude.{◌≡◌, ◌<◌, ◌+◌, ◌^◌, ◌++◌, ℕ, ℤ, pos, List, [], ◌∷◌, false, if◌then◌else◌, map, length, slice_get, slice_index, slice_index_or, sum_by, IfNone, IfOk, IfSome, OnOk, Some, None};
 ghost use Rattle.std.specs.List.{All, flat_map};
 ghost use Rattle.std.specs.List.Sorted.{IsStrictlyIncreasing};
 ghost use Rattle.std.specs.Int.{saturate_signed, w64};
@@ -8,6 +8,7 @@ ghost use Rattle.doc_values.specs.Values.{documents, values_of};
 ghost use Rattle.query_eval.specs.Found.{AreLong};
 ghost use Rattle.segment.specs.Flat.{flat_of};
 ghost use Rattle.segment_parts.specs.Text.{marked_places};
+ghost use Rattle.bucket_aggs.specs.Columns.{joined};
 ghost use Rattle.bucket_aggs.specs.Counts.{flats_of_view};
 ghost use Rattle.bucket_aggs.specs.Sums.{HasRoom, IsAdded, IsKept, IsSummary, above, below, first_of, no_numbers, numbers_in, values_in};
 ghost use Rattle.bucket_aggs.specs.declared.metrics.Running.{Running};
@@ -20,6 +21,8 @@ use doc_values::{Column, ColumnValue, NumberColumn, SingleRows, Values};
 use mapping::Kind;
 use segment::{Segment, values_are_of_documents};
 use segment_view::Entry;
+use std::alloc::Global;
+use std::marker::Model;
 
 /// The sum of numbers, the least and the greatest.
 #[derive(Clone, Copy)]
@@ -150,6 +153,7 @@ pub(crate) struct FieldSummary {
 
 /// What the numbers of a field come to over all objects. It is kept: a field that is asked for once more costs no walk.
 pub(crate) fn summed(
+    alloc: Global,
     entries: &[Entry],
     field: u32,
     objects: &Matches,
@@ -165,58 +169,119 @@ pub(crate) fn summed(
             return Ok(last.sums);
         }
     }
-    let sums = sum_all(entries, field, objects)?;
+    let sums = sum_all(alloc, entries, field, objects)?;
     *kept = Some(FieldSummary { field, sums });
     Ok(sums)
 }
 
 /// The same, with nothing kept.
-fn sum_all(entries: &[Entry], field: u32, objects: &Matches) -> Result<Summary, NoMemory>
+fn sum_all(
+    alloc: Global,
+    entries: &[Entry],
+    field: u32,
+    objects: &Matches,
+) -> Result<Summary, NoMemory>
     requires { AreLong entries.now objects.now }
     ensures { IfOk result (IsSummary (flat_map (numbers_in field) (flats_of_view entries.now objects.now))) }
 {
-    let objects = objects.as_slice();
+    let all = own_numbers(alloc, entries, field, objects)?;
     let mut sums = Running::none();
-    'entries: for at in 0..entries.len() {
-        add_numbers(entries[at].segment(), field, objects[at].set(), &mut sums)?;
+    'segments: for at in 0..all.len() {
+        let own = all[at].added(sums.anew());
+        sums.join(own)?;
     }
     Ok(sums.summary())
 }
 
-/// Adds the numbers of the documents of a set.
-fn add_numbers(
-    segment: &Segment,
+/// The numbers of each segment that has some.
+///
+/// Where they stand is read of all segments before the first is added: the processor then waits for several of them at once.
+fn own_numbers<'a>(
+    alloc: Global,
+    entries: &'a [Entry],
     field: u32,
-    set: &BitSet,
-    sums: &mut Running,
-) -> Result<(), NoMemory>
-    requires { length set.now ≡ segment.now.documents }
-    ensures { (zs : List ℤ) → IsAdded no_numbers zs sums.old → OnOk result (IsAdded no_numbers (zs ++ flat_map (numbers_in field) (map (flat_of segment.now) (marked_places 0 set.now))) sums.new) }
+    objects: &'a Matches,
+) -> Result<Vec<OwnNumbers<'a>>, NoMemory>
+    requires { AreLong entries.now objects.now }
+    ensures { IfOk result (λ all. joined all.items ≡ flat_map (numbers_in field) (flats_of_view entries.now objects.now)) }
 {
-    values_are_of_documents(segment);
-    let _agree = segment.docs();
-    let Some(column) = segment.numbers(field) else {
-        return Ok(());
-    };
-    let own = added(set, &column, sums.anew());
-    sums.join(own)?;
-    Ok(())
+    let objects = objects.as_slice();
+    let mut all = Vec::with_capacity(alloc, entries.len())?;
+    'entries: for at in 0..entries.len() {
+        if let Some(own) = OwnNumbers::of(entries[at].segment(), field, objects[at].set()) {
+            all.push(own)?;
+        }
+    }
+    Ok(all)
 }
 
-/// With the numbers that the documents of a set have in a column, each of whose documents has a place in the set; no sum has begun.
+/// The numbers that the documents of a set have in a segment's column of a field.
+///
+/// The rows are there if each has one value and most of them are of documents of the set.
+#[derive(Drop)]
+struct OwnNumbers<'a> {
+    set: &'a BitSet,
+    column: NumberColumn<'a>,
+    rows: Option<SingleRows<'a, i64>>,
+}
+
+impl<'a> Model for OwnNumbers<'a> {
+    ghost use Rattle.std.specs.Prelude.{ℤ, List, IfSome};
+    ghost use Rattle.std.specs.Coded.{coded_list, coded_ℤ};
+    ghost use Rattle.bucket_aggs.specs.Columns.{AreOwnRows, numbers_at};
+
+    ghost Value = { List ℤ };
+
+    ghost coded = { coded_list coded_ℤ };
+
+    ghost view = { λ it. numbers_at it.column it.set.now };
+
+    ghost invariant = { λ it. IfSome it.rows (AreOwnRows it.column it.set.now) };
+}
+
+impl<'a> OwnNumbers<'a> {
+    /// Those of a segment; None where it has no column of the field.
+    fn of(segment: &'a Segment, field: u32, set: &'a BitSet) -> Option<OwnNumbers<'a>>
+        requires { length set.now ≡ segment.now.documents }
+        ensures some { IfSome result (λ own. own ≡ flat_map (numbers_in field) (map (flat_of segment.now) (marked_places 0 set.now))) }
+        ensures none { IfNone result (flat_map (numbers_in field) (map (flat_of segment.now) (marked_places 0 set.now)) ≡ []) }
+    {
+        values_are_of_documents(segment);
+        let _agree = segment.docs();
+        let Some(column) = segment.numbers(field) else {
+            return None;
+        };
+        let rows = if has_most(set, &column) {
+            single_rows(&column)
+        } else {
+            None
+        };
+        Some(OwnNumbers { set, column, rows })
+    }
+
+    /// With these numbers; no sum has begun.
+    fn added(&self, start: Running) -> Running
+        requires { start.total ≡ pos 0 }
+        ensures { IsAdded start self.now result }
+    {
+        match &self.rows {
+            Some(rows) => with_single_rows(self.set, rows, start),
+            None => with_column(self.set, &self.column, start),
+        }
+    }
+}
+
+/// With the numbers that the documents of a set have in a column; no sum has begun.
 ///
 /// Where the set has most documents of the column its rows are walked over, else each document's row is looked for near the one before.
-fn added(set: &BitSet, column: &NumberColumn, start: Running) -> Running
-    requires zero { start.total ≡ pos 0 }
-    requires within { All (λ doc. doc < length set.now) (documents column.now) }
+fn with_column(set: &BitSet, column: &NumberColumn, start: Running) -> Running
+    requires { start.total ≡ pos 0 }
     ensures { IsAdded start (flat_map (λ doc. values_of doc column.now) (marked_places 0 set.now)) result }
 {
-    if !has_most(set, column) {
-        return with_documents(set, column, start);
-    }
-    match single_rows(column) {
-        Some(rows) => with_single_rows(set, &rows, start),
-        None => with_rows(set, column, start),
+    if has_most(set, column) {
+        with_rows(set, column, start)
+    } else {
+        with_documents(set, column, start)
     }
 }
 

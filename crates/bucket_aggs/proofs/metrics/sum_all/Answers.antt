@@ -1,26 +1,11 @@
-use Rattle.std.proofs.Common.{◌≡◌, ◌+◌, ◌++◌, List, length, is_some, get_or, ap, ◌∙◌, arith}
-use Rattle.std.proofs.lemmas.List.{length-map}
-use Rattle.bucket_aggs.proofs.Cuts.{entry_long}
-use Rattle.bucket_aggs.proofs.Viewed.{Scores, flats_from, flats_step, long_view, own_flats, summing_step}
+use Rattle.std.proofs.Common.{◌≡◌, ◌<◌, ℤ, List, length, get_or, subst, arith}
+use Rattle.bucket_aggs.specs.Sums.{IsAdded}
+use Rattle.bucket_aggs.specs.declared.metrics.Running.{Running}
+use Rattle.bucket_aggs.proofs.Gathered.{adding_step}
 use Rattle.bucket_aggs.proofs.metrics.sum_all.Goals as goal
 
-pub bounds-objects-at : goal.bounds-objects-at
-bounds-objects-at c = omega (arith, c.entries-test.true, long_view c.args.entries.now c.args.objects.now c.requires, ap (λ (l : List Scores). length l) c.as_slice-objects.ensures)
-
-pub add_numbers-requires : goal.add_numbers-requires
-add_numbers-requires c =
-    let s = c.index-objects-at.result in
-    ap length c.set.ensures ∙ length-map s is_some
-    ∙ entry_long c.entries.at c.args.entries.now c.args.objects.now c.index-entries-at.result s c.segment.result.now c.requires c.entries-test.true c.index-entries-at.is
-    (c.index-objects-at.is ∙ ap (λ (l : List Scores). get_or l c.entries.at s) c.as_slice-objects.ensures) c.segment.ensures
-
-pub entries-preserved : goal.entries-preserved
-entries-preserved c =
-    let view = c.args.entries.now in
-    let scores = c.args.objects.now in
-    let e = c.index-entries-at.result in
-    let s = c.index-objects-at.result in
-    let step : flats_from c.entries.at view scores ≡ own_flats c.segment.result.now c.set.result.now ++ flats_from (c.entries.at + 1) view scores =
-    flats_step c.entries.at view scores e s c.segment.result.now c.set.result.now c.requires c.entries-test.true c.index-entries-at.is
-    (c.index-objects-at.is ∙ ap (λ (l : List Scores). get_or l c.entries.at s) c.as_slice-objects.ensures) c.segment.ensures c.set.ensures in
-    summing_step c.args.field c.entries.at view scores (own_flats c.segment.result.now c.set.result.now) c.entries.sums c.add_numbers.new.sums step c.entries.invariant (λ zs is. c.in_ok-add_numbers.ensures zs is)
+pub segments-preserved : goal.segments-preserved
+segments-preserved c =
+    let own : List ℤ = c.index.result.now in
+    adding_step c.in_ok-all.all.items c.segments.at own c.segments.sums c.join.new.self (omega (arith, c.segments-test.true, c.len-at-end.ensures)) c.index.ensures c.segments.invariant
+    (λ zs is. c.in_ok-join.ensures zs own is (subst (λ (s : Running). IsAdded s own c.added-own.result) c.anew.ensures c.added-own.ensures))

@@ -1,5 +1,5 @@
-use Rattle.bucket_aggs.proofs.Viewed.{Summing}
+use Rattle.bucket_aggs.proofs.Gathered.{Adding}
 use Rattle.bucket_aggs.proofs.metrics.sum_all.Given as goal
 
-abbrev pub invariant-entries : goal.invariant-entries
-invariant-entries l = Summing l.field l.at l.entries l.fn.objects l.sums
+abbrev pub invariant-segments : goal.invariant-segments
+invariant-segments l = Adding l.all.items l.at l.sums
