@@ -6,14 +6,15 @@ use Rattle.std.specs.Ordering.{int_cmp, is_eq}
 use Rattle.std.specs.declared.cmp.Ordering.{Ordering}
 use Rattle.std.proofs.lemmas.Cmp.{int_cmp_total}
 use Rattle.std.proofs.lemmas.Map.Lookups.{exact_signed}
-use Rattle.std.proofs.lemmas.List.{length-map}
+use Rattle.std.proofs.lemmas.List.{length-append, length-map}
+use Rattle.std.proofs.lemmas.List.Sums.{sum_by-cons}
 use Rattle.std.proofs.lemmas.List.Elements.{recursion_from_All}
 use Rattle.std.proofs.lemmas.List.Sorted.{sum_by-IsPermutation}
 use Rattle.doc_values.specs.Values.{AreRows, AreValues, values_of}
 use Rattle.mapping_body.specs.declared.kind.Kind.{Kind}
 use Rattle.query_ast.specs.Compare.{is_same_value}
 use Rattle.query_ast.specs.Uses.{is_written}
-use Rattle.segment.specs.Flat.{bytes_at, flat_of}
+use Rattle.segment.specs.Flat.{FlatDocument, bytes_at, flat_of}
 use Rattle.segment.specs.Shows.{column_values}
 use Rattle.segment_parts.specs.Fields.{column_of}
 use Rattle.segment_parts.specs.Lists.{terms_of}
@@ -22,7 +23,7 @@ use Rattle.tree_objects.specs.declared.field_value.FieldValue.{FieldValue}
 use Rattle.tree_objects.specs.declared.field_value.FieldValue.TheVariants.{Number, Written}
 use Rattle.view_objects.specs.Values.{values_shown}
 use Rattle.bucket_aggs.specs.Counts.{is_number, once, shows}
-use Rattle.bucket_aggs.specs.Sums.{numbers_in, values_in}
+use Rattle.bucket_aggs.specs.Sums.{keywords_in, numbers_in, values_in}
 use Rattle.bucket_aggs.proofs.Lists.{Each, any_map, by_test}
 use Rattle.bucket_aggs.proofs.Onces.{once_counts, sorted_up}
 use Rattle.bucket_aggs.proofs.Rowed.{count_flat, count_mapped, count_never, count_same, one_if, sum_mapped, sum_never, sum_same}
@@ -74,34 +75,43 @@ module _ (columns : Columns) (kind : Kind) (f : ℕ) where
       ∙ count_never (λ doc. shows kind f v (flat_of columns doc))
       (λ doc. ap (list_any (is_same_value v)) (shown_text written law doc ∙ ap (λ (c : Option (List (ℕ × List ℕ))). map Written (map (bytes_at (terms_of columns)) (column_values doc c))) is)) docs
 
-  -- how many values there are
-  pub numbers_long : (found : List (ℕ × List ℤ)) (docs : List ℕ) → is_written kind ≡ false → HaveNumbers columns → column_of f columns.numbers ≡ Some found
-      → sum_by (values_in kind f) (map (flat_of columns) docs) ≡ sum_by (λ doc. length (values_of doc found)) docs
-  numbers_long found docs plain law is =
-      sum_mapped (values_in kind f) (flat_of columns) docs
-      ∙ sum_same (λ doc. values_in kind f (flat_of columns doc)) (λ doc. length (values_of doc found))
-      (λ doc. ap length (shown_number plain law doc ∙ ap (λ (c : Option (List (ℕ × List ℤ))). map Number (column_values doc c)) is) ∙ length-map (values_of doc found) Number) docs
+-- ---- how many values there are
 
-  pub no_numbers_long : (docs : List ℕ) → is_written kind ≡ false → HaveNumbers columns → column_of f columns.numbers ≡ None → sum_by (values_in kind f) (map (flat_of columns) docs) ≡ 0
-  no_numbers_long docs plain law is =
-      sum_mapped (values_in kind f) (flat_of columns) docs
-      ∙ sum_never (λ doc. values_in kind f (flat_of columns doc))
-      (λ doc. ap length (shown_number plain law doc ∙ ap (λ (c : Option (List (ℕ × List ℤ))). map Number (column_values doc c)) is)) docs
+module _ (columns : Columns) (f : ℕ) (docs : List ℕ) (law : HaveKeywords columns) where
+  pub keywords_long : (found : List (ℕ × List ℕ)) → column_of f columns.ordinals ≡ Some found → sum_by (keywords_in f) (map (flat_of columns) docs) ≡ sum_by (λ doc. length (values_of doc found)) docs
+  keywords_long found is =
+      sum_mapped (keywords_in f) (flat_of columns) docs
+      ∙ sum_same (λ doc. keywords_in f (flat_of columns doc)) (λ doc. length (values_of doc found))
+      (λ doc. ap length (law f doc ∙ ap (λ (c : Option (List (ℕ × List ℕ))). map (bytes_at (terms_of columns)) (column_values doc c)) is) ∙ length-map (values_of doc found) (bytes_at (terms_of columns))) docs
 
-  pub texts_long : (found : List (ℕ × List ℕ)) (docs : List ℕ) → is_written kind ≡ true → HaveKeywords columns → column_of f columns.ordinals ≡ Some found
-      → sum_by (values_in kind f) (map (flat_of columns) docs) ≡ sum_by (λ doc. length (values_of doc found)) docs
-  texts_long found docs written law is =
-      sum_mapped (values_in kind f) (flat_of columns) docs
-      ∙ sum_same (λ doc. values_in kind f (flat_of columns doc)) (λ doc. length (values_of doc found))
-      (λ doc. ap length (shown_text written law doc ∙ ap (λ (c : Option (List (ℕ × List ℕ))). map Written (map (bytes_at (terms_of columns)) (column_values doc c))) is)
-      ∙ length-map (map (bytes_at (terms_of columns)) (values_of doc found)) Written
-      ∙ length-map (values_of doc found) (bytes_at (terms_of columns))) docs
+  pub no_keywords_long : column_of f columns.ordinals ≡ None → sum_by (keywords_in f) (map (flat_of columns) docs) ≡ 0
+  no_keywords_long is =
+      sum_mapped (keywords_in f) (flat_of columns) docs
+      ∙ sum_never (λ doc. keywords_in f (flat_of columns doc))
+      (λ doc. ap length (law f doc ∙ ap (λ (c : Option (List (ℕ × List ℕ))). map (bytes_at (terms_of columns)) (column_values doc c)) is)) docs
 
-  pub no_texts_long : (docs : List ℕ) → is_written kind ≡ true → HaveKeywords columns → column_of f columns.ordinals ≡ None → sum_by (values_in kind f) (map (flat_of columns) docs) ≡ 0
-  no_texts_long docs written law is =
-      sum_mapped (values_in kind f) (flat_of columns) docs
-      ∙ sum_never (λ doc. values_in kind f (flat_of columns doc))
-      (λ doc. ap length (shown_text written law doc ∙ ap (λ (c : Option (List (ℕ × List ℕ))). map Written (map (bytes_at (terms_of columns)) (column_values doc c))) is)) docs
+module _ (kind : Kind) (f : ℕ) where
+  shown_long : (d : FlatDocument) → values_in kind f d ≡ cond (is_written kind) (keywords_in f d) (length (numbers_in f d))
+  shown_long d = by (is_written kind)
+    where
+      by : (b : Bool) → length (cond b (map Written (values_of f d.keywords)) (map Number (values_of f d.numbers))) ≡ cond b (keywords_in f d) (length (numbers_in f d))
+      by true = length-map (values_of f d.keywords) Written
+      by false = length-map (values_of f d.numbers) Number
+
+  pub keywords_all : (flats : List FlatDocument) → is_written kind ≡ true → sum_by (values_in kind f) flats ≡ sum_by (keywords_in f) flats
+  keywords_all flats written = sum_same (values_in kind f) (keywords_in f) (λ d. shown_long d ∙ ap (λ (b : Bool). cond b (keywords_in f d) (length (numbers_in f d))) written) flats
+
+  pub numbers_all : (flats : List FlatDocument) → is_written kind ≡ false → sum_by (values_in kind f) flats ≡ length (flat_map (numbers_in f) flats)
+  numbers_all [] plain = refl
+  numbers_all (d ∷ flats) plain =
+      omega (
+        arith,
+        sum_by-cons (values_in kind f) d flats,
+        shown_long d,
+        ap (λ (b : Bool). cond b (keywords_in f d) (length (numbers_in f d))) plain,
+        length-append (numbers_in f d) (flat_map (numbers_in f) flats),
+        numbers_all flats plain,
+      )
 
 -- the numbers of documents, document by document
 pub numbers_told : (columns : Columns) (f : ℕ) (found : List (ℕ × List ℤ)) (docs : List ℕ) → HaveNumbers columns → column_of f columns.numbers ≡ Some found

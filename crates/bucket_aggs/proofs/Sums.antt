@@ -1,5 +1,5 @@
 -- What numbers come to, one number after the other, and what the values of objects come to.
-use Rattle.std.proofs.Common.{◌≡◌, ℕ, suc, ℤ, pos, negsuc, ◌+ℤ◌, Bool, true, false, cond, List, [], ◌∷◌, ◌++◌, map, fold, sum_by, Some, None, refl, sym, ap, subst, ◌∙◌, arith, append_assoc}
+use Rattle.std.proofs.Common.{◌≡◌, ℕ, suc, ◌+◌, ◌<◌, ℤ, pos, negsuc, ◌+ℤ◌, Bool, true, false, cond, List, [], ◌∷◌, ◌++◌, length, map, fold, sum_by, Some, None, refl, sym, ap, subst, ◌∙◌, arith, append_assoc}
 use Rattle.std.specs.Prelude.{◌-◌, ◌^◌, ◌≤◌, ◌<ℤ◌, ◌≤ℤ◌, FitsSigned}
 use Rattle.std.specs.Int.{w64}
 use Rattle.std.specs.List.{AllByRecursion, flat_map}
@@ -11,7 +11,7 @@ use Rattle.std.proofs.lemmas.Bool.{false≢true}
 use Rattle.std.specs.Ordering.{MatchOrdering}
 use Rattle.std.proofs.lemmas.Cmp.{int_cmp_total, int_ranked, tied_itself}
 use Rattle.std.proofs.lemmas.Int.{ints}
-use Rattle.std.proofs.lemmas.List.{map-append}
+use Rattle.std.proofs.lemmas.List.{length-append, map-append}
 use Rattle.std.proofs.lemmas.List.Elements.{Contains-append_left, Contains-push}
 use Rattle.std.proofs.lemmas.List.Sorted.{IsPermutation-append, IsPermutation-refl, sum_by-IsPermutation}
 use Rattle.std.proofs.lemmas.List.Sums.{sum_by-cons}
@@ -26,7 +26,7 @@ use Rattle.tree_objects.specs.Values.{values}
 use Rattle.tree_objects.specs.declared.field_value.FieldValue.{FieldValue}
 use Rattle.tree_objects.specs.declared.field_value.FieldValue.TheVariants.{Number, Written}
 use Rattle.view_objects.specs.Values.{values_shown}
-use Rattle.bucket_aggs.specs.Sums.{HasRoom, IsAdded, IsFirst, IsSummary, above, below, first_from, first_of, no_numbers, numbers_in, sum_of}
+use Rattle.bucket_aggs.specs.Sums.{HasRoom, IsAdded, IsAnew, IsFirst, IsSummary, above, below, first_from, first_of, no_numbers, numbers_in, sum_of}
 use Rattle.bucket_aggs.specs.declared.metrics.Running.{Running}
 use Rattle.bucket_aggs.proofs.Documents.{nothing_behind}
 use Rattle.bucket_aggs.proofs.Lists.{Each, by_test, each_as}
@@ -83,19 +83,31 @@ each_on P [] ys h g = g
 each_on P (z ∷ zs) ys h g = (h.0, each_on P zs ys h.1 g)
 
 pub added_none : (start : Running) → IsAdded start [] start
-added_none start = record { total = omega (arith, ints); least = refl; greatest = refl; fit = tt }
+added_none start = record { count = omega arith; total = omega (arith, ints); least = refl; greatest = refl; fit = tt }
 
-pub added_more : (start old new : Running) (zs others : List ℤ) → IsAdded start zs old → AllByRecursion (FitsSigned w64) others → new.total ≡ old.total +ℤ sum_of others → new.least ≡ first_from below old.least others → new.greatest ≡ first_from above old.greatest others
+pub added_more : (start old new : Running) (zs others : List ℤ) → IsAdded start zs old → AllByRecursion (FitsSigned w64) others → new.count ≡ old.count + length others → new.total ≡ old.total +ℤ sum_of others → new.least ≡ first_from below old.least others → new.greatest ≡ first_from above old.greatest others
     → IsAdded start (zs ++ others) new
-added_more start old new zs others was fit total least greatest = record {
+added_more start old new zs others was fit count total least greatest = record {
+  count = omega (arith, count, was.count, length-append zs others);
   total = omega (arith, ints, total, was.total, ap (λ (z : ℤ). z) (fold_on (λ (s x : ℤ). s +ℤ x) (pos 0) zs others), sum_from (sum_of zs) others);
   least = least ∙ ap (λ (first : ℤ). first_from below first others) was.least ∙ sym (fold_on (first_of below) start.least zs others);
   greatest = greatest ∙ ap (λ (first : ℤ). first_from above first others) was.greatest ∙ sym (fold_on (first_of above) start.greatest zs others);
   fit = each_on (FitsSigned w64) zs others was.fit fit;
 }
 
-pub room_less : (few many : ℕ) (total : ℤ) → few ≤ many → HasRoom many total → HasRoom few total
-room_less few many total less room = record { over = omega (arith, ints, less, room.over); under = omega (arith, ints, less, room.under) }
+pub room_less : (few many : ℕ) (s : Running) → few ≤ many → HasRoom many s → HasRoom few s
+room_less few many s less room = record {
+  over = omega (arith, ints, less, room.over);
+  under = omega (arith, ints, less, room.under);
+  few = omega (arith, less, room.few);
+}
+
+pub room_anew : (many : ℕ) (s : Running) → many < 2 ^ 64 → IsAnew s → HasRoom many s
+room_anew many s less new = record {
+  over = omega (arith, ints, less, new.total);
+  under = omega (arith, ints, less, new.total);
+  few = omega (arith, less, new.count);
+}
 
 -- ---- what they come to
 
@@ -122,7 +134,10 @@ least_start z fits = by_test (below z (pos (2 ^ 63 - 1))) (λ held. rw held refl
 greatest_start : (z : ℤ) → FitsSigned w64 z → first_of above (negsuc (2 ^ 63 - 1)) z ≡ z
 greatest_start z fits = by_test (above z (negsuc (2 ^ 63 - 1))) (λ held. rw held refl) (λ failed. rw failed (omega (arith, ints, over_of (negsuc (2 ^ 63 - 1)) z failed, fits)))
 
-module _ (r : Running) (sum : ℤ) (is : sum ≡ r.total) where
+module _ (r : Running) (count : ℕ) (many : count ≡ r.count) (sum : ℤ) (is : sum ≡ r.total) where
+  all_many : (zs : List ℤ) → IsAdded no_numbers zs r → count ≡ length zs
+  all_many zs was = omega (arith, many, was.count)
+
   all_total : (zs : List ℤ) → IsAdded no_numbers zs r → sum ≡ sum_of zs
   all_total zs was = omega (arith, ints, is, was.total)
 
@@ -133,15 +148,16 @@ module _ (r : Running) (sum : ℤ) (is : sum ≡ r.total) where
   first_greatest z zs was =
       subst (λ (first : ℤ). IsFirst above (z ∷ zs) (Some first)) (sym was.greatest) (first_all above (λ x y a h g. below_on a y x g h) not_below (negsuc (2 ^ 63 - 1)) z zs (greatest_start z was.fit.0))
 
-  pub summary_none : (zs : List ℤ) → IsAdded no_numbers zs r → below r.greatest r.least ≡ true → IsSummary zs (record { total = sum; least = None; greatest = None })
-  summary_none [] was crossed = record { total = all_total [] was; least = refl; greatest = refl }
+  pub summary_none : (zs : List ℤ) → IsAdded no_numbers zs r → below r.greatest r.least ≡ true → IsSummary zs (record { count = count; total = sum; least = None; greatest = None })
+  summary_none [] was crossed = record { count = all_many [] was; total = all_total [] was; least = refl; greatest = refl }
   summary_none (z ∷ zs) was crossed =
       absurd (omega (arith, ints, under_of r.greatest r.least crossed, over_of z r.least (first_least z zs was).1.0, over_of r.greatest z (first_greatest z zs was).1.0))
 
-  pub summary_some : (zs : List ℤ) (least greatest : ℤ) → least ≡ r.least → greatest ≡ r.greatest → IsAdded no_numbers zs r → below r.greatest r.least ≡ false → IsSummary zs (record { total = sum; least = Some least; greatest = Some greatest })
+  pub summary_some : (zs : List ℤ) (least greatest : ℤ) → least ≡ r.least → greatest ≡ r.greatest → IsAdded no_numbers zs r → below r.greatest r.least ≡ false → IsSummary zs (record { count = count; total = sum; least = Some least; greatest = Some greatest })
   summary_some [] least greatest low high was apart =
       absurd (false≢true (sym apart ∙ ap (λ (z : ℤ). below z r.least) was.greatest ∙ ap (λ (z : ℤ). below (negsuc (2 ^ 63 - 1)) z) was.least))
   summary_some (z ∷ zs) least greatest low high was apart = record {
+    count = all_many (z ∷ zs) was;
     total = all_total (z ∷ zs) was;
     least = subst (λ (first : ℤ). IsFirst below (z ∷ zs) (Some first)) (sym low) (first_least z zs was);
     greatest = subst (λ (first : ℤ). IsFirst above (z ∷ zs) (Some first)) (sym high) (first_greatest z zs was);

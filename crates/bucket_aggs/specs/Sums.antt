@@ -1,5 +1,5 @@
 -- What numbers come to: their sum, the least and the greatest.
-use Rattle.std.specs.Prelude.{◌≡◌, ℕ, ◌-◌, ◌*◌, ◌^◌, ℤ, pos, negsuc, ◌+ℤ◌, ◌<ℤ◌, ◌≤ℤ◌, FitsSigned, Bool, false, if◌then◌else◌, List, [], length, fold, Option, Some, None}
+use Rattle.std.specs.Prelude.{◌≡◌, ℕ, ◌+◌, ◌-◌, ◌*◌, ◌<◌, ◌^◌, ℤ, pos, negsuc, ◌+ℤ◌, ◌<ℤ◌, ◌≤ℤ◌, FitsSigned, Bool, false, if◌then◌else◌, List, [], length, fold, Option, Some, None}
 use Rattle.std.specs.Int.{w64}
 use Rattle.std.specs.List.{AllByRecursion, Contains, flat_map}
 use Rattle.std.specs.Ordering.{int_cmp, is_lt}
@@ -35,29 +35,44 @@ abbrev pub first_from : (ℤ → ℤ → Bool) → ℤ → List ℤ → ℤ
 first_from before first zs = fold (first_of before) first zs
 
 pub record IsSummary (zs : List ℤ) (s : Summary) : Type 0 where
+  pub count : s.count ≡ length zs
   pub total : s.total ≡ sum_of zs
   pub least : IsFirst below zs s.least
   pub greatest : IsFirst above zs s.greatest
 
 -- before the first number: each is at or below the least and at or above the greatest
 abbrev pub no_numbers : Running
-no_numbers = record { total = pos 0; least = pos (2 ^ 63 - 1); greatest = negsuc (2 ^ 63 - 1) }
+no_numbers = record { count = 0; total = pos 0; least = pos (2 ^ 63 - 1); greatest = negsuc (2 ^ 63 - 1) }
+
+-- the same but for the count and the sum, which begin anew
+abbrev pub anew : Running → Running
+anew s = record { count = 0; total = pos 0; least = s.least; greatest = s.greatest }
+
+pub record IsAnew (s : Running) : Type 0 where
+  pub count : s.count ≡ 0
+  pub total : s.total ≡ pos 0
 
 -- numbers of 64 bits that were added behind a start
 pub record IsAdded (start : Running) (zs : List ℤ) (now : Running) : Type 0 where
+  pub count : now.count ≡ start.count + length zs
   pub total : now.total ≡ start.total +ℤ sum_of zs
   pub least : now.least ≡ first_from below start.least zs
   pub greatest : now.greatest ≡ first_from above start.greatest zs
   pub fit : AllByRecursion (FitsSigned w64) zs
 
--- so many numbers of 64 bits may be added to a sum of 128
-pub record HasRoom (count : ℕ) (total : ℤ) : Type 0 where
-  pub over : (pos (count * 2 ^ 63) +ℤ total) <ℤ pos (2 ^ 127)
-  pub under : pos (count * 2 ^ 63) ≤ℤ (pos (2 ^ 127) +ℤ total)
+-- so many numbers of 64 bits may be added: the sum has 128 bits, and the count 64
+pub record HasRoom (more : ℕ) (s : Running) : Type 0 where
+  pub over : (pos (more * 2 ^ 63) +ℤ s.total) <ℤ pos (2 ^ 127)
+  pub under : pos (more * 2 ^ 63) ≤ℤ (pos (2 ^ 127) +ℤ s.total)
+  pub few : s.count + more < 2 ^ 64
 
 -- the numbers of a document in the column of a field
 abbrev pub numbers_in : ℕ → FlatDocument → List ℤ
 numbers_in f d = values_of f d.numbers
+
+-- how many keywords it has
+abbrev pub keywords_in : ℕ → FlatDocument → ℕ
+keywords_in f d = length (values_of f d.keywords)
 
 abbrev pub values_in : Kind → ℕ → FlatDocument → ℕ
 values_in kind f d = length (values_shown kind f d)

@@ -269,7 +269,7 @@ fn value(
         AggForm::Max(field) => Ok(AggValue::Metric(greatest(alloc, entries, *field, objects, kept)?)),
         AggForm::Sum(field) => Ok(AggValue::Metric(Some(sum(alloc, entries, *field, objects, kept)?))),
         AggForm::ValueCount(field) => Ok(AggValue::Metric(Some(count(
-            entries, mapping, *field, objects,
+            alloc, entries, mapping, *field, objects, kept,
         )?))),
     }
 }

@@ -88,19 +88,23 @@ pub(crate) fn sum(
 
 /// How many values of a field there are, repeats included.
 pub(crate) fn count(
+    alloc: Global,
     entries: &[Entry],
     mapping: &Mapping,
     field: Option<u32>,
     objects: &Matches,
+    kept: &mut Option<FieldSummary>,
 ) -> Result<i64, NoMemory>
     requires field { IsUse (λ u. u.sorted) mapping.now field }
     requires long { AreLong entries.now objects.now }
-    ensures { (n : ℕ) (given : List Tree → Object → Option ℕ) → IsSeen mapping.now entries.now n given objects.now → IfOk result (IsAnswer mapping.now entries.now n (count_by_field mapping.now field) given) }
+    requires kept { IsKept entries.now objects.now kept.old }
+    ensures answer { (n : ℕ) (given : List Tree → Object → Option ℕ) → IsSeen mapping.now entries.now n given objects.now → IfOk result (IsAnswer mapping.now entries.now n (count_by_field mapping.now field) given) }
+    ensures kept { OnOk result (IsKept entries.now objects.now kept.new) }
 {
     documents_show_values();
     match field {
         Some(field) => {
-            let count = value_count(entries, mapping.kind(field), field, objects)?;
+            let count = value_count(alloc, entries, mapping.kind(field), field, objects, kept)?;
             let number = as_number(count)?;
             Ok(number)
         }

@@ -10,7 +10,7 @@ ghost use Rattle.segment.specs.Flat.{flat_of};
 ghost use Rattle.segment_parts.specs.Text.{marked_places};
 ghost use Rattle.bucket_aggs.specs.Columns.{joined};
 ghost use Rattle.bucket_aggs.specs.Counts.{flats_of_view};
-ghost use Rattle.bucket_aggs.specs.Sums.{HasRoom, IsAdded, IsKept, IsSummary, above, below, first_of, no_numbers, numbers_in, values_in};
+ghost use Rattle.bucket_aggs.specs.Sums.{HasRoom, IsAdded, IsAnew, IsKept, IsSummary, above, anew, below, first_of, keywords_in, no_numbers, numbers_in, values_in};
 ghost use Rattle.bucket_aggs.specs.declared.metrics.Running.{Running};
 
 use crate::NoMemory;
@@ -24,9 +24,10 @@ use segment_view::Entry;
 use std::alloc::Global;
 use std::marker::Model;
 
-/// The sum of numbers, the least and the greatest.
+/// How many numbers there are, their sum, the least and the greatest.
 #[derive(Clone, Copy)]
 pub(crate) struct Summary {
+    pub(crate) count: u64,
     pub(crate) total: i128,
     pub(crate) least: Option<i64>,
     pub(crate) greatest: Option<i64>,
@@ -41,9 +42,10 @@ impl Summary {
     }
 }
 
-/// Numbers while they are added: their sum, the least and the greatest. Of no numbers the least is above the greatest.
+/// Numbers while they are added: how many, their sum, the least and the greatest. Of no numbers the least is above the greatest.
 #[derive(Clone, Copy)]
 pub(crate) struct Running {
+    count: u64,
     total: i128,
     least: i64,
     greatest: i64,
@@ -55,17 +57,19 @@ impl Running {
         ensures { result ≡ no_numbers }
     {
         Running {
+            count: 0,
             total: 0,
             least: i64::MAX,
             greatest: i64::MIN,
         }
     }
 
-    /// The same but for the sum, which begins anew.
+    /// The same but for the count and the sum, which begin anew.
     fn anew(&self) -> Running
-        ensures { result ≡ record { total = pos 0; least = self.now.least; greatest = self.now.greatest } }
+        ensures { result ≡ anew self.now }
     {
         Running {
+            count: 0,
             total: 0,
             least: self.least,
             greatest: self.greatest,
@@ -77,26 +81,31 @@ impl Running {
     /// Inlined, as `add_values` is, so that the numbers of a loop stay in registers.
     #[inline(always)]
     fn add(&mut self, number: i64)
-        requires { HasRoom 1 self.old.total }
+        requires { HasRoom 1 self.old }
         ensures added { (start : Running) (zs : List ℤ) → IsAdded start zs self.old → IsAdded start (zs ++ number ∷ []) self.new }
-        ensures total { (count : ℕ) → HasRoom (count + 1) self.old.total → HasRoom count self.new.total }
+        ensures room { (more : ℕ) → HasRoom (more + 1) self.old → HasRoom more self.new }
     {
         *self = Running {
+            count: self.count + 1,
             total: self.total + i128::from(number),
             least: lesser(self.least, number),
             greatest: greater(self.greatest, number),
         };
     }
 
-    /// With those that were added anew. `NoMemory` where the sum has no 128 bits.
+    /// With those that were added anew. `NoMemory` where the sum has no 128 bits, or the count no 64.
     fn join(&mut self, own: Running) -> Result<(), NoMemory>
-        ensures { (zs others : List ℤ) → IsAdded no_numbers zs self.old → IsAdded (record { total = pos 0; least = self.old.least; greatest = self.old.greatest }) others own
+        ensures { (zs others : List ℤ) → IsAdded no_numbers zs self.old → IsAdded (anew self.old) others own
             → OnOk result (IsAdded no_numbers (zs ++ others) self.new) }
     {
+        let Some(count) = self.count.checked_add(own.count) else {
+            return Err(NoMemory);
+        };
         let Some(total) = self.total.checked_add(own.total) else {
             return Err(NoMemory);
         };
         *self = Running {
+            count,
             total,
             least: own.least,
             greatest: own.greatest,
@@ -110,12 +119,14 @@ impl Running {
     {
         if is_below(self.greatest, self.least) {
             return Summary {
+                count: self.count,
                 total: self.total,
                 least: None,
                 greatest: None,
             };
         }
         Summary {
+            count: self.count,
             total: self.total,
             least: Some(self.least),
             greatest: Some(self.greatest),
@@ -259,9 +270,9 @@ impl<'a> OwnNumbers<'a> {
         Some(OwnNumbers { set, column, rows })
     }
 
-    /// With these numbers; no sum has begun.
+    /// With these numbers; nothing has been added yet.
     fn added(&self, start: Running) -> Running
-        requires { start.total ≡ pos 0 }
+        requires { IsAnew start }
         ensures { IsAdded start self.now result }
     {
         match &self.rows {
@@ -271,11 +282,11 @@ impl<'a> OwnNumbers<'a> {
     }
 }
 
-/// With the numbers that the documents of a set have in a column; no sum has begun.
+/// With the numbers that the documents of a set have in a column; nothing has been added yet.
 ///
 /// Where the set has most documents of the column its rows are walked over, else each document's row is looked for near the one before.
 fn with_column(set: &BitSet, column: &NumberColumn, start: Running) -> Running
-    requires { start.total ≡ pos 0 }
+    requires { IsAnew start }
     ensures { IsAdded start (flat_map (λ doc. values_of doc column.now) (marked_places 0 set.now)) result }
 {
     if has_most(set, column) {
@@ -287,7 +298,7 @@ fn with_column(set: &BitSet, column: &NumberColumn, start: Running) -> Running
 
 /// The same over rows of one value each.
 fn with_single_rows(set: &BitSet, rows: &SingleRows<i64>, start: Running) -> Running
-    requires zero { start.total ≡ pos 0 }
+    requires anew { IsAnew start }
     requires ascending { IsStrictlyIncreasing (documents rows.now) }
     requires within { All (λ doc. doc < length set.now) (documents rows.now) }
     ensures { IsAdded start (flat_map (λ doc. values_of doc rows.now) (marked_places 0 set.now)) result }
@@ -304,7 +315,7 @@ fn with_single_rows(set: &BitSet, rows: &SingleRows<i64>, start: Running) -> Run
 
 /// The same, row by row.
 fn with_rows(set: &BitSet, column: &NumberColumn, start: Running) -> Running
-    requires { start.total ≡ pos 0 }
+    requires { IsAnew start }
     ensures { IsAdded start (flat_map (λ doc. values_of doc column.now) (marked_places 0 set.now)) result }
 {
     let mut sums = start;
@@ -318,7 +329,7 @@ fn with_rows(set: &BitSet, column: &NumberColumn, start: Running) -> Running
 
 /// The same, document by document.
 fn with_documents(set: &BitSet, column: &NumberColumn, start: Running) -> Running
-    requires { start.total ≡ pos 0 }
+    requires { IsAnew start }
     ensures { IsAdded start (flat_map (λ doc. values_of doc column.now) (marked_places 0 set.now)) result }
 {
     let _len = set.len();
@@ -337,9 +348,9 @@ fn with_documents(set: &BitSet, column: &NumberColumn, start: Running) -> Runnin
 /// Most documents have one value alone: it is looked at by itself.
 #[inline(always)]
 fn add_values(values: Values<i64>, sums: &mut Running)
-    requires { HasRoom (2 ^ 32) sums.old.total }
+    requires { HasRoom (2 ^ 32) sums.old }
     ensures added { (start : Running) (zs : List ℤ) → IsAdded start zs sums.old → IsAdded start (zs ++ values.entry) sums.new }
-    ensures room { (count : ℕ) → HasRoom (count + 2 ^ 32) sums.old.total → HasRoom count sums.new.total }
+    ensures room { (more : ℕ) → HasRoom (more + 2 ^ 32) sums.old → HasRoom more sums.new }
 {
     if values.len() == 1 {
         sums.add(values.value(0));
@@ -350,9 +361,9 @@ fn add_values(values: Values<i64>, sums: &mut Running)
 
 /// The same, value by value.
 fn add_each(values: Values<i64>, sums: &mut Running)
-    requires { HasRoom (2 ^ 32) sums.old.total }
+    requires { HasRoom (2 ^ 32) sums.old }
     ensures added { (start : Running) (zs : List ℤ) → IsAdded start zs sums.old → IsAdded start (zs ++ values.entry) sums.new }
-    ensures room { (count : ℕ) → HasRoom (count + 2 ^ 32) sums.old.total → HasRoom count sums.new.total }
+    ensures room { (more : ℕ) → HasRoom (more + 2 ^ 32) sums.old → HasRoom more sums.new }
 {
     let _few = values.len();
     let mut values = values;
@@ -361,20 +372,36 @@ fn add_each(values: Values<i64>, sums: &mut Running)
     }
 }
 
-/// How many values of a field of this kind all objects show, repeats included.
+/// How many values of a field of this kind all objects show, repeats included. Numbers are counted while they are added.
 pub(crate) fn value_count(
+    alloc: Global,
     entries: &[Entry],
     kind: Kind,
     field: u32,
     objects: &Matches,
+    kept: &mut Option<FieldSummary>,
 ) -> Result<u64, NoMemory>
+    requires long { AreLong entries.now objects.now }
+    requires kept { IsKept entries.now objects.now kept.old }
+    ensures count { IfOk result (λ count. count ≡ sum_by (values_in kind field) (flats_of_view entries.now objects.now)) }
+    ensures kept { OnOk result (IsKept entries.now objects.now kept.new) }
+{
+    if is_text(kind) {
+        return Ok(keyword_count(entries, field, objects)?);
+    }
+    let sums = summed(alloc, entries, field, objects, kept)?;
+    Ok(sums.count)
+}
+
+/// How many keywords of a field all objects have.
+fn keyword_count(entries: &[Entry], field: u32, objects: &Matches) -> Result<u64, NoMemory>
     requires { AreLong entries.now objects.now }
-    ensures { IfOk result (λ count. count ≡ sum_by (values_in kind field) (flats_of_view entries.now objects.now)) }
+    ensures { IfOk result (λ count. count ≡ sum_by (keywords_in field) (flats_of_view entries.now objects.now)) }
 {
     let objects = objects.as_slice();
     let mut count: u64 = 0;
     'entries: for at in 0..entries.len() {
-        let own = own_count(entries[at].segment(), kind, field, objects[at].set())?;
+        let own = own_count(entries[at].segment(), field, objects[at].set())?;
         let Some(more) = count.checked_add(own) else {
             return Err(NoMemory);
         };
@@ -384,22 +411,15 @@ pub(crate) fn value_count(
 }
 
 /// Those of the documents of a set.
-fn own_count(segment: &Segment, kind: Kind, field: u32, set: &BitSet) -> Result<u64, NoMemory>
+fn own_count(segment: &Segment, field: u32, set: &BitSet) -> Result<u64, NoMemory>
     requires { length set.now ≡ segment.now.documents }
-    ensures { IfOk result (λ count. count ≡ sum_by (values_in kind field) (map (flat_of segment.now) (marked_places 0 set.now))) }
+    ensures { IfOk result (λ count. count ≡ sum_by (keywords_in field) (map (flat_of segment.now) (marked_places 0 set.now))) }
 {
     values_are_of_documents(segment);
     let _agree = segment.docs();
-    if is_text(kind) {
-        match segment.ordinals(field) {
-            Some(column) => Ok(column_count(set, &column)?),
-            None => Ok(0),
-        }
-    } else {
-        match segment.numbers(field) {
-            Some(column) => Ok(column_count(set, &column)?),
-            None => Ok(0),
-        }
+    match segment.ordinals(field) {
+        Some(column) => Ok(column_count(set, &column)?),
+        None => Ok(0),
     }
 }
 

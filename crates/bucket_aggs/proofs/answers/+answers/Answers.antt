@@ -281,7 +281,7 @@ value-returns-in_ok-count-in-ValueCount-clause-value t c = λ given is.
     let fits : SFits w64 z = search rules in
     subst (λ (form : AggForm). IsAnswer m view c.args.scope (value_by m form ds) given (metric (Some (to_z w64 (of_z w64 z))))) (sym c.in-ValueCount.is)
     (subst (λ (number : ℤ). IsAnswer m view c.args.scope (value_by m (ValueCount field) ds) given (metric (Some number))) (sym (to_z-of_z w64 z fits))
-    (number_is m view c.args.scope (count_by_field m field) (value_by m (ValueCount field) ds) given c.in_ok-count-in-ValueCount.field-0 (λ live objects. refl) (c.in_ok-count-in-ValueCount.ensures c.args.scope given is)))
+    (number_is m view c.args.scope (count_by_field m field) (value_by m (ValueCount field) ds) given c.in_ok-count-in-ValueCount.field-0 (λ live objects. refl) (c.in_ok-count-in-ValueCount.ensures.answer c.args.scope given is)))
 
 pub mapped_terms-ready_shown-requires : goal.mapped_terms-ready_shown-requires
 mapped_terms-ready_shown-requires t c =

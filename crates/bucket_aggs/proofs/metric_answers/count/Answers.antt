@@ -10,8 +10,8 @@ use Rattle.bucket_aggs.specs.Sums.{values_in}
 use Rattle.bucket_aggs.proofs.Formed.{count_told, none_count}
 use Rattle.bucket_aggs.proofs.metric_answers.count.Goals as goal
 
-pub returns-in_ok-number-in-Some : goal.returns-in_ok-number-in-Some
-returns-in_ok-number-in-Some c = λ n given is.
+pub returns-in_ok-number-in-Some-clause-answer : goal.returns-in_ok-number-in-Some-clause-answer
+returns-in_ok-number-in-Some-clause-answer c = λ n given is.
     let m = c.args.mapping.now in
     let view = c.args.entries.now in
     let f : ℕ = c.in-Some.field in
@@ -20,12 +20,12 @@ returns-in_ok-number-in-Some c = λ n given is.
     let fits : SFits w64 number = search rules in
     let count : ℕ = c.in_ok-count-in-Some.count in
     let counted : count ≡ sum_by (values_in (kind_at m f) f) (flats_of_view view c.args.objects.now) =
-    subst (λ (kind : Kind). count ≡ sum_by (values_in kind f) (flats_of_view view c.args.objects.now)) c.kind.ensures c.in_ok-count-in-Some.ensures in
+    subst (λ (kind : Kind). count ≡ sum_by (values_in kind f) (flats_of_view view c.args.objects.now)) c.kind.ensures c.in_ok-count-in-Some.ensures.count in
     subst (λ (field : Option ℕ). IsAnswer m view n (count_by_field m field) given (to_z w64 (of_z w64 number))) (sym c.in-Some.is)
     (subst (λ (z : ℤ). IsAnswer m view n (count_by_field m (Some f)) given z) (sym (to_z-of_z w64 number fits ∙ c.in_ok-number-in-Some.ensures))
     (count_told m view n f given c.args.objects.now (λ o. c.documents_show_values.ensures.shown m f o own.0 own.1) is count counted))
 
-pub returns-in-None : goal.returns-in-None
-returns-in-None c = λ n given is.
+pub returns-in-None-clause-answer : goal.returns-in-None-clause-answer
+returns-in-None-clause-answer c = λ n given is.
     let m = c.args.mapping.now in
     subst (λ (field : Option ℕ). IsAnswer m c.args.entries.now n (count_by_field m field) given (pos 0)) (sym c.in-None.is) (none_count m c.args.entries.now n given)

@@ -7,8 +7,8 @@ use Rattle.bucket_aggs.proofs.metrics.add_each.Goals as goal
 
 pub add-requires : goal.add-requires
 add-requires c =
-    room_less 1 (0 + length c.values.values) c.values.sums.total (omega (arith, ap (λ (l : List ℤ). length l) c.in-Some.ensures.some))
-    (c.values.invariant.1 0 (room_less (0 + 4294967296) 4294967296 c.args.sums.now.total (omega arith) c.requires))
+    room_less 1 (0 + length c.values.values) c.values.sums (omega (arith, ap (λ (l : List ℤ). length l) c.in-Some.ensures.some))
+    (c.values.invariant.1 0 (room_less (0 + 4294967296) 4294967296 c.args.sums.now (omega arith) c.requires))
 
 pub values-preserved : goal.values-preserved
 values-preserved c = (
@@ -24,7 +24,7 @@ values-preserved c = (
         append_assoc was.0 (z ∷ []) c.next.new.self ∙ ap (λ (l : List ℤ). was.0 ++ l) (sym c.in-Some.ensures.some) ∙ was.2,
       ),
   λ count room.
-      c.add.ensures.total (count + length c.next.new.self)
-      (room_less ((count + length c.next.new.self) + 1) (count + length c.values.values) c.values.sums.total (omega (arith, ap (λ (l : List ℤ). length l) c.in-Some.ensures.some))
+      c.add.ensures.room (count + length c.next.new.self)
+      (room_less ((count + length c.next.new.self) + 1) (count + length c.values.values) c.values.sums (omega (arith, ap (λ (l : List ℤ). length l) c.in-Some.ensures.some))
       (c.values.invariant.1 count room)),
 )

@@ -14,4 +14,4 @@ returns-then-len-eq1-clause-added c = λ start zs was.
     (subst (λ (n : ℤ). IsAdded start (zs ++ n ∷ []) c.add.new.self) (to_z-of_z w64 z fits) (c.add.ensures.added start zs was))
 
 pub returns-then-len-eq1-clause-room : goal.returns-then-len-eq1-clause-room
-returns-then-len-eq1-clause-room c = λ count room. c.add.ensures.total count (room_less (count + 1) (count + 4294967296) c.args.sums.now.total (omega arith) room)
+returns-then-len-eq1-clause-room c = λ count room. c.add.ensures.room count (room_less (count + 1) (count + 4294967296) c.args.sums.now (omega arith) room)

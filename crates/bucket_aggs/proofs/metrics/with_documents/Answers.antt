@@ -11,7 +11,7 @@ use Rattle.bucket_aggs.proofs.metrics.with_documents.Goals as goal
 
 pub add_values-requires : goal.add_values-requires
 add_values-requires c =
-    room_less 4294967296 ((4294967295 - c.documents.walk.from) * 4294967296) c.documents.sums.total
+    room_less 4294967296 ((4294967295 - c.documents.walk.from) * 4294967296) c.documents.sums
     (omega (arith, c.in-Some.ensures.within, c.len-len.ensures, ap (λ (l : List Bool). length l) c.documents.invariant.0)) c.documents.invariant.1
 
 pub documents-preserved : goal.documents-preserved
@@ -27,7 +27,7 @@ documents-preserved c =
     let left : ℕ = (4294967295 - c.next.new.self.from) * 4294967296 in (
       ap (λ (w : Walking). w.documents) c.in-Some.ensures.found ∙ c.documents.invariant.0,
       c.add_values.ensures.room left
-          (room_less (left + 4294967296) ((4294967295 - from) * 4294967296) c.documents.sums.total
+          (room_less (left + 4294967296) ((4294967295 - from) * 4294967296) c.documents.sums
           (omega (arith, c.in-Some.ensures.within, c.len-len.ensures, ap (λ (l : List Bool). length l) c.documents.invariant.0, ap (λ (w : Walking). w.from) c.in-Some.ensures.found)) c.documents.invariant.1),
       (
         new,

@@ -8,7 +8,7 @@ use Rattle.bucket_aggs.proofs.metrics.with_documents.Given as goal
 abbrev pub invariant-documents : goal.invariant-documents
 invariant-documents l =
     (l.walk.documents ≡ l.set)
-    × HasRoom ((2 ^ 32 - 1 - l.walk.from) * 2 ^ 32) l.sums.total
+    × HasRoom ((2 ^ 32 - 1 - l.walk.from) * 2 ^ 32) l.sums
     × ((done : List ℤ) × IsAdded l.fn.start done l.sums × (done ++ flat_map (λ doc. values_of doc l.column) (left_of l.set l.walk.from) ≡ flat_map (λ doc. values_of doc l.column) (left_of l.set 0)))
 
 abbrev pub decreases-documents : goal.decreases-documents

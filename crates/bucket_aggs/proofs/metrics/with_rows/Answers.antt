@@ -20,8 +20,8 @@ rows-preserved c =
           let step : flat_map (told c.args.set.now 0) (drop c.rows.row c.args.column.now) ≡ w.row_values.result ++ rest =
           told_next c.args.set.now c.args.column.now c.rows.row c.doc.result w.row_values.result low c.doc.ensures w.row_values.ensures
           ∙ ap (λ (b : Bool). cond b w.row_values.result [] ++ rest) held in (
-            subst (λ (s : Running). HasRoom left s.total) (sym w.sums-is)
-                (w.add_values.ensures.room left (room_less (left + 4294967296) ((4294967295 - c.rows.row) * 4294967296) c.rows.sums.total (omega (arith, c.rows-test.true, c.rows.auto.row-end)) c.rows.invariant.0)),
+            subst (λ (s : Running). HasRoom left s) (sym w.sums-is)
+                (w.add_values.ensures.room left (room_less (left + 4294967296) ((4294967295 - c.rows.row) * 4294967296) c.rows.sums (omega (arith, c.rows-test.true, c.rows.auto.row-end)) c.rows.invariant.0)),
             (
               was.0 ++ w.row_values.result,
               subst (λ (s : Running). IsAdded c.args.start (was.0 ++ w.row_values.result) s) (sym w.sums-is) (w.add_values.ensures.added c.args.start was.0 was.1),
@@ -30,7 +30,7 @@ rows-preserved c =
           )
       | else-is_in w ↦
           let failed : get_or c.args.set.now c.doc.result false ≡ false = sym c.is_in.ensures ∙ w.if-is_in.false in (
-            subst (λ (s : Running). HasRoom left s.total) (sym w.sums-is) (room_less left ((4294967295 - c.rows.row) * 4294967296) c.rows.sums.total (omega arith) c.rows.invariant.0),
+            subst (λ (s : Running). HasRoom left s) (sym w.sums-is) (room_less left ((4294967295 - c.rows.row) * 4294967296) c.rows.sums (omega arith) c.rows.invariant.0),
             (
               was.0,
               subst (λ (s : Running). IsAdded c.args.start was.0 s) (sym w.sums-is) was.1,

@@ -16,7 +16,7 @@ has-requires c =
     document_below c.args.rows.now c.rows.at c.row-own.result.0 (length c.args.set.now) (c.row-own.result.1 ∷ []) low c.row-own.ensures c.requires.within
 
 pub add-requires : goal.add-requires
-add-requires c = room_less 1 (4294967295 - c.rows.at) c.rows.sums.total (omega (arith, c.rows-test.true, c.rows.auto.at-end)) c.rows.invariant.0
+add-requires c = room_less 1 (4294967295 - c.rows.at) c.rows.sums (omega (arith, c.rows-test.true, c.rows.auto.at-end)) c.rows.invariant.0
 
 pub rows-preserved : goal.rows-preserved
 rows-preserved c =
@@ -37,8 +37,8 @@ rows-preserved c =
           let own : flat_map (told flags 0) (drop at rows) ≡ (number ∷ []) ++ rest = step ∙ ap (λ (b : Bool). cond b (number ∷ []) [] ++ rest) held in
           let added : IsAdded c.args.start (was.0 ++ number ∷ []) w.add.new.self =
           subst (λ (n : ℤ). IsAdded c.args.start (was.0 ++ n ∷ []) w.add.new.self) (to_z-of_z w64 number fits) (w.add.ensures.added c.args.start was.0 was.1) in (
-            subst (λ (s : Running). HasRoom left s.total) (sym w.sums-is)
-                (w.add.ensures.total left (room_less (left + 1) (4294967295 - at) c.rows.sums.total (omega (arith, c.rows-test.true, c.rows.auto.at-end)) c.rows.invariant.0)),
+            subst (λ (s : Running). HasRoom left s) (sym w.sums-is)
+                (w.add.ensures.room left (room_less (left + 1) (4294967295 - at) c.rows.sums (omega (arith, c.rows-test.true, c.rows.auto.at-end)) c.rows.invariant.0)),
             (
               was.0 ++ number ∷ [],
               subst (λ (s : Running). IsAdded c.args.start (was.0 ++ number ∷ []) s) (sym w.sums-is) added,
@@ -48,7 +48,7 @@ rows-preserved c =
       | else-has w ↦
           let failed : get_or flags doc false ≡ false = sym c.has.ensures ∙ w.if-has.false in
           let none : flat_map (told flags 0) (drop at rows) ≡ rest = step ∙ ap (λ (b : Bool). cond b (number ∷ []) [] ++ rest) failed in (
-            subst (λ (s : Running). HasRoom left s.total) (sym w.sums-is) (room_less left (4294967295 - at) c.rows.sums.total (omega arith) c.rows.invariant.0),
+            subst (λ (s : Running). HasRoom left s) (sym w.sums-is) (room_less left (4294967295 - at) c.rows.sums (omega arith) c.rows.invariant.0),
             (
               was.0,
               subst (λ (s : Running). IsAdded c.args.start was.0 s) (sym w.sums-is) was.1,

@@ -6,5 +6,5 @@ use Rattle.bucket_aggs.proofs.metrics.with_single_rows.Given as goal
 
 abbrev pub invariant-rows : goal.invariant-rows
 invariant-rows l =
-    HasRoom (2 ^ 32 - 1 - l.at) l.sums.total
+    HasRoom (2 ^ 32 - 1 - l.at) l.sums
     × ((done : List ℤ) × IsAdded l.fn.start done l.sums × (done ++ flat_map (told l.set 0) (drop l.at l.rows) ≡ flat_map (told l.set 0) l.rows))

@@ -19,7 +19,7 @@ returns-clause-added c = λ start zs was.
     let more : SFits w128 c.from.result = search rules in
     let both : SFits w128 (to_z w128 (of_z w128 old.total) +ℤ to_z w128 (of_z w128 c.from.result)) =
     omega (arith, ints, c.requires.over, c.requires.under, to_z-of_z w128 old.total sofar, to_z-of_z w128 c.from.result more, c.from.ensures, own, c.ranges.number) in
-    added_more start old _ zs (z ∷ []) was (c.ranges.number, tt)
+    added_more start old _ zs (z ∷ []) was (c.ranges.number, tt) (omega arith)
     (omega (arith, ints, to_z-of_z w128 (to_z w128 (of_z w128 old.total) +ℤ to_z w128 (of_z w128 c.from.result)) both, to_z-of_z w128 old.total sofar, to_z-of_z w128 c.from.result more, c.from.ensures, own))
     (to_z-of_z w64 c.lesser.result low
     ∙ c.lesser.ensures
