@@ -50,13 +50,13 @@ run_append (list ∷ before) behind doc at =
     ∙ ap (λ (n : ℕ). own && (run_posted before doc (at + 1) && run_posted behind doc n)) same
     ∙ sym (and_assoc own (run_posted before doc (at + 1)) (run_posted behind doc (at + length (list ∷ before))))
 
-begins_at : (lists : Lists) (doc : ℕ) → phrase_posted lists doc ≡ true → (start : ℕ) × (run_posted lists doc start ≡ true)
+pub begins_at : (lists : Lists) (doc : ℕ) → phrase_posted lists doc ≡ true → (start : ℕ) × (run_posted lists doc start ≡ true)
 begins_at [] doc says = absurd (false≢true says)
 begins_at (list ∷ lists) doc says =
     let one = witness (λ p. run_posted lists doc (p + 1)) (values_of doc list) says in
     (one.is, rw (one.among, one.passes) refl)
 
-stands_from : (before behind : Lists) (own : List (ℕ × List ℕ)) (doc start : ℕ) → run_posted (before ++ own ∷ behind) doc start ≡ true → phrase_posted (before ++ own ∷ behind) doc ≡ true
+pub stands_from : (before behind : Lists) (own : List (ℕ × List ℕ)) (doc start : ℕ) → run_posted (before ++ own ∷ behind) doc start ≡ true → phrase_posted (before ++ own ∷ behind) doc ≡ true
 stands_from [] behind own doc start says =
     let parts = and_parts (list_any (λ p. nat_eq p start) (values_of doc own)) (run_posted behind doc (start + 1)) says in
     among_any (λ p. run_posted behind doc (p + 1)) (values_of doc own) start parts.0 parts.1
@@ -97,7 +97,7 @@ all_from : (doc : ℕ) (lists : Lists) → ((k : ℕ) → k < length lists → h
 all_from doc [] each = refl
 all_from doc (list ∷ lists) each = rw (each 0 (omega arith)) (all_from doc lists (λ k inside. each (suc k) (omega (arith, inside))))
 
-posted_all : (in_order : Bool) (lists : Lists) (doc : ℕ) → posted in_order lists doc ≡ true → list_all (has_document doc) lists ≡ true
+pub posted_all : (in_order : Bool) (lists : Lists) (doc : ℕ) → posted in_order lists doc ≡ true → list_all (has_document doc) lists ≡ true
 posted_all true lists doc says = all_from doc lists (λ k inside. phrase_means lists doc k says inside)
 posted_all false lists doc says = says
 

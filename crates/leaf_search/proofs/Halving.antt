@@ -1,6 +1,7 @@
 -- A search by halves among the positions of a document.
 use Rattle.std.proofs.Common.{◌≡◌, ℕ, ◌+◌, ◌-◌, ◌<◌, ◌≤◌, false, List, [], length, get_or, Option, sym, ap, subst, inl, inr, arith, nat_eq}
 use Rattle.std.specs.List.{list_any}
+use Rattle.std.specs.List.Sorted.{IsStrictlyIncreasing}
 use Rattle.std.specs.Option.{option_map_or}
 use Rattle.std.proofs.lemmas.Bool.{cases_lt, ne_eqb}
 use Rattle.std.proofs.lemmas.List.{get_or_default}
@@ -12,11 +13,14 @@ use Rattle.leaf_search.proofs.Going.{rises}
 abbrev pub Ascend : List ℕ → Type 0
 Ascend ps = (i j : ℕ) → i < j → j < length ps → get_or ps i 0 < get_or ps j 0
 
-ascends : (ps : List ℕ) → AreAscending ps → Ascend ps
-ascends ps are i j below inside =
-    let up : get_or ps i 0 < get_or ps (i + (j - i - 1) + 1) 0 = rises ps are.ascending i (j - i - 1) (omega (arith, below, inside)) in
+pub increasing : (ps : List ℕ) → IsStrictlyIncreasing ps → Ascend ps
+increasing ps up i j below inside =
+    let less : get_or ps i 0 < get_or ps (i + (j - i - 1) + 1) 0 = rises ps up i (j - i - 1) (omega (arith, below, inside)) in
     let same : i + (j - i - 1) + 1 ≡ j = omega (arith, below) in
-    subst (λ (k : ℕ). get_or ps i 0 < get_or ps k 0) same up
+    subst (λ (k : ℕ). get_or ps i 0 < get_or ps k 0) same less
+
+ascends : (ps : List ℕ) → AreAscending ps → Ascend ps
+ascends ps are = increasing ps are.ascending
 
 pub positions_ascend : (cursor : Standing) → ArePostings cursor.postings → Ascend (present_positions cursor)
 positions_ascend cursor are = elim (cases_lt cursor.at (length cursor.postings)) [

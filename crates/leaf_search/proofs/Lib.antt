@@ -23,3 +23,8 @@ pub mod Rooted
 pub mod Finding
 pub mod Selecting
 pub mod Conjoining
+pub mod Shifting
+pub mod Running
+pub mod Taking
+pub mod Picking
+pub mod Narrowing

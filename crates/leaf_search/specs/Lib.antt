@@ -8,5 +8,6 @@ pub mod Values
 pub mod Roots
 pub mod Cursors
 pub mod Repeats
+pub mod Patterns
 pub mod Kept
 pub mod Ids

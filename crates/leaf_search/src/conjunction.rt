@@ -62,7 +62,7 @@ pub(crate) fn conjunction_set(
 }
 
 /// Of the documents of two sets those that have all of some terms.
-fn select(
+pub(crate) fn select(
     alloc: Global,
     segment: &Segment,
     live: &BitSet,
@@ -115,7 +115,7 @@ fn put_if(set: &mut BitSet, doc: u32, found: bool)
 }
 
 /// Cursors at the first posting of each of these terms.
-fn cursors_at<'a>(
+pub(crate) fn cursors_at<'a>(
     alloc: Global,
     segment: &'a Segment,
     ordinals: &[u64],
@@ -209,7 +209,7 @@ fn meet(
 }
 
 /// Goes to a document with each cursor, up to the first whose term isn't there; whether all terms are.
-fn go_to(cursors: &mut Vec<Cursor>, doc: u32) -> bool
+pub(crate) fn go_to(cursors: &mut Vec<Cursor>, doc: u32) -> bool
     requires { All (IsBehind doc) cursors.old.items }
     ensures lists { lists_in cursors.new.items ≡ lists_in cursors.old.items }
     ensures passed { All (IsBehind (doc + 1)) cursors.new.items }
@@ -312,6 +312,14 @@ fn has_positions(cursor: &Cursor, position: u64, count: usize) -> bool
     }
     let further = (count - 1) as u32;
     cursor.position(first + further) as u64 == cursor.position(first) as u64 + further as u64
+}
+
+/// Whether a term stands at a position of the cursor's document.
+pub(crate) fn has_position(cursor: &Cursor, position: u64) -> bool
+    requires { IsSome (present cursor.now) }
+    ensures { result ≡ list_any (λ p. p == position) (present_positions cursor.now) }
+{
+    index_of(cursor, position).is_some()
 }
 
 /// The index of a position of the cursor's document, if it is one. Positions ascend, so that it looks at few of them.

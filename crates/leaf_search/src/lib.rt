@@ -5,12 +5,14 @@
 //! objects of a scope at which the leaf holds. Begin with `leaf`, then `terms`, and for the meaning with `specs/Found`.
 #![tactic(auto)]
 
+mod apart;
 mod conjunction;
 mod distinct;
 mod exists;
 mod ids;
 mod key;
 mod leaves;
+mod long_phrase;
 mod no_memory;
 mod on_field;
 mod on_kind;
@@ -18,8 +20,10 @@ mod on_roots;
 mod ordinals;
 mod phrase;
 mod roots;
+mod run_search;
 mod scoped;
 mod sets;
+mod shifts;
 mod terms;
 mod words;
 

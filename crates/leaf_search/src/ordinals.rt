@@ -1,8 +1,10 @@
 //! Words of a field by the ordinals of their terms.
 
-ghost use Rattle.std.specs.Prelude.{◌≡◌, ℕ, ◌<◌, ◌≤◌, Bool, length, slice_index, IfOk, IfSome, IsNone};
+ghost use Rattle.std.specs.Prelude.{◌≡◌, ℕ, ◌<◌, ◌≤◌, ◌==◌, Bool, true, length, slice_index, IfOk, IfSome, IsNone};
 ghost use Rattle.std.specs.List.{All, list_any};
+ghost use Rattle.std.specs.List.Sorted.{IsStrictlyIncreasing};
 ghost use Rattle.segment.specs.Lists.{terms_of};
+ghost use Rattle.leaf_search.specs.Patterns.{AreIndexes};
 ghost use Rattle.leaf_search.specs.Repeats.{AreRuns};
 ghost use Rattle.leaf_search.specs.Words.{AreOrdinals, Misses, folded_words};
 
@@ -34,12 +36,39 @@ pub(crate) fn ordinals_of(
 
 /// Each of some ordinals once, ascending, so that the postings of a word that is asked for again are not read again.
 pub(crate) fn distinct_ordinals(ordinals: Vec<u64>) -> Vec<u64>
-    ensures { (test : ℕ → Bool) → list_any test result.items ≡ list_any test ordinals.items }
+    ensures same { (test : ℕ → Bool) → list_any test result.items ≡ list_any test ordinals.items }
+    ensures ascending { IsStrictlyIncreasing result.items }
 {
     let mut kept = ordinals;
     kept.sort_unstable();
     kept.dedup();
     kept
+}
+
+/// Each of some ordinals by its index among the distinct ones.
+pub(crate) fn indexes_in(alloc: Global, asked: &[u64], ordinals: &[u64]) -> Result<Vec<usize>, NoMemory>
+    requires ascending { IsStrictlyIncreasing asked.now }
+    requires same { (test : ℕ → Bool) → list_any test asked.now ≡ list_any test ordinals.now }
+    ensures { IfOk result (λ words. AreIndexes asked.now ordinals.now words.items) }
+{
+    let mut words = Vec::with_capacity(alloc, ordinals.len())?;
+    'ordinals: for ordinal in ordinals {
+        words.push(index_in(asked, *ordinal))?;
+    }
+    Ok(words)
+}
+
+/// The index of an ordinal that is among those that are asked for.
+fn index_in(asked: &[u64], ordinal: u64) -> usize
+    requires ascending { IsStrictlyIncreasing asked.now }
+    requires there { list_any (λ other. other == ordinal) asked.now ≡ true }
+    ensures within { result < length asked.now }
+    ensures is { slice_index asked.now result ≡ ordinal }
+{
+    match asked.binary_search(&ordinal) {
+        Ok(index) => index,
+        Err(_) => 0,
+    }
 }
 
 /// How often each of some ordinals comes one after the other, in their order: 2, 1 and 1 for 7, 7, 3 and 7.

@@ -9,11 +9,15 @@ ghost use Rattle.leaf_search.specs.Words.{folded_words, lists_at, phrase_posted,
 
 use crate::NoMemory;
 use crate::conjunction::conjunction_set;
+use crate::long_phrase::long_phrase_set;
 use crate::ordinals::{ordinals_of, rarest};
 use analysis::Token;
 use block_bits::BitSet;
 use segment::{LiveBits, Segment, terms_are_of_documents};
 use std::alloc::Global;
+
+/// A phrase of up to so many words is looked for at each position of its rarest word.
+const SHORT_PHRASE: usize = 32;
 
 /// The live documents of a scope in which the words stand one after the other, in one value; of no words none.
 ///
@@ -50,6 +54,9 @@ fn ordered_set(
 {
     if ordinals.len() == 0 {
         return Ok(BitSet::empty(alloc, segment.docs())?);
+    }
+    if ordinals.len() > SHORT_PHRASE {
+        return Ok(long_phrase_set(alloc, segment, live, scope, ordinals)?);
     }
     let lead = rarest(segment, ordinals);
     Ok(conjunction_set(alloc, segment, live, scope, ordinals, lead, true)?)

@@ -14,7 +14,7 @@ pub common_set-requires-clause-terms : goal.common_set-requires-clause-terms
 common_set-requires-clause-terms c =
     let are = rw c.in-Some.is at c.in_ok-asked.ensures.found in
     subst (λ (l : List ℕ). All (λ ordinal. ordinal < length (terms_of c.args.segment.now)) l) (sym c.as_slice.ensures.value)
-    (within_kept (length (terms_of c.args.segment.now)) c.in-Some.asked.items c.distinct_ordinals-ordinals.result.items c.distinct_ordinals-ordinals.ensures
+    (within_kept (length (terms_of c.args.segment.now)) c.in-Some.asked.items c.distinct_ordinals-ordinals.result.items c.distinct_ordinals-ordinals.ensures.same
     (ordinals_within (terms_of c.args.segment.now) c.args.field (folded_words c.args.words.now) c.in-Some.asked.items are))
 
 pub returns-in_ok-common_set-in-Some : goal.returns-in_ok-common_set-in-Some
@@ -24,7 +24,7 @@ returns-in_ok-common_set-in-Some c =
     let made = subst (λ (l : List ℕ). MadeByLists c.args.segment.now c.args.live.now c.args.scope (λ doc. is_any l && all_posted (lists_at (postings_of c.args.segment.now) l) doc) c.in_ok-common_set-in-Some.field-0) c.as_slice.ensures.value c.in_ok-common_set-in-Some.ensures in
     let ascend = subst AreAscending c.terms.ensures c.count-count.ensures.ascending in
     made (shows_words true c.args.field (folded_words c.args.words.now))
-    (λ doc. all_by_lists c.args.segment.now c.args.field doc (λ test. c.terms_are_of_documents.ensures.terms c.args.field doc test) (folded_words c.args.words.now) c.in-Some.asked.items found ascend are c.distinct_ordinals-ordinals.ensures)
+    (λ doc. all_by_lists c.args.segment.now c.args.field doc (λ test. c.terms_are_of_documents.ensures.terms c.args.field doc test) (folded_words c.args.words.now) c.in-Some.asked.items found ascend are c.distinct_ordinals-ordinals.ensures.same)
 
 pub returns-in_ok-empty-in-None : goal.returns-in_ok-empty-in-None
 returns-in_ok-empty-in-None c =
