@@ -39,7 +39,7 @@ among_any test (x ∷ xs) p among passes = elim (cases_Bool (nat_eq x p)) [
 
 -- ---- runs
 
-pub run_append : (before behind : Lists) (doc at : ℕ) → run_posted (before ++ behind) doc at ≡ (run_posted before doc at && run_posted behind doc (at + length before))
+run_append : (before behind : Lists) (doc at : ℕ) → run_posted (before ++ behind) doc at ≡ (run_posted before doc at && run_posted behind doc (at + length before))
 run_append [] behind doc at =
     let same : at ≡ at + length {A = List (ℕ × List ℕ)} [] = omega arith in
     ap (run_posted behind doc) same

@@ -11,7 +11,6 @@ pub mod Shown
 pub mod TermShown
 pub mod Going
 pub mod Halving
-pub mod Repeating
 pub mod Phrasing
 pub mod Phrased
 pub mod Around

@@ -7,7 +7,6 @@ pub mod Words
 pub mod Values
 pub mod Roots
 pub mod Cursors
-pub mod Repeats
 pub mod Patterns
 pub mod Kept
 pub mod Ids

@@ -1,6 +1,6 @@
 //! The documents that have all of several terms, by the postings of one of them (Lucene's `ConjunctionDISI`).
 
-ghost use Rattle.std.specs.Prelude.{◌≡◌, ℕ, ◌+◌, ◌<◌, ◌≤◌, ◌^◌, ◌&&◌, ◌==◌, true, false, Bool, List, [], ◌∷◌, ◌++◌, length, slice_index, slice_index_or, slice_set, if◌then◌else◌, nat_le, IsSome, IfSome, IsNone, IfOk, IsTrue};
+ghost use Rattle.std.specs.Prelude.{◌≡◌, ℕ, ◌+◌, ◌<◌, ◌≤◌, ◌^◌, ◌&&◌, ◌==◌, true, false, Bool, List, [], ◌∷◌, ◌++◌, length, slice_index_or, slice_set, if◌then◌else◌, nat_le, IsSome, IfOk, IsTrue};
 ghost use Rattle.std.specs.List.{All, list_all, list_any};
 ghost use Rattle.doc_values.specs.Values.{values_of};
 ghost use Rattle.postings.specs.Marks.{has_document};
@@ -8,23 +8,14 @@ ghost use Rattle.postings.specs.Postings.{present, present_positions};
 ghost use Rattle.segment.specs.Lists.{terms_of, postings_of};
 ghost use Rattle.segment.specs.Live.{IsLiveOver};
 ghost use Rattle.leaf_search.specs.Cursors.{IsBehind, IsOn, lists_in};
-ghost use Rattle.leaf_search.specs.Repeats.{AreRuns, all_stand};
 ghost use Rattle.leaf_search.specs.Sets.{MadeByLists, Marks};
 ghost use Rattle.leaf_search.specs.Words.{lists_at, posted, run_posted, stands_around};
 
 use crate::NoMemory;
-use crate::ordinals::runs_of;
 use block_bits::BitSet;
 use postings::Cursor;
 use segment::{LiveBits, Segment, scopes_are_of_documents, terms_are_of_documents};
 use std::alloc::Global;
-
-/// How often each term comes one after the other, of those before the lead and of those behind it.
-#[derive(Drop)]
-struct Runs {
-    before: Vec<usize>,
-    behind: Vec<usize>,
-}
 
 /// The live documents of a scope that have all of some terms, one after the other where `in_order` says so.
 ///
@@ -82,22 +73,9 @@ pub(crate) fn select(
     let mut before = cursors_at(alloc, segment, first)?;
     let mut behind = cursors_at(alloc, segment, rest.split_at(1).1)?;
     let mut own = first_of(segment, ordinals[lead]);
-    let runs = Runs {
-        before: runs_of(alloc, first)?,
-        behind: runs_of(alloc, rest.split_at(1).1)?,
-    };
     let mut set = BitSet::empty(alloc, segment.docs())?;
     'documents: while let Some(doc) = own.doc() {
-        let found = takes(
-            live,
-            scope,
-            &mut before,
-            &own,
-            &mut behind,
-            &runs,
-            doc,
-            in_order,
-        );
+        let found = takes(live, scope, &mut before, &own, &mut behind, doc, in_order);
         put_if(&mut set, doc, found);
         let _next = own.next();
     }
@@ -150,7 +128,6 @@ fn takes(
     before: &mut Vec<Cursor>,
     own: &Cursor,
     behind: &mut Vec<Cursor>,
-    runs: &Runs,
     doc: u32,
     in_order: bool,
 ) -> bool
@@ -159,8 +136,6 @@ fn takes(
     requires before { All (IsBehind doc) before.old.items }
     requires own { IsOn doc own.now }
     requires behind { All (IsBehind doc) behind.old.items }
-    requires before_runs { AreRuns (lists_in before.old.items) runs.now.before.items }
-    requires behind_runs { AreRuns (lists_in behind.old.items) runs.now.behind.items }
     ensures before_lists { lists_in before.new.items ≡ lists_in before.old.items }
     ensures behind_lists { lists_in behind.new.items ≡ lists_in behind.old.items }
     ensures before_passed { All (IsBehind (doc + 1)) before.new.items }
@@ -173,7 +148,7 @@ fn takes(
     if !scope.has(doc) {
         return false;
     }
-    meet(before, own, behind, runs, doc, in_order)
+    meet(before, own, behind, doc, in_order)
 }
 
 /// Whether a document of the lead has the terms before and behind it, and where `in_order` says so in this order.
@@ -181,15 +156,12 @@ fn meet(
     before: &mut Vec<Cursor>,
     own: &Cursor,
     behind: &mut Vec<Cursor>,
-    runs: &Runs,
     doc: u32,
     in_order: bool,
 ) -> bool
     requires before { All (IsBehind doc) before.old.items }
     requires own { IsOn doc own.now }
     requires behind { All (IsBehind doc) behind.old.items }
-    requires before_runs { AreRuns (lists_in before.old.items) runs.now.before.items }
-    requires behind_runs { AreRuns (lists_in behind.old.items) runs.now.behind.items }
     ensures before_lists { lists_in before.new.items ≡ lists_in before.old.items }
     ensures behind_lists { lists_in behind.new.items ≡ lists_in behind.old.items }
     ensures before_passed { All (IsBehind (doc + 1)) before.new.items }
@@ -205,7 +177,7 @@ fn meet(
     if !in_order {
         return true;
     }
-    stand_in_order(before.as_slice(), own, behind.as_slice(), runs, doc)
+    stand_in_order(before.as_slice(), own, behind.as_slice(), doc)
 }
 
 /// Goes to a document with each cursor, up to the first whose term isn't there; whether all terms are.
@@ -229,16 +201,14 @@ pub(crate) fn go_to(cursors: &mut Vec<Cursor>, doc: u32) -> bool
 }
 
 /// Whether terms stand in a document one after the other, by the positions of one of them.
-fn stand_in_order(before: &[Cursor], own: &Cursor, behind: &[Cursor], runs: &Runs, doc: u32) -> bool
+fn stand_in_order(before: &[Cursor], own: &Cursor, behind: &[Cursor], doc: u32) -> bool
     requires before { All (IsOn doc) before.now }
     requires own { IsSome (present own.now) }
     requires behind { All (IsOn doc) behind.now }
-    requires before_runs { AreRuns (lists_in before.now) runs.now.before.items }
-    requires behind_runs { AreRuns (lists_in behind.now) runs.now.behind.items }
     ensures { result ≡ list_any (stands_around (lists_in before.now) (lists_in behind.now) doc) (present_positions own.now) }
 {
     'positions: for i in 0..own.positions() {
-        if stand_around(before, behind, runs, doc, own.position(i)) {
+        if stand_around(before, behind, doc, own.position(i)) {
             return true;
         }
     }
@@ -246,11 +216,9 @@ fn stand_in_order(before: &[Cursor], own: &Cursor, behind: &[Cursor], runs: &Run
 }
 
 /// Whether terms stand in a document up to a position, and others from behind it on.
-fn stand_around(before: &[Cursor], behind: &[Cursor], runs: &Runs, doc: u32, position: u32) -> bool
+fn stand_around(before: &[Cursor], behind: &[Cursor], doc: u32, position: u32) -> bool
     requires before { All (IsOn doc) before.now }
     requires behind { All (IsOn doc) behind.now }
-    requires before_runs { AreRuns (lists_in before.now) runs.now.before.items }
-    requires behind_runs { AreRuns (lists_in behind.now) runs.now.behind.items }
     ensures { result ≡ stands_around (lists_in before.now) (lists_in behind.now) doc position }
 {
     let at = position as u64;
@@ -258,75 +226,40 @@ fn stand_around(before: &[Cursor], behind: &[Cursor], runs: &Runs, doc: u32, pos
     if at < count {
         return false;
     }
-    if !run_from(before, runs.before.as_slice(), doc, at - count) {
+    if !run_from(before, doc, at - count) {
         return false;
     }
-    run_from(behind, runs.behind.as_slice(), doc, at + 1)
+    run_from(behind, doc, at + 1)
 }
 
-/// Whether the terms stand in a document at a position and those behind it. A term that comes several times one after the
-/// other is looked up once for all of them.
-fn run_from(cursors: &[Cursor], runs: &[usize], doc: u32, at: u64) -> bool
+/// Whether the terms stand in a document at a position and those behind it.
+fn run_from(cursors: &[Cursor], doc: u32, at: u64) -> bool
     requires there { All (IsOn doc) cursors.now }
-    requires runs { AreRuns (lists_in cursors.now) runs.now }
     requires short { at ≤ 2 ^ 32 }
     ensures { result ≡ run_posted (lists_in cursors.now) doc at }
 {
-    let mut from = 0;
-    'runs: for count in runs {
-        let same = cursors.split_at(from).1.split_at(*count).0;
-        if !same_stand(same, doc, at + from as u64) {
+    let mut position = at;
+    'cursors: for cursor in cursors {
+        if !stands(cursor, doc, position) {
             return false;
         }
-        from += *count;
+        position += 1;
     }
     true
 }
 
-/// Whether a term that comes several times one after the other, each with a cursor, stands at a position and those behind it.
-fn same_stand(cursors: &[Cursor], doc: u32, position: u64) -> bool
-    requires there { All (IsOn doc) cursors.now }
-    requires same { AreRuns (lists_in cursors.now) (length cursors.now ∷ []) }
-    ensures { result ≡ run_posted (lists_in cursors.now) doc position }
+/// Whether a cursor's term stands in the cursor's document at a position.
+fn stands(cursor: &Cursor, doc: u32, position: u64) -> bool
+    requires { IsOn doc cursor.now }
+    ensures { result ≡ list_any (λ p. p == position) (values_of doc cursor.now.postings) }
 {
-    if cursors.is_empty() {
-        return true;
-    }
-    has_positions(&cursors[0], position, cursors.len())
+    has_position(cursor, position)
 }
 
-/// Whether a cursor's term stands at so many positions from one on in the cursor's document. As positions ascend, the last
-/// of them decides.
-fn has_positions(cursor: &Cursor, position: u64, count: usize) -> bool
-    requires there { IsSome (present cursor.now) }
-    requires some { 0 < count }
-    ensures { result ≡ all_stand (present_positions cursor.now) count position }
-{
-    let _document = cursor.doc();
-    let Some(first) = index_of(cursor, position) else {
-        return false;
-    };
-    let left = cursor.positions() - first;
-    if (left as usize) < count {
-        return false;
-    }
-    let further = (count - 1) as u32;
-    cursor.position(first + further) as u64 == cursor.position(first) as u64 + further as u64
-}
-
-/// Whether a term stands at a position of the cursor's document.
+/// Whether a cursor's term stands at a position in the cursor's document. Positions ascend, so that it looks at few of them.
 pub(crate) fn has_position(cursor: &Cursor, position: u64) -> bool
     requires { IsSome (present cursor.now) }
     ensures { result ≡ list_any (λ p. p == position) (present_positions cursor.now) }
-{
-    index_of(cursor, position).is_some()
-}
-
-/// The index of a position of the cursor's document, if it is one. Positions ascend, so that it looks at few of them.
-fn index_of(cursor: &Cursor, position: u64) -> Option<u32>
-    requires { IsSome (present cursor.now) }
-    ensures index { IfSome result (λ i. (i < length (present_positions cursor.now)) × (slice_index (present_positions cursor.now) i ≡ position)) }
-    ensures none { IsNone result → list_any (λ p. p == position) (present_positions cursor.now) ≡ false }
 {
     let _document = cursor.doc();
     let mut first = 0;
@@ -335,7 +268,7 @@ fn index_of(cursor: &Cursor, position: u64) -> Option<u32>
         let middle = first + (end - first) / 2;
         let own = cursor.position(middle) as u64;
         if own == position {
-            return Some(middle);
+            return true;
         }
         if own < position {
             first = middle + 1;
@@ -343,5 +276,5 @@ fn index_of(cursor: &Cursor, position: u64) -> Option<u32>
             end = middle;
         }
     }
-    None
+    false
 }

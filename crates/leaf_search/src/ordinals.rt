@@ -1,11 +1,10 @@
 //! Words of a field by the ordinals of their terms.
 
-ghost use Rattle.std.specs.Prelude.{◌≡◌, ℕ, ◌<◌, ◌≤◌, ◌==◌, Bool, true, length, slice_index, IfOk, IfSome, IsNone};
+ghost use Rattle.std.specs.Prelude.{◌≡◌, ℕ, ◌<◌, ◌==◌, Bool, true, length, slice_index, IfOk, IfSome, IsNone};
 ghost use Rattle.std.specs.List.{All, list_any};
 ghost use Rattle.std.specs.List.Sorted.{IsStrictlyIncreasing};
 ghost use Rattle.segment.specs.Lists.{terms_of};
 ghost use Rattle.leaf_search.specs.Patterns.{AreIndexes};
-ghost use Rattle.leaf_search.specs.Repeats.{AreRuns};
 ghost use Rattle.leaf_search.specs.Words.{AreOrdinals, Misses, folded_words};
 
 use crate::NoMemory;
@@ -69,36 +68,6 @@ fn index_in(asked: &[u64], ordinal: u64) -> usize
         Ok(index) => index,
         Err(_) => 0,
     }
-}
-
-/// How often each of some ordinals comes one after the other, in their order: 2, 1 and 1 for 7, 7, 3 and 7.
-#[tactic(auto, using(crate::proofs::Repeating::counts))]
-pub(crate) fn runs_of(alloc: Global, ordinals: &[u64]) -> Result<Vec<usize>, NoMemory>
-    ensures { IfOk result (λ runs. AreRuns ordinals.now runs.items) }
-{
-    let mut runs = Vec::new(alloc);
-    let mut rest = ordinals;
-    'runs: while !rest.is_empty() {
-        let count = equal_first(rest);
-        runs.push(count)?;
-        rest = rest.split_at(count).1;
-    }
-    Ok(runs)
-}
-
-/// How many ordinals at the beginning are the same.
-fn equal_first(ordinals: &[u64]) -> usize
-    requires { 0 < length ordinals.now }
-    ensures some { 0 < result }
-    ensures within { result ≤ length ordinals.now }
-    ensures same { (at : ℕ) → at < result → slice_index ordinals.now at ≡ slice_index ordinals.now 0 }
-{
-    'ordinals: for at in 1..ordinals.len() {
-        if ordinals[at] != ordinals[0] {
-            return at;
-        }
-    }
-    ordinals.len()
 }
 
 /// The index of the term that the fewest documents have.

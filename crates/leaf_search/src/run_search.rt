@@ -30,7 +30,7 @@ pub(crate) fn has_run(cursors: &[Cursor], words: &[usize], shifts: &[usize], apa
         let position = first.position(i) as u64;
         if position >= start {
             let known = if position == start { count } else { 0 };
-            let found = run_from(cursors, words, position, known);
+            let found = run_length(cursors, words, position, known);
             if found == words.len() {
                 return true;
             }
@@ -43,7 +43,7 @@ pub(crate) fn has_run(cursors: &[Cursor], words: &[usize], shifts: &[usize], apa
 }
 
 /// How many words stand from a position on, where some are known to.
-fn run_from(cursors: &[Cursor], words: &[usize], start: u64, known: usize) -> usize
+fn run_length(cursors: &[Cursor], words: &[usize], start: u64, known: usize) -> usize
     requires there { All (λ cursor. IsSome (present cursor)) cursors.now }
     requires words { All (λ word. word < length cursors.now) words.now }
     requires short { start ≤ 2 ^ 32 }

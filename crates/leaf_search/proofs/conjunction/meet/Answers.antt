@@ -1,8 +1,7 @@
-use Rattle.std.proofs.Common.{ℕ, List, ◌≡◌, sym, ap, subst, ◌∙◌}
+use Rattle.std.proofs.Common.{ℕ, List, ◌≡◌, sym, ap, ◌∙◌}
 use Rattle.std.specs.List.{list_any}
 use Rattle.postings.specs.Postings.{Standing, present_positions}
 use Rattle.leaf_search.specs.Cursors.{lists_in}
-use Rattle.leaf_search.specs.Repeats.{AreRuns}
 use Rattle.leaf_search.specs.Words.{stands_around}
 use Rattle.leaf_search.proofs.Around.{all_there, fails_before, fails_behind, in_turn}
 use Rattle.leaf_search.proofs.Going.{all_passed, is_present, own_shown, values_on}
@@ -26,16 +25,6 @@ returns-then-not-in_order-clause-says c =
 
 pub stand_in_order-requires-clause-own : goal.stand_in_order-requires-clause-own
 stand_in_order-requires-clause-own c = is_present c.args.doc c.args.own.now c.requires.own
-
-pub stand_in_order-requires-clause-before_runs : goal.stand_in_order-requires-clause-before_runs
-stand_in_order-requires-clause-before_runs c =
-    let before : lists_in c.as_slice.result.now ≡ lists_in c.args.before.now.items = ap (λ (l : List Standing). lists_in l) c.as_slice.ensures.value ∙ c.go_to.ensures.lists in
-    subst (λ (l : List (List (ℕ × List ℕ))). AreRuns l c.args.runs.now.before.items) (sym before) c.requires.before_runs
-
-pub stand_in_order-requires-clause-behind_runs : goal.stand_in_order-requires-clause-behind_runs
-stand_in_order-requires-clause-behind_runs c =
-    let behind : lists_in c.as_slice-2.result.now ≡ lists_in c.args.behind.now.items = ap (λ (l : List Standing). lists_in l) c.as_slice-2.ensures.value ∙ c.go_to-2.ensures.lists in
-    subst (λ (l : List (List (ℕ × List ℕ))). AreRuns l c.args.runs.now.behind.items) (sym behind) c.requires.behind_runs
 
 pub returns-clause-says : goal.returns-clause-says
 returns-clause-says c =

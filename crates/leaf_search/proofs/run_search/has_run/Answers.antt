@@ -15,9 +15,9 @@ positions-preserved c =
       | then-position-start+else-found-words w ↦
           rw (w.start-is, w.count-is)
           (searched_more places c.args.words.now ps (positions_ascend c.index-cursors-words.result c.doc-document.ensures.postings) own c.args.shifts.now c.requires.shifts c.requires.long
-          (all_within c.args.cursors.now c.args.words.now c.requires.words) c.args.apart c.positions.start c.positions.count c.positions.i c.position-position.result w.run_from-found.result w.moved-further.result.0 w.moved-further.result.1
+          (all_within c.args.cursors.now c.args.words.now c.requires.words) c.args.apart c.positions.start c.positions.count c.positions.i c.position-position.result w.run_length-found.result w.moved-further.result.0 w.moved-further.result.1
           c.requires.apart c.positions.invariant (omega (arith, c.positions-test.true, c.positions-i-end.ensures)) c.position-position.ensures w.if-position-start.true
-          w.run_from-found.ensures.run (omega (arith, w.if-found-words.false, w.run_from-found.ensures.within)) (w.run_from-found.ensures.stops (omega (arith, w.if-found-words.false, w.run_from-found.ensures.within)))
+          w.run_length-found.ensures.run (omega (arith, w.if-found-words.false, w.run_length-found.ensures.within)) (w.run_length-found.ensures.stops (omega (arith, w.if-found-words.false, w.run_length-found.ensures.within)))
           w.moved-further.ensures.further w.moved-further.ensures.left)
       | else-position-start w ↦
           rw (w.start-is, w.count-is)
