@@ -67,7 +67,8 @@ fn with_phrase(
     let lead = rarest(segment, asked);
     let mut set = select(alloc, segment, live, scope, asked, lead, false)?;
     let mut cursors = cursors_at(alloc, segment, asked)?;
-    'documents: for doc in 0..set.len() {
+    let mut from = 0;
+    'documents: while let Some(doc) = set.next_set(from) {
         narrow(
             alloc,
             &mut cursors,
@@ -76,11 +77,13 @@ fn with_phrase(
             &mut set,
             doc,
         )?;
+        from = doc + 1;
     }
     Ok(set)
 }
 
-/// Takes a document out of a set, of documents that have all words, unless they stand there one after the other.
+/// Takes a document that has all words out of a set, unless they stand there one after the other.
+#[tactic(auto, using(crate::proofs::Narrowing::same_with))]
 fn narrow(
     alloc: Global,
     cursors: &mut Vec<Cursor>,
@@ -95,14 +98,12 @@ fn narrow(
     requires long { length shifts.now ≡ length words.now }
     requires shifts { AreShifts words.now shifts.now }
     requires within { doc < length set.old }
-    requires there { slice_index_or set.old doc false ≡ true → all_posted (lists_in cursors.old.items) doc ≡ true }
+    requires has { slice_index_or set.old doc false ≡ true }
+    requires there { all_posted (lists_in cursors.old.items) doc ≡ true }
     ensures lists { lists_in cursors.new.items ≡ lists_in cursors.old.items }
     ensures passed { All (IsBehind (doc + 1)) cursors.new.items }
-    ensures set { OnOk result (set.new ≡ slice_set set.old doc (slice_index_or set.old doc false && phrase_posted (lists_at (lists_in cursors.old.items) words.now) doc)) }
+    ensures set { OnOk result (set.new ≡ slice_set set.old doc (phrase_posted (lists_at (lists_in cursors.old.items) words.now) doc)) }
 {
-    if !set.has(doc) {
-        return Ok(());
-    }
     if !stands_in(alloc, cursors, words, shifts, doc)? {
         set.clear(doc);
     }
