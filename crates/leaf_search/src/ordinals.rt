@@ -45,7 +45,11 @@ pub(crate) fn distinct_ordinals(ordinals: Vec<u64>) -> Vec<u64>
 }
 
 /// Each of some ordinals by its index among the distinct ones.
-pub(crate) fn indexes_in(alloc: Global, asked: &[u64], ordinals: &[u64]) -> Result<Vec<usize>, NoMemory>
+pub(crate) fn indexes_in(
+    alloc: Global,
+    asked: &[u64],
+    ordinals: &[u64],
+) -> Result<Vec<usize>, NoMemory>
     requires ascending { IsStrictlyIncreasing asked.now }
     requires same { (test : ℕ → Bool) → list_any test asked.now ≡ list_any test ordinals.now }
     ensures { IfOk result (λ words. AreIndexes asked.now ordinals.now words.items) }

@@ -55,9 +55,9 @@ documents-preserved c =
     let are : AreIndexes kept c.args.ordinals.now c.in_ok-words.words.items = subst (λ (l : List ℕ). AreIndexes l c.args.ordinals.now c.in_ok-words.words.items) c.as_slice-asked.ensures.value c.in_ok-words.ensures in
     let doc : ℕ = c.in-Some.doc in
     let next = is_next c.documents.set c.documents.from doc (sym c.in-Some.ensures.value) in
-    let passes : Bool = phrase_posted (lists_at (lists_in c.documents.cursors.items) c.as_slice-in-documents.result.now) doc in
+    let passes : Bool = phrase_posted (lists_at (lists_in c.documents.cursors.items) c.as_slice-in-Some.result.now) doc in
     let says : passes ≡ test doc =
-    ap (λ (ws : List ℕ). phrase_posted (lists_at (lists_in c.documents.cursors.items) ws) doc) c.as_slice-in-documents.ensures.value
+    ap (λ (ws : List ℕ). phrase_posted (lists_at (lists_in c.documents.cursors.items) ws) doc) c.as_slice-in-Some.ensures.value
     ∙ ap (λ (l : List (List (ℕ × List ℕ))). phrase_posted (lists_at l c.in_ok-words.words.items) doc) c.documents.invariant.1
     ∙ ap (λ (l : List (List (ℕ × List ℕ))). phrase_posted l doc) (indexed lists kept c.args.ordinals.now c.in_ok-words.words.items are) in (
       narrowed_more c.args.segment.now.documents keep test doc c.documents.set c.narrow.new.set passes (narrowed_to c.args.segment.now.documents keep test c.documents.from doc c.documents.set c.documents.invariant.0 next)
