@@ -266,8 +266,12 @@ fn value(
             objects,
         )?),
         AggForm::Min(field) => Ok(AggValue::Metric(least(alloc, entries, *field, objects, kept)?)),
-        AggForm::Max(field) => Ok(AggValue::Metric(greatest(alloc, entries, *field, objects, kept)?)),
-        AggForm::Sum(field) => Ok(AggValue::Metric(Some(sum(alloc, entries, *field, objects, kept)?))),
+        AggForm::Max(field) => Ok(AggValue::Metric(greatest(
+            alloc, entries, *field, objects, kept,
+        )?)),
+        AggForm::Sum(field) => Ok(AggValue::Metric(Some(sum(
+            alloc, entries, *field, objects, kept,
+        )?))),
         AggForm::ValueCount(field) => Ok(AggValue::Metric(Some(count(
             alloc, entries, mapping, *field, objects, kept,
         )?))),

@@ -1,9 +1,8 @@
-use Rattle.std.proofs.Common.{◌≡◌, Bool, List, [], get_or, count_by, ap, ◌∙◌}
+use Rattle.std.proofs.Common.{Bool, List, [], get_or, count_by, ap, ◌∙◌}
 use Rattle.block_bits.specs.Flags.{difference, is_marked}
 use Rattle.postings.specs.Marks.{has_document}
 use Rattle.query_eval.specs.Counted.{up_marks}
 use Rattle.segment_parts.specs.Lists.{postings_of}
-use Rattle.bucket_aggs.specs.Counts.{cut_from}
 use Rattle.bucket_aggs.proofs.Around.{cut_emptied, term_cut}
 use Rattle.bucket_aggs.proofs.at_once.count_at_once.Goals as goal
 

@@ -1,4 +1,4 @@
-use Rattle.std.proofs.Common.{◌≡◌, ◌<◌, ℤ, List, length, get_or, subst, arith}
+use Rattle.std.proofs.Common.{ℤ, List, subst, arith}
 use Rattle.bucket_aggs.specs.Sums.{IsAdded}
 use Rattle.bucket_aggs.specs.declared.metrics.Running.{Running}
 use Rattle.bucket_aggs.proofs.Gathered.{adding_step}

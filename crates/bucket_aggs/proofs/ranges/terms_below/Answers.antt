@@ -1,4 +1,4 @@
-use Rattle.std.proofs.Common.{◌<◌, ◌≤◌, sym, ◌∙◌, arith}
+use Rattle.std.proofs.Common.{sym, ◌∙◌}
 use Rattle.bucket_aggs.proofs.Ranged.{halved_above, halved_at_start, halved_below}
 use Rattle.bucket_aggs.proofs.ranges.terms_below.Goals as goal
 

@@ -1,4 +1,4 @@
-use Rattle.std.proofs.Common.{◌≡◌, ℕ, ◌+◌, subst}
+use Rattle.std.proofs.Common.{ℕ, ◌+◌, subst}
 use Rattle.bucket_aggs.proofs.Ranged.{IsCut, cuts_ordered, cuts_range}
 use Rattle.bucket_aggs.proofs.ranges.terms_of_field.Goals as goal
 

@@ -17,7 +17,7 @@ returns-then-end-first-clause-counted c =
     c.in_ok-posting_counts.ensures.long (λ k low. c.in_ok-posting_counts.ensures.each k low ∙ ap (λ (lists : List Postings). count_by (is_posted c.args.set.now) (get_or lists (first + k) [])) c.postings.ensures.postings)
     (λ k low. subst (λ (lists : List Postings). ArePostings (get_or lists (first + k) [])) c.postings.ensures.postings (c.in_ok-posting_counts.ensures.are k low))
 
-pub returns-then-len-documents-clause-counted : goal.returns-then-len-documents-clause-counted
-returns-then-len-documents-clause-counted c =
+pub returns-then-are_kept-clause-counted : goal.returns-then-are_kept-clause-counted
+returns-then-are_kept-clause-counted c =
     terms_counted c.args.segment.now c.args.field c.args.column.now c.args.set.now c.docs-agree.ensures.agree c.requires.column c.args.first c.args.end c.in_ok-posting_sets.field-0.items (subst AreAscending c.terms.ensures c.count-ascending.ensures.ascending) c.requires.ordered c.requires.within c.requires.range
     c.in_ok-posting_sets.ensures.long c.in_ok-posting_sets.ensures.each c.in_ok-posting_sets.ensures.are
