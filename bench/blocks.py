@@ -276,6 +276,14 @@ fn main(rt: HostRuntime) -> Result<(), Fault> {
     Ok(())
 }
 '''
+# What falls at each call of a function that calls itself.
+FALLS = {"add_lines": "l.count", "are_few": "length l.blocks.now"}
+FALLS_TEXT = """use Rattle.std.proofs.Common.{length}
+use Rattle.block_times.proofs.+%s.Given as goal
+
+abbrev pub decreases-%s : goal.decreases-%s
+decreases-%s l = %s
+"""
 NAME = "block_times"
 BELOW = (
     "segment_builder flattener layout part_text block_bits term_table doc_values postings segment segment_parts stored_sources"
@@ -302,6 +310,11 @@ def built(work):
     os.makedirs(os.path.join(folder, "src"), exist_ok=True)
     with open(os.path.join(folder, "src", "main.rt"), "w") as out:
         out.write(PROGRAM)
+    for name, falls in FALLS.items():
+        proofs = os.path.join(folder, "proofs", "+" + name)
+        os.makedirs(proofs, exist_ok=True)
+        with open(os.path.join(proofs, "Invariants.antt"), "w") as out:
+            out.write(FALLS_TEXT % (name, name, name, name, falls))
     subprocess.run(["rt", "run"], cwd=folder, check=True, stdin=subprocess.DEVNULL)
     return os.path.join(folder, "out", NAME)
 
