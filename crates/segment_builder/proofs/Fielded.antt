@@ -186,6 +186,7 @@ fields_of_terms terms fields put up test all =
     by_keys : (xs : Fields) → AllByRecursion (λ (field : ℕ × List Entry). test field.0 ≡ true) xs → AllByRecursion (λ field. test field ≡ true) (keys xs)
     by_keys [] is = tt
     by_keys (x ∷ xs) is = (is.0, by_keys xs is.1)
+
     known : (f : ℕ) (entries : List Entry) → in_groups nat_cmp f fields ≡ entries → 0 < length entries → test f ≡ true
     known f [] own some = absurd (omega (arith, some))
     known f (entry ∷ entries) own some =

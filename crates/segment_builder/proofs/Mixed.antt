@@ -127,6 +127,7 @@ module _ (others numbers : Terms) (words keys_of : Fields) (of_others : AreSorte
           ∙ ap (map field_entries) (same f)
           ∙ sym (key_as nat_cmp nat_cmp (λ (field : ℕ). field) field_entries (λ a b. refl) f old)
           ∙ ap (of_key nat_cmp f) is
+
       carry : (f : ℕ) (b : List ℕ) → at_field f b (fields_in new) ≡ of_key term_cmp (f, b) (others ++ numbers)
       carry f b =
           ap (of_key (slice_cmp nat_cmp) b) (in_of f (fields_in new) ∙ ap (flat_map (λ (entries : List Entry). entries)) (at_each f) ∙ sym (in_of f (words ++ keys_of)))
@@ -134,8 +135,10 @@ module _ (others numbers : Terms) (words keys_of : Fields) (of_others : AreSorte
           ∙ ap (λ front. front ++ at_field f b keys_of) (of_others.carry f b)
           ∙ ap (λ last. of_key term_cmp (f, b) others ++ last) (of_numbers.carry f b)
           ∙ sym (of_append term_cmp (f, b) others numbers)
+
       once : (f : ℕ) → length (of_key nat_cmp f (fields_in new)) ≤ 1
       once f = rw (at_each f) (once_in_both f)
+
       each : (f : ℕ) → AllByRecursion (AreRising (slice_cmp nat_cmp)) (of_key nat_cmp f (fields_in new))
       each f =
           subst (AllByRecursion (AreRising (slice_cmp nat_cmp))) (sym (at_each f))

@@ -103,7 +103,8 @@ fn sort_numbers(entries: &mut Vec<([u8; 8], u32)>) -> Result<(), NoMemory>
     Ok(())
 }
 
-/// Sorts the numbers of a field by what their keys are as numbers, which costs less than a sort by the bytes of the keys.
+/// Sorts the numbers of a field by what their keys are as numbers, which costs less than a sort by the bytes of the keys, and
+/// leaves that sort nothing to do but to find them in order.
 fn sort_by_number(entries: &mut Vec<([u8; 8], u32)>) -> Result<(), NoMemory>
     ensures { OnOk result ((bytes : List ℕ) → of_key (slice_cmp nat_cmp) bytes (entries_of_keys entries.new.items) ≡ of_key (slice_cmp nat_cmp) bytes (entries_of_keys entries.old.items)) }
 {
