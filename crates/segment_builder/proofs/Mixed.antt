@@ -1,5 +1,5 @@
 -- Fields of numbers among other fields, put in order by field.
-use Rattle.std.proofs.Common.{◌≡◌, ℕ, ◌+◌, ◌<◌, ◌≤◌, Bool, true, false, not, List, [], ◌∷◌, ◌++◌, length, map, refl, sym, ap, subst, ◌∙◌, append-nil, arith}
+use Rattle.std.proofs.Common.{◌≡◌, ℕ, ◌≤◌, Bool, true, false, not, List, [], ◌∷◌, ◌++◌, length, map, refl, sym, ap, subst, ◌∙◌, append-nil, arith}
 use Rattle.std.specs.Cmp.Lexicographic.{slice_cmp}
 use Rattle.std.specs.List.{AllByRecursion, flat_map}
 use Rattle.std.specs.List.Sorted.{IsStrictlySortedBy}
@@ -8,7 +8,7 @@ use Rattle.std.specs.declared.cmp.Ordering.TheVariants.{Less}
 use Rattle.term_table.specs.Terms.{term_cmp}
 use Rattle.segment_builder.specs.Groups.{in_groups, keys, of_key, AreGroups, AreRising}
 use Rattle.segment_builder.specs.Regrouped.{key_as}
-use Rattle.segment_builder.specs.Terms.{at_field, field_entries, fields_in, row_group, rows_in, AreAllRising, AreFieldsApart, AreSortedFields}
+use Rattle.segment_builder.specs.Terms.{at_field, field_entries, fields_in, row_group, rows_in, AreFieldsApart, AreSortedFields}
 use Rattle.segment_builder.specs.declared.rows.FieldTerms.{FieldTerms}
 use Rattle.segment_builder.proofs.Among.{each_both_sides}
 use Rattle.segment_builder.proofs.Fielded.{fields_more, rows_grouped, Entry, Fields, Terms}
