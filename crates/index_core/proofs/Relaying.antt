@@ -126,26 +126,33 @@ few_range from count entries buffer = omega (arith, few_prefix count (drop from 
 
 -- ---- sealing
 
--- what is so of the layout that sealing makes is so of the entries and merges that it leaves
-pub taken_kept : (it : BlocksState) (ready : Ready) (jobs : List OpenState) (next : ℕ) → AreOpenOf (layout_of it) → AreBlocks (layout_of it) next → AreKept it.made it.started it.factor it.entries it.jobs
-    → layout_ready ready it.started it.factor ≡ sealed (layout_of it) → AreBelow ready.made ready.view → All (IsKeptOrMade it.entries it.made) ready.view
-    → merges_in jobs ≡ merges_shown ready.merges.items → map parts_in jobs ≡ map parts_in it.jobs → AreKept ready.made it.started it.factor ready.view jobs
-taken_kept it ready jobs next open_is blocks kept is below entries merges parts =
+-- what is so of entries and merges is so of those that sealing leaves
+pub sealed_kept : (it now : BlocksState) (next : ℕ) → AreOpenOf (layout_of it) → AreBlocks (layout_of it) next → AreKept it.made it.started it.factor it.entries it.jobs
+    → layout_of now ≡ sealed (layout_of it) → AreBelow now.made now.entries → All (IsKeptOrMade it.entries it.made) now.entries → map parts_in now.jobs ≡ map parts_in it.jobs → AreKept now.made now.started it.factor now.entries now.jobs
+sealed_kept it now next open_is blocks kept is below entries parts =
     let after = sealed_after block_number next (layout_of it) (record { open_are = open_is.open_are; ids = open_is.ids; ascending = blocks.ascending }) in
-    let open_now : AreOpen (length (segments_kept ready.view)) it.started (merges_shown ready.merges.items) =
+    let open_now : AreOpen (length (segments_kept now.entries)) now.started (merges_in now.jobs) =
     subst (λ (l : Layout BlockState). AreOpen (length l.segments) l.started l.merges) (sym is) after.sound.open_are in
-    let ranges : ranges_of (segments_kept ready.view) (merges_shown ready.merges.items) ≡ ranges_of (segments_kept it.entries) (merges_in it.jobs) =
+    let ranges : ranges_of (segments_kept now.entries) (merges_in now.jobs) ≡ ranges_of (segments_kept it.entries) (merges_in it.jobs) =
     ap (λ (l : Layout BlockState). ranges_of l.segments l.merges) is ∙ after.ranges in
     record {
       below = below;
-      open_are = subst (λ ms. AreOpen (length ready.view) it.started ms) (sym merges) (subst (λ n. AreOpen n it.started (merges_shown ready.merges.items)) (length-map ready.view segment_kept) open_now);
-      over = over_moved it.made it.entries ready.view it.jobs jobs kept.below.ids entries parts (ap (ranges_of (segments_kept ready.view)) merges ∙ ranges) kept.over;
+      open_are = subst (λ n. AreOpen n now.started (merges_in now.jobs)) (length-map now.entries segment_kept) open_now;
+      over = over_moved it.made it.entries now.entries it.jobs now.jobs kept.below.ids entries parts ranges kept.over;
       factor_is = kept.factor_is;
     }
 
 pub taken_layout : (it now : BlocksState) (ready : Ready) → now.entries ≡ ready.view → now.buffer ≡ [] → now.made ≡ ready.made → merges_in now.jobs ≡ merges_shown ready.merges.items → now.started ≡ it.started → now.factor ≡ it.factor
     → layout_of now ≡ layout_ready ready it.started it.factor
 taken_layout it now ready entries buffer made merges started factor = rw (entries, buffer, made, merges, started, factor) refl
+
+-- and so of what it made first
+pub taken_kept : (it : BlocksState) (ready : Ready) (jobs : List OpenState) (next : ℕ) → AreOpenOf (layout_of it) → AreBlocks (layout_of it) next → AreKept it.made it.started it.factor it.entries it.jobs
+    → layout_ready ready it.started it.factor ≡ sealed (layout_of it) → AreBelow ready.made ready.view → All (IsKeptOrMade it.entries it.made) ready.view
+    → merges_in jobs ≡ merges_shown ready.merges.items → map parts_in jobs ≡ map parts_in it.jobs → AreKept ready.made it.started it.factor ready.view jobs
+taken_kept it ready jobs next open_is blocks kept is below entries merges parts =
+    let now : BlocksState = record it { entries = ready.view; buffer = []; made = ready.made; jobs = jobs } in
+    sealed_kept it now next open_is blocks kept (taken_layout it now ready refl refl refl merges refl refl ∙ is) below entries parts
 
 pub sealed_relaid : (it now : BlocksState) → AreOpenOf (layout_of it) → now.made < most_made → layout_of now ≡ sealed (layout_of it) → IsRelaid it now
 sealed_relaid it now open_is made is = record {

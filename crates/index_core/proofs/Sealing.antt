@@ -1,19 +1,20 @@
 -- A segment that is made of the buffer has its blocks, all of them live.
 use Rattle.std.proofs.Common.{◌≡◌, ◌≢◌, ℕ, ◌+◌, ◌<◌, Bool, List, [], ◌∷◌, ◌++◌, length, map, refl, sym, ap, ◌∙◌, append-nil, arith}
-use Rattle.std.proofs.lemmas.List.{map-append, length-map}
+use Rattle.std.proofs.lemmas.List.{length-append, length-map, map-append}
 use Rattle.std.proofs.lemmas.List.Elements.{All-append, All-cons, All-nil, All-weaker}
 use Rattle.flattener.specs.Block.{BlockState}
 use Rattle.flattener.specs.Fits.{SegmentFits}
 use Rattle.flattener.specs.Seen.{block_seen}
 use Rattle.flattener.specs.declared.document.Block.{Block}
-use Rattle.layout.specs.Layout.{Marked, SegmentOf, alive, segment_of, with_buffer_last}
+use Rattle.layout.specs.Layout.{Layout, Marked, OpenMerge, SegmentOf, alive, segment_of, with_buffer_last}
+use Rattle.layout.specs.Merges.{factor_of}
 use Rattle.merge_jobs.specs.Open.{merges_in, merges_shown}
 use Rattle.mapping.specs.Mapping.{Mapping}
 use Rattle.segment.specs.Flat.{FlatRoot, flat_root, roots_of}
 use Rattle.segment.specs.Live.{EntryState, IsLiveOver}
 use Rattle.segment_parts.specs.declared.columns.Columns.{Columns}
 use Rattle.segment_builder.specs.Blocks.{blocks_of, blocks_in, marked_by}
-use Rattle.index_core.specs.Kept.{segment_kept, segments_kept}
+use Rattle.index_core.specs.Kept.{laid, segment_kept, segments_kept}
 use Rattle.segment_view.specs.Views.{IsNewId}
 use Rattle.index_core.specs.Found.{AreBelow, AreCounted, AreFit, BlocksState, IsWhole, layout_of, layout_ready, root_numbers}
 use Rattle.index_core.specs.declared.ready.Ready.{Ready}
@@ -46,30 +47,47 @@ whole_entry entry roots over some counted = record {
 
 -- ---- the layout
 
--- the layout of what sealing makes, before settling: nothing was in the buffer
-pub last_none : (it : BlocksState) (ready : Ready) → it.buffer ≡ [] → ready.view ≡ it.entries → ready.made ≡ it.made → merges_shown ready.merges.items ≡ merges_in it.jobs → layout_ready ready it.started it.factor ≡ with_buffer_last (layout_of it)
-last_none it ready none view made merges =
-    let more : it.made + 0 ≡ it.made = omega arith in
-    rw (none, view, made, merges, append-nil (segments_kept it.entries), more) refl
+-- the blocks of the buffer are the last segment: there were none
+pub last_none : (entries : List EntryState) (buffer : List BlockState) (made : ℕ) → buffer ≡ [] → laid entries [] made ≡ with_buffer_last (laid entries buffer made)
+last_none entries buffer made none =
+    let more : made + 0 ≡ made = omega arith in
+    rw (none, append-nil (segments_kept entries), more) refl
 
--- or its blocks are the last segment
-pub last_some : (it : BlocksState) (ready : Ready) (entry : EntryState) → 0 < length it.buffer → ready.view ≡ it.entries ++ entry ∷ [] → ready.made ≡ it.made + 1 → merges_shown ready.merges.items ≡ merges_in it.jobs → entry.id ≡ it.made → blocks_in entry ≡ map alive it.buffer
-    → layout_ready ready it.started it.factor ≡ with_buffer_last (layout_of it)
-last_some it ready entry some view made merges id items =
-    let segments : segments_kept ready.view ≡ segments_kept it.entries ++ segment_of it.made it.buffer = last_segments it.entries ready.view it.buffer it.made entry some view id items in
-    let more : it.made + length (segment_of it.made it.buffer) ≡ it.made + 1 = ap (λ n. it.made + n) (one_made it.buffer some) in
-    rw (segments, made, merges, more) refl
+-- or there were some
+pub last_some : (entries now : List EntryState) (buffer : List BlockState) (made next : ℕ) (entry : EntryState) → 0 < length buffer → now ≡ entries ++ entry ∷ [] → next ≡ made + 1 → entry.id ≡ made → blocks_in entry ≡ map alive buffer
+    → laid now [] next ≡ with_buffer_last (laid entries buffer made)
+last_some entries now buffer made next entry some put more id items =
+    let segments : segments_kept now ≡ segments_kept entries ++ segment_of made buffer = last_segments buffer some items in
+    let one : made + length (segment_of made buffer) ≡ made + 1 = ap (λ n. made + n) (one_made buffer some) in
+    rw (segments, more, one) refl
   where
-    one_made : (blocks : List BlockState) → 0 < length blocks → length (segment_of it.made blocks) ≡ 1
+    one_made : (blocks : List BlockState) → 0 < length blocks → length (segment_of made blocks) ≡ 1
     one_made [] h = absurd (omega (arith, h))
     one_made (block ∷ blocks) h = refl
 
-    last_segments : (entries now : List EntryState) (buffer : List BlockState) (made' : ℕ) (last : EntryState) → 0 < length buffer → now ≡ entries ++ last ∷ [] → last.id ≡ made' → blocks_in last ≡ map alive buffer → segments_kept now ≡ segments_kept entries ++ segment_of made' buffer
-    last_segments entries now [] made' last h put own its = absurd (omega (arith, h))
-    last_segments entries now (block ∷ buffer) made' last h put own its =
-        ap segments_kept put ∙ map-append segment_kept entries (last ∷ [])
-        ∙ ap (λ (n : ℕ). segments_kept entries ++ (let s : SegmentOf BlockState = record { id = n; items = blocks_in last } in s) ∷ []) own
-        ∙ ap (λ (ms : List (Marked BlockState)). segments_kept entries ++ (let s : SegmentOf BlockState = record { id = made'; items = ms } in s) ∷ []) its
+    last_segments : (blocks : List BlockState) → 0 < length blocks → blocks_in entry ≡ map alive blocks → segments_kept now ≡ segments_kept entries ++ segment_of made blocks
+    last_segments [] h its = absurd (omega (arith, h))
+    last_segments (block ∷ blocks) h its =
+        ap segments_kept put ∙ map-append segment_kept entries (entry ∷ [])
+        ∙ ap (λ (n : ℕ). segments_kept entries ++ (let s : SegmentOf BlockState = record { id = n; items = blocks_in entry } in s) ∷ []) id
+        ∙ ap (λ (ms : List (Marked BlockState)). segments_kept entries ++ (let s : SegmentOf BlockState = record { id = made; items = ms } in s) ∷ []) its
+
+-- the same beside open merges, of what sealing makes
+pub last_ready : (it : BlocksState) (ready : Ready) → laid ready.view [] ready.made ≡ with_buffer_last (laid it.entries it.buffer it.made) → merges_shown ready.merges.items ≡ merges_in it.jobs → layout_ready ready it.started it.factor ≡ with_buffer_last (layout_of it)
+last_ready it ready last merges =
+    ap (λ (l : Layout BlockState). let s : Layout BlockState = record l { merges = merges_shown ready.merges.items; started = it.started; factor = factor_of it.factor } in s) last
+    ∙ ap (λ (ms : List OpenMerge). let s : Layout BlockState = record (with_buffer_last (layout_of it)) { merges = ms } in s) merges
+
+-- and of what it leaves
+pub last_layout : (it : BlocksState) (entries : List EntryState) (buffer : List BlockState) (made spare : ℕ) → laid entries [] made ≡ with_buffer_last (laid it.entries it.buffer it.made) → buffer ≡ []
+    → layout_of (record it { entries = entries; buffer = buffer; made = made; spare = spare }) ≡ with_buffer_last (layout_of it)
+last_layout it entries buffer made spare last none =
+    ap (λ (bs : List BlockState). let s : Layout BlockState = record (layout_of it) { segments = segments_kept entries; buffer = bs; made = made } in s) none
+    ∙ ap (λ (l : Layout BlockState). let s : Layout BlockState = record l { merges = merges_in it.jobs; started = it.started; factor = factor_of it.factor } in s) last
+
+-- with one more, entries are others
+pub more_entries : (entries now : List EntryState) (entry : EntryState) → now ≡ entries ++ entry ∷ [] → now ≡ entries → ⊥
+more_entries entries now entry put same = omega (arith, ap length put, ap length same, length-append entries (entry ∷ []))
 
 pub below_more : (entries now : List EntryState) (made next : ℕ) (entry : EntryState) → AreBelow made entries → now ≡ entries ++ entry ∷ [] → next ≡ made + 1 → entry.id ≡ made → IsWhole entry → AreBelow next now
 below_more entries now made next entry below put more id whole =

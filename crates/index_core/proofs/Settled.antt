@@ -109,7 +109,7 @@ last_is it last kept is few =
     }
 
 -- where there is no factor, nothing settles
-pub last_sealed : (it : BlocksState) (last : Ready) → it.factor ≡ 0 → layout_ready last it.started it.factor ≡ with_buffer_last (layout_of it) → layout_ready last it.started it.factor ≡ sealed (layout_of it)
+pub last_sealed : (it : BlocksState) (last : Layout BlockState) → it.factor ≡ 0 → last ≡ with_buffer_last (layout_of it) → last ≡ sealed (layout_of it)
 unfolding sealed
 last_sealed it last none is = is ∙ ap (λ (f : Option ℕ). settled f (with_buffer_last (layout_of it))) (sym (ap factor_of none))
 

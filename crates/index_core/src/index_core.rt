@@ -155,10 +155,7 @@ impl IndexCore {
         ensures fits { IndexFits mapping.now self.new }
     {
         let _scopes = mapping.scope_count();
-        let ready = self.blocks.ready(mapping)?;
-        let changed = self.blocks.is_changed_by(&ready);
-        self.blocks.take_sealed(ready);
-        Ok(changed)
+        Ok(self.blocks.seal(mapping)?)
     }
 
     /// The factor by which neighbours are merged when the buffer is sealed; 0 is none.

@@ -13,7 +13,7 @@ ghost use Rattle.merge_jobs.specs.Open.{merges_in, merges_shown, placeless};
 ghost use Rattle.segment_builder.specs.Blocks.{block_objects, blocks_in, objects_of};
 ghost use Rattle.view_merge.specs.Given.{IsKeptOrMade};
 ghost use Rattle.index_core.specs.Found.{AreBelow, AreFit, AreOpenOf, IsLive, IsLiveNumber, IsRelaid, IsRootAt, IsWhole, columns_of, layout_of, layout_ready, live_blocks};
-ghost use Rattle.index_core.specs.Kept.{AreBlocks, HaveOwnIds, has_block_id, most_factor};
+ghost use Rattle.index_core.specs.Kept.{AreBlocks, HaveOwnIds, has_block_id, laid, most_factor};
 
 use crate::finish::{Finished, advancing, finishing, give_way};
 use crate::place::{Place, entry_is_whole, place_of};
@@ -180,6 +180,56 @@ impl KeptBlocks {
         Ok(self.jobs.rows(self.alloc)?)
     }
 
+    /// Makes a segment of the buffer, and merges neighbours by the factor, if there is one. Whether that changed the entries.
+    /// Without a factor the entries that there are aren't looked at.
+    pub(crate) fn seal(&mut self, mapping: &Mapping) -> Result<bool, NoMemory>
+        requires fits { All (BlockFits mapping.now) self.old.buffer }
+        requires segments { AreFit mapping.now self.old.entries }
+        requires few { objects_of (live_blocks self.old.entries self.old.buffer) ≤ most_live }
+        requires blocks { (next : ℕ) × AreBlocks (layout_of self.old) next }
+        ensures sealed { OnOk result (layout_of self.new ≡ sealed (layout_of self.old)) }
+        ensures told { IfOk result (λ changed. IsFalse changed ↔ (self.new.entries ≡ self.old.entries)) }
+        ensures buffer { OnOk result (self.new.buffer ≡ []) }
+        ensures fits { (m : Mappings) → IsMapping m → All (BlockFits m) self.old.buffer → AreFit m self.old.entries → AreFit m self.new.entries }
+        ensures relaid { IsRelaid self.old self.new }
+        ensures same { OnErr result (self.new ≡ self.old) }
+    {
+        if self.factor() == 0 {
+            return self.seal_last(mapping);
+        }
+        let ready = self.ready(mapping)?;
+        let changed = self.is_changed_by(&ready);
+        self.take_sealed(ready);
+        Ok(changed)
+    }
+
+    /// Makes a segment of the buffer where there is no factor, behind the entries, which stay as they are. Whether there was a
+    /// block in it.
+    fn seal_last(&mut self, mapping: &Mapping) -> Result<bool, NoMemory>
+        requires factor { self.old.factor ≡ 0 }
+        requires fits { All (BlockFits mapping.now) self.old.buffer }
+        requires few { objects_of self.old.buffer ≤ most_live }
+        requires blocks { (next : ℕ) × AreBlocks (layout_of self.old) next }
+        ensures sealed { OnOk result (layout_of self.new ≡ sealed (layout_of self.old)) }
+        ensures told { IfOk result (λ changed. IsFalse changed ↔ (self.new.entries ≡ self.old.entries)) }
+        ensures buffer { OnOk result (self.new.buffer ≡ []) }
+        ensures fits { (m : Mappings) → IsMapping m → All (BlockFits m) self.old.buffer → AreFit m self.old.entries → AreFit m self.new.entries }
+        ensures relaid { IsRelaid self.old self.new }
+        ensures same { OnErr result (self.new ≡ self.old) }
+    {
+        let _entries = self.view.entries();
+        let changed = push_last(
+            self.alloc,
+            mapping,
+            &mut self.view,
+            &mut self.made,
+            self.buffer.as_slice(),
+        )?;
+        made_is_below(self.made);
+        self.buffer.clear();
+        Ok(changed)
+    }
+
     /// What sealing makes: a segment of the buffer, if there is a block in it, and what settling by the factor leaves, if there
     /// is one. It fits each mapping that the blocks fit.
     pub(crate) fn ready(&self, mapping: &Mapping) -> Result<Ready, NoMemory>
@@ -213,21 +263,19 @@ impl KeptBlocks {
     {
         let mut view = self.view.pin(self.alloc)?;
         let merges = self.jobs.rows(self.alloc)?;
-        if self.buffer.is_empty() {
-            return Ok(Ready {
-                view,
-                made: self.made,
-                merges,
-            });
-        }
-        let made = made_after(self.made, 1)?;
-        let entry = entry_of(self.alloc, mapping, self.made, self.buffer.as_slice())?;
-        view.push(entry)?;
+        let mut made = self.made;
+        push_last(
+            self.alloc,
+            mapping,
+            &mut view,
+            &mut made,
+            self.buffer.as_slice(),
+        )?;
         Ok(Ready { view, made, merges })
     }
 
     /// Whether what sealing made is another view.
-    pub(crate) fn is_changed_by(&self, ready: &Ready) -> bool
+    fn is_changed_by(&self, ready: &Ready) -> bool
         requires { All (IsKeptOrMade self.now.entries self.now.made) ready.now.view }
         ensures { IsFalse result ↔ (ready.now.view ≡ self.now.entries) }
     {
@@ -409,6 +457,35 @@ fn fetch_root<L: Ledger>(
     blocks_are_whole(segment);
     segment.sources().fetch(root, out, steps)?;
     Ok(())
+}
+
+/// Puts a segment of blocks behind the entries of a view, with the next id, if there is a block. Whether there is one.
+fn push_last(
+    alloc: Global,
+    mapping: &Mapping,
+    view: &mut View,
+    made: &mut u128,
+    blocks: &[Block],
+) -> Result<bool, NoMemory>
+    requires fits { All (BlockFits mapping.now) (map block_seen blocks.now) }
+    requires few { objects_of (map block_seen blocks.now) ≤ most_live }
+    requires below { AreBelow made.old view.old }
+    ensures last { OnOk result (laid view.new [] made.new ≡ with_buffer_last (laid view.old (map block_seen blocks.now) made.old)) }
+    ensures told { IfOk result (λ put. IsFalse put ↔ (view.new ≡ view.old)) }
+    ensures below { OnOk result (AreBelow made.new view.new) }
+    ensures entries { OnOk result (All (IsKeptOrMade view.old made.old) view.new) }
+    ensures fits { (m : Mappings) → IsMapping m → All (BlockFits m) (map block_seen blocks.now) → AreFit m view.old → OnOk result (AreFit m view.new) }
+    ensures same_view { OnErr result (view.new ≡ view.old) }
+    ensures same_made { OnErr result (made.new ≡ made.old) }
+{
+    if blocks.is_empty() {
+        return Ok(false);
+    }
+    let next = made_after(*made, 1)?;
+    let entry = entry_of(alloc, mapping, *made, blocks)?;
+    view.push(entry)?;
+    *made = next;
+    Ok(true)
 }
 
 /// The entry of blocks, all of them live. It fits each mapping that they fit.

@@ -105,8 +105,7 @@ pub(crate) fn make_room(blocks: &mut KeptBlocks, mapping: &Mapping) -> Result<()
     ensures segments { (m : Mappings) → IsMapping m → All (BlockFits m) blocks.old.buffer → AreFit m blocks.old.entries → AreFit m blocks.new.entries }
 {
     if blocks.buffered_count() >= BUFFER_SIZE {
-        let ready = blocks.ready(mapping)?;
-        blocks.take_sealed(ready);
+        blocks.seal(mapping)?;
     }
     Ok(())
 }

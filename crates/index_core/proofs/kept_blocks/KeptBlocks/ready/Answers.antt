@@ -16,7 +16,7 @@ pub returns-then-self-eq0-clause-sealed : goal.returns-then-self-eq0-clause-seal
 returns-then-self-eq0-clause-sealed c =
     let it : BlocksState = the_view c.self.inside in
     let last = subst (λ (s : BlocksState). layout_ready c.in_ok-last.last s.started s.factor ≡ with_buffer_last (layout_of s)) (sym c.self.view_is) c.in_ok-last.ensures.last in
-    subst (λ (s : BlocksState). layout_ready c.in_ok-last.last s.started s.factor ≡ sealed (layout_of s)) c.self.view_is (last_sealed it c.in_ok-last.last c.if-self-eq0.true last)
+    subst (λ (s : BlocksState). layout_ready c.in_ok-last.last s.started s.factor ≡ sealed (layout_of s)) c.self.view_is (last_sealed it (layout_ready c.in_ok-last.last it.started it.factor) c.if-self-eq0.true last)
 
 pub returns-then-self-eq0-clause-open : goal.returns-then-self-eq0-clause-open
 returns-then-self-eq0-clause-open c = subst (λ (s : BlocksState). AreOpenOf (layout_of s)) c.self.view_is (opened_of (the_view c.self.inside) c.entries-entries.ensures.ids c.self.invariant)
