@@ -1,6 +1,6 @@
 -- A segment that is made of the buffer has its blocks, all of them live.
 use Rattle.std.proofs.Common.{◌≡◌, ◌≢◌, ℕ, ◌+◌, ◌<◌, Bool, List, [], ◌∷◌, ◌++◌, length, map, refl, sym, ap, ◌∙◌, append-nil, arith}
-use Rattle.std.proofs.lemmas.List.{length-append, length-map, map-append}
+use Rattle.std.proofs.lemmas.List.{length-map, map-append}
 use Rattle.std.proofs.lemmas.List.Elements.{All-append, All-cons, All-nil, All-weaker}
 use Rattle.flattener.specs.Block.{BlockState}
 use Rattle.flattener.specs.Fits.{SegmentFits}
@@ -84,10 +84,6 @@ pub last_layout : (it : BlocksState) (entries : List EntryState) (buffer : List 
 last_layout it entries buffer made spare last none =
     ap (λ (bs : List BlockState). let s : Layout BlockState = record (layout_of it) { segments = segments_kept entries; buffer = bs; made = made } in s) none
     ∙ ap (λ (l : Layout BlockState). let s : Layout BlockState = record l { merges = merges_in it.jobs; started = it.started; factor = factor_of it.factor } in s) last
-
--- with one more, entries are others
-pub more_entries : (entries now : List EntryState) (entry : EntryState) → now ≡ entries ++ entry ∷ [] → now ≡ entries → ⊥
-more_entries entries now entry put same = omega (arith, ap length put, ap length same, length-append entries (entry ∷ []))
 
 pub below_more : (entries now : List EntryState) (made next : ℕ) (entry : EntryState) → AreBelow made entries → now ≡ entries ++ entry ∷ [] → next ≡ made + 1 → entry.id ≡ made → IsWhole entry → AreBelow next now
 below_more entries now made next entry below put more id whole =
