@@ -2,6 +2,7 @@ pub mod Marks
 pub mod Combined
 pub mod Ranges
 pub mod Counts
+pub mod Shared
 pub mod Places
 pub mod Nearest
 pub mod Search

@@ -7,8 +7,8 @@ ghost use Rattle.block_bits.specs.Places.{next_place, previous_place};
 ghost use Rattle.block_bits.specs.Words.{words_of};
 
 use crate::words::{
-    WORD, and_both_words, and_not_words, and_words, full_word, has_past, next_document, or_words,
-    range_word, word_from, words_fit, zero_words,
+    WORD, and_both_words, and_not_words, and_words, count_both_words, full_word, has_past,
+    next_document, or_words, range_word, word_from, words_fit, zero_words,
 };
 use crate::{NoMemory, Walk};
 use std::alloc::Global;
@@ -94,6 +94,16 @@ impl BitSet {
             words,
             len: self.len,
         })
+    }
+
+    /// The set of the documents that are in both of two sets.
+    pub fn both(alloc: Global, one: &BitSet, other: &BitSet) -> Result<BitSet, NoMemory>
+        requires { length one.now ≡ length other.now }
+        ensures { IfOk result (λ set. set ≡ intersection one.now other.now) }
+    {
+        let mut set = one.copy(alloc)?;
+        set.and(other);
+        Ok(set)
     }
 
     /// How many documents there are, in the set or not.
@@ -231,6 +241,14 @@ impl BitSet {
             total += word.count_ones() as u64;
         }
         total as u32
+    }
+
+    /// How many documents are in the set and in another: one pass over the two, and no memory.
+    pub fn count_both(&self, other: &BitSet) -> u32
+        requires { length self.now ≡ length other.now }
+        ensures { result ≡ count_by is_marked (intersection self.now other.now) }
+    {
+        count_both_words(self.words.as_slice(), other.words.as_slice()) as u32
     }
 
     /// Word `place` of the set: its first document in the lowest bit, and 0 past the last document.

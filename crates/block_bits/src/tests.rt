@@ -111,6 +111,11 @@ fn sets_of_several_words(rt: HostRuntime) -> Result<(), Fail> {
     rest.set(0);
     common.and_both(&set, &rest);
     assert_eq!(rt; (common.next_set(0), common.count()), (Some(0), 1));
+    assert!(rt; set.len() == rest.len());
+    assert!(rt; set.len() == other.len());
+    assert_eq!(rt; (set.count_both(&rest), set.count_both(&other)), (1, 3));
+    let both = BitSet::both(rt.alloc(), &set, &rest)?;
+    assert_eq!(rt; (both.len(), both.count()), (130, 1));
     Ok(())
 }
 

@@ -1,8 +1,8 @@
 //! The u64s of a set: 64 documents each, the first in the lowest bit.
 
-ghost use Rattle.std.specs.Prelude.{◌≡◌, ◌==◌, ◌+◌, ◌*◌, ◌/◌, ◌%◌, ◌^◌, ℕ, ◌<◌, ◌≤◌, ◌&&◌, ◌||◌, not, nat_lt, length, replicate, slice_index, IfOk, IfSome, IfNone, if◌then◌else◌};
+ghost use Rattle.std.specs.Prelude.{◌≡◌, ◌==◌, ◌+◌, ◌*◌, ◌/◌, ◌%◌, ◌^◌, ℕ, ◌<◌, ◌≤◌, ◌&&◌, ◌||◌, not, nat_lt, length, replicate, slice_index, count_by, IfOk, IfSome, IfNone, if◌then◌else◌};
 ghost use Rattle.std.specs.Int.{bit_at};
-ghost use Rattle.block_bits.specs.Flags.{is_between, is_set};
+ghost use Rattle.block_bits.specs.Flags.{IsTight, flags, intersection, is_between, is_marked, is_set};
 ghost use Rattle.block_bits.specs.Walks.{IsSearched, IsFirstIn, HasNoneBefore, IsAnswered};
 
 use crate::NoMemory;
@@ -81,6 +81,19 @@ pub(crate) fn and_both_words(words: &mut [u64], ones: &[u64], others: &[u64])
     'words: for place in 0..words.len() {
         words[place] = words[place] & ones[place] & others[place];
     }
+}
+
+/// How many documents both of two have, in one pass.
+pub(crate) fn count_both_words(ones: &[u64], others: &[u64]) -> u64
+    requires same { length ones.now ≡ length others.now }
+    requires few { length ones.now < 2 ^ 32 }
+    ensures { (len : ℕ) → IsTight ones.now len → result ≡ count_by is_marked (intersection (flags ones.now len) (flags others.now len)) }
+{
+    let mut total = 0u64;
+    'words: for place in 0..ones.len() {
+        total += (ones[place] & others[place]).count_ones() as u64;
+    }
+    total
 }
 
 /// Adds the documents of other words.
