@@ -1,10 +1,11 @@
 -- Sets that are joined and met.
-use Rattle.std.proofs.Common.{◌≡◌, ℕ, zero, suc, ◌<◌, ◌≤◌, Bool, false, ◌&&◌, ◌||◌, List, [], ◌∷◌, length, get_or, All, Some, refl, sym, ap, ◌∙◌, inl, inr, arith, nat_eq}
+use Rattle.std.proofs.Common.{◌≡◌, ℕ, zero, suc, ◌<◌, ◌≤◌, Bool, true, false, cond, ◌&&◌, ◌||◌, List, [], ◌∷◌, length, replicate, get_or, count_by, All, Some, refl, sym, ap, ◌∙◌, inl, inr, arith, nat_eq}
 use Rattle.std.proofs.lemmas.Bool.{cases_Bool}
-use Rattle.std.proofs.lemmas.List.{get_or_read}
+use Rattle.std.proofs.lemmas.List.{get_or_read, length-replicate}
 use Rattle.std.proofs.lemmas.List.Elements.{All-head, All-tail}
 use Rattle.std.proofs.lemmas.List.FromFn.{length-map-range_with_len}
-use Rattle.block_bits.specs.Flags.{cleared, intersection, union}
+use Rattle.std.proofs.lemmas.List.Sums.{sum_by-cons}
+use Rattle.block_bits.specs.Flags.{cleared, intersection, is_marked, union}
 use Rattle.segment.specs.Agree.{AreColumns}
 use Rattle.segment.specs.Fields.{column_of}
 use Rattle.segment.specs.Flat.{FlatDocument, flat_of, flats_of}
@@ -61,6 +62,10 @@ texts_gain c f flags old agree law is long =
 
 -- ---- the cut
 
+-- the sets of the scopes, as they are read
+pub read_scopes : (sets scopes : List (List Bool)) (n : ℕ) (own : List Bool) → sets ≡ scopes → own ≡ get_or sets n own → own ≡ get_or scopes n own
+read_scopes sets scopes n own same is = is ∙ ap (λ (l : List (List Bool)). get_or l n own) same
+
 pub scope_long : (c : Columns) (n : ℕ) (own : List Bool) → AreColumns c → n < length c.scopes → own ≡ get_or c.scopes n own → length own ≡ c.documents
 scope_long c n own agree inside is = ap length is ∙ agree.parts.head.long n own inside
 
@@ -77,3 +82,32 @@ pub kept_none : (c : Columns) (n : ℕ) (marks lives : List Bool) → length c.s
 kept_none c n marks lives past law long live =
     cleared_all marks
     ∙ sym (cut_none n marks lives (flats_of c) (all_flats c (λ (d : FlatDocument). d.scope < n) (λ doc below. omega (arith, law doc below))) (live ∙ sym long) (length-map-range_with_len (flat_of c) 0 c.documents ∙ sym long))
+
+-- ---- all documents of a scope that are live
+
+all_marked : (lives : List Bool) → intersection (replicate (length lives) true) lives ≡ lives
+all_marked [] = refl
+all_marked (live ∷ lives) = ap (λ (l : List Bool). live ∷ l) (all_marked lives)
+
+pub live_scope : (c : Columns) (n : ℕ) (lives own : List Bool) → AreColumns c → n < length c.scopes → own ≡ get_or c.scopes n own
+    → ((scope doc : ℕ) → scope < length c.scopes → doc < c.documents → get_or (get_or c.scopes scope []) doc false ≡ nat_eq (flat_of c doc).scope scope)
+    → length lives ≡ c.documents → intersection lives own ≡ cut n (replicate c.documents true) lives (flats_of c)
+live_scope c n lives own agree inside is law long =
+    ap (λ (l : List Bool). intersection l own) (sym (all_marked lives) ∙ ap (λ (k : ℕ). intersection (replicate k true) lives) long)
+    ∙ kept_scope c n (replicate c.documents true) lives own agree inside is law
+
+pub live_none : (c : Columns) (n : ℕ) (lives : List Bool) → length c.scopes ≤ n → ((doc : ℕ) → doc < c.documents → (flat_of c doc).scope < length c.scopes) → length lives ≡ c.documents
+    → replicate c.documents false ≡ cut n (replicate c.documents true) lives (flats_of c)
+live_none c n lives past law long =
+    let all = length-replicate c.documents true in
+    ap (λ (k : ℕ). replicate k false) (sym all)
+    ∙ sym (cleared_all (replicate c.documents true))
+    ∙ kept_none c n (replicate c.documents true) lives past law all long
+
+count_none : (k : ℕ) → count_by is_marked (replicate k false) ≡ 0
+count_none zero = refl
+count_none (suc k) = omega (arith, sum_by-cons (λ (flag : Bool). cond flag 1 0) false (replicate k false), count_none k)
+
+pub live_count_none : (c : Columns) (n : ℕ) (lives : List Bool) → length c.scopes ≤ n → ((doc : ℕ) → doc < c.documents → (flat_of c doc).scope < length c.scopes) → length lives ≡ c.documents
+    → 0 ≡ count_by is_marked (cut n (replicate c.documents true) lives (flats_of c))
+live_count_none c n lives past law long = sym (count_none c.documents) ∙ ap (count_by is_marked) (live_none c n lives past law long)

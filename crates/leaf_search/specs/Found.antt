@@ -1,6 +1,7 @@
 -- Which documents a leaf finds: those of the live objects of one scope at which it holds (Elasticsearch reference,
 -- term-level queries and full text queries).
-use Rattle.std.specs.Prelude.{◌≡◌, ℕ, ◌==◌, Bool, ◌&&◌, List, length, Option, Some, None}
+use Rattle.std.specs.Prelude.{◌≡◌, ℕ, ◌==◌, Bool, ◌&&◌, List, length, count_by, Option, Some, None}
+use Rattle.block_bits.specs.Flags.{is_marked}
 use Rattle.query_ast.specs.Clause.{Leaf, Clause, leaf, bool, constant_score, dis_max, nested, to_child, has_child, has_parent}
 use Rattle.query_ast.specs.Leaf.{leaf_holds}
 use Rattle.query_ast.specs.Resolved.{IsLeaf}
@@ -32,3 +33,9 @@ pub record Finds (m : Mapping) (columns : Columns) (live : LiveState) (n : ℕ) 
   pub long : length set ≡ columns.documents
   pub found : (trees : List (Marked Tree)) → EntryStandsFor m columns live trees → IsLeaf m l
       → set ≡ by_document m (found n (leaf_holds m l)) trees
+
+-- so many documents are what a leaf finds in a scope
+pub record Counts (m : Mapping) (columns : Columns) (live : LiveState) (n : ℕ) (l : Leaf) (count : ℕ) : Type 0 where
+  pub those : List Bool
+  pub found : Finds m columns live n l those
+  pub counted : count ≡ count_by is_marked those

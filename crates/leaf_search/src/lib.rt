@@ -29,3 +29,4 @@ mod words;
 
 pub use leaves::leaf;
 pub use no_memory::NoMemory;
+pub use on_roots::live_documents;

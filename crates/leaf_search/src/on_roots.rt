@@ -4,11 +4,11 @@ ghost use Rattle.std.specs.Prelude.{◌≡◌, ◌<◌, ℕ, length, IfOk};
 ghost use Rattle.mapping.specs.Mapping.{Mapping as Meaning};
 ghost use Rattle.query_ast.specs.Clause.{match_all, match_none, ids, parent_id};
 ghost use Rattle.segment.specs.Live.{IsLiveOver};
-ghost use Rattle.leaf_search.specs.Found.{Finds};
+ghost use Rattle.leaf_search.specs.Found.{Counts, Finds};
 
 use crate::NoMemory;
 use crate::roots::RootTest;
-use crate::scoped::keep_live;
+use crate::scoped::{live_count, live_set};
 use crate::sets::{id_set, root_set};
 use block_bits::BitSet;
 use mapping::Bytes;
@@ -27,9 +27,18 @@ pub(crate) fn all(
     ensures { (m : Meaning) → IfOk result (Finds m segment.now live.now scope match_all) }
 {
     values_are_of_documents(segment);
-    let mut set = BitSet::full(alloc, segment.docs())?;
-    keep_live(&mut set, segment, live, scope);
-    Ok(set)
+    Ok(live_set(alloc, segment, live, scope)?)
+}
+
+/// How many live documents of a scope there are: as many as `leaf` finds by `match_all`.
+///
+/// It takes no memory and costs one pass over the documents' bits, 64 at a time. `live` is of the segment.
+pub fn live_documents(segment: &Segment, live: &LiveBits, scope: u32) -> u32
+    requires { IsLiveOver segment.now live.now }
+    ensures { (m : Meaning) → Counts m segment.now live.now scope match_all result }
+{
+    values_are_of_documents(segment);
+    live_count(segment, live, scope)
 }
 
 /// `match_none`: no object.

@@ -1,11 +1,7 @@
-use Rattle.std.proofs.Common.{◌≡◌, ℕ, ◌<◌, ◌≤◌, List, Bool, length, get_or, sym, ap, subst, ◌∙◌}
+use Rattle.std.proofs.Common.{ℕ, ◌<◌, ◌≤◌, List, Bool, length, sym, ap, subst, ◌∙◌}
 use Rattle.block_bits.specs.Flags.{cleared, intersection}
-use Rattle.leaf_search.proofs.Unions.{kept_scope, kept_none, scope_long}
+use Rattle.leaf_search.proofs.Unions.{kept_scope, kept_none, read_scopes, scope_long}
 use Rattle.leaf_search.proofs.scoped.keep_live.Goals as goal
-
--- the sets of the scopes, as they are read
-read_scopes : (sets scopes : List (List Bool)) (n : ℕ) (own : List Bool) → sets ≡ scopes → own ≡ get_or sets n own → own ≡ get_or scopes n own
-read_scopes sets scopes n own same is = is ∙ ap (λ (l : List (List Bool)). get_or l n own) same
 
 pub and_both-requires-clause-one : goal.and_both-requires-clause-one
 and_both-requires-clause-one c = c.requires.long ∙ sym c.requires.live.documents ∙ ap length (sym c.documents.ensures)
