@@ -1,7 +1,8 @@
 -- Hits that are counted entry by entry, and not kept.
-use Rattle.std.proofs.Common.{◌≡◌, ℕ, ◌+◌, ◌<◌, ◌≤◌, List, [], ◌∷◌, ◌++◌, length, map, take, get_or, count_by, Option, is_some, refl, arith}
+use Rattle.std.proofs.Common.{◌≡◌, ℕ, ◌+◌, ◌<◌, ◌≤◌, Bool, true, false, List, [], ◌∷◌, ◌++◌, length, map, take, get_or, count_by, Option, Some, is_some, refl, ap, arith}
 use Rattle.std.proofs.lemmas.List.Sums.{sum_by-append}
 use Rattle.block_bits.specs.Flags.{is_marked}
+use Rattle.block_join.specs.Scores.{filled}
 use Rattle.flattener.specs.StandsFor.{EntryStandsFor, ViewStandsFor}
 use Rattle.mapping.specs.Mapping.{Mapping}
 use Rattle.segment.specs.Live.{EntryState}
@@ -13,6 +14,15 @@ use Rattle.query_eval.proofs.Entries.{Done, Scores, Trees, all_seen, done_start,
 
 abbrev pub own_count : Scores → ℕ
 own_count scores = count_by is_marked (map is_some scores)
+
+-- where all documents of a set have one score, they are as many as the set has
+pub own_filled : (score : ℕ) (flags : List Bool) → own_count (filled (Some score) flags) ≡ count_by is_marked flags
+own_filled score flags = ap (count_by is_marked) (marks score flags)
+  where
+    marks : (score : ℕ) (flags : List Bool) → map is_some (filled (Some score) flags) ≡ flags
+    marks score [] = refl
+    marks score (true ∷ flags) = ap (λ (l : List Bool). true ∷ l) (marks score flags)
+    marks score (false ∷ flags) = ap (λ (l : List Bool). false ∷ l) (marks score flags)
 
 -- so many hits are those of the first entries
 pub record Counting (m : Mapping) (view : List EntryState) (n : ℕ) (given : List Tree → Object → Option ℕ) (k count : ℕ) : Type 0 where

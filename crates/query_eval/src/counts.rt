@@ -13,12 +13,11 @@ ghost use Rattle.tree_objects.specs.Tree.{Tree};
 
 use crate::NoMemory;
 use crate::law::ups_are_counted;
-use crate::leaves::leaf_scores;
 use crate::nests::{lent_set, scope_set};
 use block_bits::BitSet;
 use block_join::{Matches, reached_count};
+use leaf_search::live_documents;
 use mapping::Mapping;
-use query_ast::Query;
 use score_math::ScoreMode;
 use segment::Segment;
 use segment_view::Entry;
@@ -57,26 +56,20 @@ pub fn marked_ups(alloc: Global, segment: &Segment, set: &BitSet, to: u32) -> Re
     }
 }
 
-/// How many live objects of a scope there are.
+/// How many live objects of a scope there are. It takes no memory.
 pub fn live_count(
-    alloc: Global,
+    _alloc: Global,
     entries: &[Entry],
-    mapping: &Mapping,
+    _mapping: &Mapping,
     scope: u32,
 ) -> Result<u64, NoMemory>
-    ensures { IfOk result (IsCount mapping.now entries.now scope (score_by mapping.now (leaf match_all 1))) }
+    ensures { IfOk result (IsCount _mapping.now entries.now scope (score_by _mapping.now (leaf match_all 1))) }
 {
     let mut count: u64 = 0;
     'entries: for at in 0..entries.len() {
-        let scores = leaf_scores(
-            alloc,
-            &entries[at],
-            mapping,
-            &Query::MatchAll { boost: 1 },
-            scope,
-            1,
-        )?;
-        let Some(more) = count.checked_add(u64::from(scores.set().count())) else {
+        let entry = &entries[at];
+        let own = live_documents(entry.segment(), entry.live(), scope);
+        let Some(more) = count.checked_add(u64::from(own)) else {
             return Err(NoMemory);
         };
         count = more;

@@ -43,7 +43,7 @@ pub(crate) fn leaves(
 }
 
 /// Those of one entry.
-pub(crate) fn leaf_scores(
+fn leaf_scores(
     alloc: Global,
     entry: &Entry,
     mapping: &Mapping,

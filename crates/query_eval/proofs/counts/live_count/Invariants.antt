@@ -4,4 +4,4 @@ use Rattle.query_eval.proofs.Tallied.{Counting}
 use Rattle.query_eval.proofs.counts.live_count.Given as goal
 
 abbrev pub invariant-entries : goal.invariant-entries
-invariant-entries l = Counting l.mapping l.entries l.scope (whatever (leaf_score l.mapping match_all 1)) l.at l.count
+invariant-entries l = Counting l._mapping l.entries l.scope (whatever (leaf_score l._mapping match_all 1)) l.at l.count
