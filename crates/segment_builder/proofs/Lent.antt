@@ -95,9 +95,9 @@ module _ {K P : Type 0} (cmp : K → K → Ordering) (bytes : K → List ℕ) (p
       )
 
 -- as many rows as terms
-pub rows_few : (terms : List (ℕ × Bor (List ℕ))) (rows : List TermRow) → terms_lent terms ≡ terms_in rows → length terms < 2 ^ 64 → length rows < 2 ^ 64
-rows_few terms rows same few =
-    omega (arith, ap length same, length-map {B = ℕ × List ℕ} terms (λ (term : ℕ × Bor (List ℕ)). (term.0, term.1.now)), length-map rows (λ (row : TermRow). row.term), few)
+pub as_many_rows : (terms : List (ℕ × Bor (List ℕ))) (rows : List TermRow) → terms_lent terms ≡ terms_in rows → length terms ≡ length rows
+as_many_rows terms rows same =
+    omega (arith, ap length same, length-map {B = ℕ × List ℕ} terms (λ (term : ℕ × Bor (List ℕ)). (term.0, term.1.now)), length-map rows (λ (row : TermRow). row.term))
 
 -- positions as a row has them fit
 pub positions_fit : (entries : List TermEntry) → All (λ (posting : ℕ × List ℕ). AreAscending posting.1) (members (entries_lent entries)) → All (λ (entry : TermEntry). length entry.1.1.now < 2 ^ 32) entries

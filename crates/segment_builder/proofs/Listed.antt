@@ -1,10 +1,11 @@
 -- Things written one after the other.
-use Rattle.std.proofs.Common.{◌≡◌, ℕ, ◌+◌, ◌-◌, Bool, List, [], ◌∷◌, ◌++◌, length, drop, Some, None, append_assoc, sym, ap, ◌∙◌, arith}
+use Rattle.std.proofs.Common.{◌≡◌, ℕ, ◌+◌, ◌-◌, ◌≤◌, Bool, List, [], ◌∷◌, ◌++◌, length, take, drop, Some, None, append_assoc, length-append, refl, sym, ap, ◌∙◌, arith}
 use Rattle.std.specs.List.{flat_map, count_by}
+use Rattle.std.proofs.Math.Seq.{drop-append_seam, take-append_seam}
 use Rattle.std.proofs.lemmas.List.{append-nil, drop-drop}
 use Rattle.block_bits.specs.Flags.{is_marked}
 use Rattle.block_bits.specs.Places.{next_place}
-use Rattle.part_text.specs.Text.{counted_text, u32_text}
+use Rattle.part_text.specs.Text.{counted_text, u32_text, u64_text}
 use Rattle.segment_parts.specs.Text.{marked_places, presence_text}
 use Rattle.segment_parts.specs.Marks.{length-marked_places}
 use Rattle.segment_parts.specs.Marks.{marked_places-next, marked_places-none}
@@ -18,6 +19,24 @@ put_one text old new whole x left rest is more goes =
 pub put_counted : {X : Type 0} (text : X → List ℕ) (number : ℕ) (items : List X) (old one new : List ℕ) → one ≡ old ++ u32_text number → new ≡ one ++ flat_map text items → number ≡ length items → new ≡ old ++ counted_text u32_text text items
 put_counted text number items old one new first more long =
     more ∙ ap (λ front. front ++ flat_map text items) (first ∙ ap (λ n. old ++ u32_text n) long) ∙ append_assoc old (u32_text (length items)) (flat_map text items)
+
+-- ---- a list behind its number, which is written over a 0 once the list stands there
+
+text_long : (number : ℕ) → length (u64_text number) ≡ 8
+unfolding u64_text
+text_long number = refl
+
+-- the 0 takes eight bytes
+pub zero_stands : (old one two rows : List ℕ) → one ≡ old ++ u64_text 0 → two ≡ one ++ rows → (length one ≡ length old + 8) × (length old + 8 ≤ length two)
+zero_stands old one two rows first more =
+    let long : length one ≡ length old + 8 = omega (arith, ap length first, length-append old (u64_text 0), text_long 0) in
+    (long, omega (arith, long, ap length more, length-append one rows))
+
+pub put_numbered : (number : ℕ) (old one two three rows : List ℕ) → one ≡ old ++ u64_text 0 → two ≡ one ++ rows → three ≡ take (length old) two ++ (u64_text number ++ drop (length old + 8) two) → three ≡ old ++ (u64_text number ++ rows)
+put_numbered number old one two three rows first more over =
+    let front : take (length old) two ≡ old = ap (take (length old)) (more ∙ ap (λ xs. xs ++ rows) first ∙ append_assoc old (u64_text 0) rows) ∙ take-append_seam old (u64_text 0 ++ rows) in
+    let rest : drop (length old + 8) two ≡ rows = ap (λ n. drop n two) (sym (zero_stands old one two rows first more).0) ∙ ap (drop (length one)) more ∙ drop-append_seam one rows in
+    over ∙ ap (λ xs. xs ++ (u64_text number ++ drop (length old + 8) two)) front ∙ ap (λ xs. old ++ (u64_text number ++ xs)) rest
 
 -- ---- the documents of a set
 

@@ -1,9 +1,10 @@
 //! Terms with their postings, put in order field by field and written.
 
-ghost use Rattle.std.specs.Prelude.{◌≡◌, ◌<◌, ◌^◌, ◌++◌, ℕ, List, length, map, slice_index_or, IfOk, OnOk};
+ghost use Rattle.std.specs.Prelude.{◌≡◌, ◌+◌, ◌<◌, ◌≤◌, ◌^◌, ◌++◌, ℕ, List, length, take, drop, map, slice_index_or, IfOk, OnOk};
 ghost use Rattle.std.specs.Cmp.Lexicographic.{slice_cmp};
 ghost use Rattle.std.specs.List.{All, AllByRecursion, flat_map};
 ghost use Rattle.std.specs.Ordering.{nat_cmp};
+ghost use Rattle.part_text.specs.Text.{u64_text};
 ghost use Rattle.term_table.specs.Part.{posting_text, row_text, rows_text, AreRows, IsRow};
 ghost use Rattle.term_table.specs.Terms.{term_cmp};
 ghost use Rattle.segment_builder.specs.Columns.{terms_in, terms_lent};
@@ -141,7 +142,7 @@ fn byte_at(bytes: &[u8], at: usize) -> u8
 }
 
 /// Appends the terms of fields, which rise, each with its postings, and gives these terms. Their number stands in front of
-/// them, so they are written apart first.
+/// them and is known behind them: until then a 0 stands there.
 pub(crate) fn put_terms<'a>(
     alloc: Global,
     fields: Vec<(u32, FieldTerms<'a>)>,
@@ -152,13 +153,33 @@ pub(crate) fn put_terms<'a>(
     ensures rows { OnOk result (AreRows (rows_in fields.entry.items)) }
     ensures text { OnOk result (into.new.items ≡ into.old.items ++ rows_text (rows_in fields.entry.items)) }
 {
+    let at = into.len();
+    put_u64(into, 0)?;
     let mut terms = Vec::new(alloc);
-    let mut rows = Vec::new(alloc);
-    put_fields(fields.as_slice(), &mut terms, &mut rows)?;
-    put_u64(into, terms.len() as u64)?;
-    into.extend_from_slice(rows.as_slice())?;
+    put_fields(fields.as_slice(), &mut terms, into)?;
+    overwrite_u64(into, at, terms.len() as u64);
     terms.shrink_to_fit();
     Ok(terms)
+}
+
+/// Writes a number over the eight bytes at a place.
+#[tactic(auto, unfolding(part_text::specs::Text::u64_text))]
+fn overwrite_u64(into: &mut Vec<u8>, at: usize, number: u64)
+    requires { at + 8 ≤ length into.old.items }
+    ensures { into.new.items ≡ take at into.old.items ++ (u64_text number ++ drop (at + 8) into.old.items) }
+{
+    overwrite(
+        into.as_mut_slice().split_at_mut(at).1,
+        number.to_le_bytes().as_slice(),
+    );
+}
+
+/// Writes bytes over the first ones.
+fn overwrite(into: &mut [u8], bytes: &[u8])
+    requires { length bytes.now ≤ length into.old }
+    ensures { into.new ≡ bytes.now ++ drop (length bytes.now) into.old }
+{
+    into.split_at_mut(bytes.len()).0.copy_from_slice(bytes);
 }
 
 /// Appends the rows of fields, and adds their terms.
