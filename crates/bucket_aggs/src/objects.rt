@@ -5,7 +5,7 @@ ghost use Rattle.block_join.specs.declared.rule.Rule.{Rule};
 ghost use Rattle.bucket_aggs.specs.Counts.{marked_count};
 ghost use Rattle.bucket_aggs.specs.Given.{AreAll, AreInside, as_ones};
 ghost use Rattle.join_ordinals.specs.Ordinals.{AreOrdinals};
-ghost use Rattle.mapping.specs.Mapping.{IsAbove};
+ghost use Rattle.mapping.specs.Mapping.{Mapping as Meaning, IsAbove};
 ghost use Rattle.query_ast.specs.Clause.{leaf, match_all};
 ghost use Rattle.query_ast.specs.Clause.View.{clause_of};
 ghost use Rattle.query_ast.specs.Joins.{joins};
@@ -71,16 +71,10 @@ fn every(
 }
 
 /// Whether these are all live objects of the scope: then there are as many.
-fn are_all(
-    alloc: Global,
-    entries: &[Entry],
-    mapping: &Mapping,
-    scope: u32,
-    objects: &Matches,
-) -> Result<bool, NoMemory>
-    ensures { (given : List Tree → Object → Option ℕ) → IsSeen mapping.now entries.now scope given objects.now → IfOk result (λ all. all ≡ true → AreAll mapping.now entries.now scope given) }
+fn are_all(entries: &[Entry], scope: u32, objects: &Matches) -> Result<bool, NoMemory>
+    ensures { (m : Meaning) (given : List Tree → Object → Option ℕ) → IsSeen m entries.now scope given objects.now → IfOk result (λ all. all ≡ true → AreAll m entries.now scope given) }
 {
-    let all = live_count(alloc, entries, mapping, scope)?;
+    let all = live_count(entries, scope)?;
     let count = count_of(objects)?;
     Ok(count == all)
 }
@@ -103,7 +97,7 @@ pub(crate) fn inside_of(
     objects_nest();
     objects_are_parted();
     let _scopes = mapping.scope_count();
-    if are_all(alloc, entries, mapping, scope, objects)? {
+    if are_all(entries, scope, objects)? {
         Ok(every(alloc, entries, mapping, ordinals, path)?)
     } else {
         Ok(downs(alloc, entries, objects, scope, path)?)

@@ -1,5 +1,5 @@
 //! The block of a tree.
-ghost use Rattle.std.specs.Prelude.{◌≡◌, ◌⊎◌, ◌≤◌, ◌<◌, ◌^◌, ℕ, List, length, map, Some, None, IfErr, IfOk, IsErrOf, IsOk, OnOk};
+ghost use Rattle.std.specs.Prelude.{◌≡◌, ◌⊎◌, ◌≤◌, ◌<◌, ◌^◌, ℕ, List, [], length, map, Some, None, IfErr, IfOk, IsErrOf, IsOk, OnOk};
 ghost use Rattle.tree_json.specs.Levels.{levels, most_levels};
 ghost use Rattle.tree_json.specs.Reading.{reading, value as is_value};
 ghost use Rattle.tree_json.specs.Text.{compact};
@@ -20,6 +20,12 @@ use segment::{Bytes, Root};
 use std::alloc::Global;
 use tree_json::Json;
 use tree_objects::{Fault, first_fault};
+
+/// The bytes of a source for each of its documents, by which room is made for them at first.
+const DOCUMENT_BYTES: usize = 24;
+
+/// The most documents for which room is made at first.
+const MOST_ROOM: usize = 16;
 
 /// The block of a tree by its source, its id, its sequence number and the generation of the mapping that it is indexed
 /// under. The refusals are looked for in the order of `FlattenRefusal`: the text of the source is written first, and
@@ -44,7 +50,8 @@ pub fn block(
 {
     let text = source_text(alloc, source)?;
     faultless(alloc, mapping, generation, source)?;
-    let documents = documents(alloc, mapping, generation, source)?;
+    let room = (text.len() / DOCUMENT_BYTES + 1).min(MOST_ROOM);
+    let documents = documents(alloc, mapping, generation, source, room)?;
     let root = root_of(alloc, mapping, generation, source, id, number, text)?;
     Ok(Block { documents, root })
 }
@@ -69,13 +76,14 @@ fn faultless(
     }
 }
 
-/// The documents of a source's objects.
+/// The documents of a source's objects, with room for so many at first.
 #[tactic(auto, using(crate::proofs::Ways::starts))]
 fn documents(
     alloc: Global,
     mapping: &Mapping,
     generation: u32,
     source: &Json,
+    room: usize,
 ) -> Result<Vec<Document>, FlattenRefusal>
     requires { length (compact (view source.now)) ≤ most_source }
     ensures documents { IfOk result (λ v. map document_seen v.items ≡ map (flat_pair mapping.now generation) (walked mapping.now generation (length mapping.now.scopes) 0 (view source.now))) }
@@ -84,7 +92,7 @@ fn documents(
 {
     let levels = mapping.scope_count();
     let mut found = Vec::new(alloc);
-    let mut documents = Vec::new(alloc);
+    let mut documents = with_room(alloc, room)?;
     match walk(
         alloc,
         mapping,
@@ -99,6 +107,13 @@ fn documents(
         Err(WalkRefusal::TooManyObjects) => Err(FlattenRefusal::TooManyObjects),
         Err(WalkRefusal::NoMemory) => Err(FlattenRefusal::NoMemory),
     }
+}
+
+/// No document, with room for so many.
+fn with_room(alloc: Global, count: usize) -> Result<Vec<Document>, NoMemory>
+    ensures { IfOk result (λ v. v.items ≡ []) }
+{
+    Ok(Vec::with_capacity(alloc, count)?)
 }
 
 /// What is kept of a root, with the text of its source.

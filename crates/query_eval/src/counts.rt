@@ -17,7 +17,6 @@ use crate::nests::{lent_set, scope_set};
 use block_bits::BitSet;
 use block_join::{Matches, reached_count};
 use leaf_search::live_documents;
-use mapping::Mapping;
 use score_math::ScoreMode;
 use segment::Segment;
 use segment_view::Entry;
@@ -58,12 +57,10 @@ pub fn marked_ups(alloc: Global, segment: &Segment, set: &BitSet, to: u32) -> Re
 
 /// How many live objects of a scope there are. It takes no memory.
 pub fn live_count(
-    _alloc: Global,
     entries: &[Entry],
-    _mapping: &Mapping,
     scope: u32,
 ) -> Result<u64, NoMemory>
-    ensures { IfOk result (IsCount _mapping.now entries.now scope (score_by _mapping.now (leaf match_all 1))) }
+    ensures { (m : Meaning) → IfOk result (IsCount m entries.now scope (score_by m (leaf match_all 1))) }
 {
     let mut count: u64 = 0;
     'entries: for at in 0..entries.len() {

@@ -12,7 +12,7 @@ returns-in_ok-every-clause-inside c = λ given is.
       tree = λ tree. c.objects_are_parted.ensures.tree m tree known;
       places = λ tree i j o less low. c.objects_nest.ensures.places m tree i j o known less low;
     } in
-    inside_all m c.args.entries.now c.args.scope c.args.path given c.in_ok-every.field-0 laws c.requires.path (c.in_ok-are_all.ensures given is c.if-branch.true) c.in_ok-every.ensures
+    inside_all m c.args.entries.now c.args.scope c.args.path given c.in_ok-every.field-0 laws c.requires.path (c.in_ok-are_all.ensures m given is c.if-branch.true) c.in_ok-every.ensures
 
 pub returns-in_ok-downs-clause-inside : goal.returns-in_ok-downs-clause-inside
 returns-in_ok-downs-clause-inside c = λ given is.
