@@ -78,8 +78,8 @@ fn made_of(alloc: Global, blocks: &[Block]) -> Result<Segment, NoMemory>
     Ok(segment)
 }
 
-/// The bytes of the segment of blocks, written part by part. What goes into a part is listed when it is written; the terms alone
-/// are sorted before there are bytes, since nothing else takes as much room.
+/// The bytes of the segment of blocks, written part by part. What documents carry besides words is listed once, for the terms and
+/// for the other parts; the terms are sorted before there are bytes, since nothing else takes as much room.
 fn bytes_of(alloc: Global, blocks: &[Block]) -> Result<Vec<u8>, NoMemory>
     requires { (m : Mapping) × AreGiven m (map block_seen blocks.now) }
     ensures { IfOk result (λ bytes. (columns : Columns) × IsMade (with_blocks no_entries (map block_seen blocks.now)) columns
@@ -89,21 +89,18 @@ fn bytes_of(alloc: Global, blocks: &[Block]) -> Result<Vec<u8>, NoMemory>
     let list = documents_of(alloc, blocks)?;
     let documents = list.as_slice();
     let lists = lists_of(alloc, documents)?;
-    let keys = sorted_keys(alloc, lists.numbers.as_slice())?;
-    let fields = sorted_terms(alloc, documents, lists.keywords.as_slice(), keys.as_slice())?;
-    let mut bytes = Vec::new(alloc);
-    put_head(alloc, documents, lists.scopes.as_slice(), &mut bytes)?;
-    // the lists are made once more below: beside the rows of terms there is no room for them
-    drop(lists);
-    put_roots(blocks, &mut bytes)?;
-    let terms = put_terms(alloc, fields, &mut bytes)?;
-    let again = lists_of(alloc, documents)?;
     let Lists {
-        scopes: _scopes,
+        scopes,
         numbers,
         keywords,
         texts,
-    } = again;
+    } = lists;
+    let keys = sorted_keys(alloc, numbers.as_slice())?;
+    let fields = sorted_terms(alloc, documents, keywords.as_slice(), keys.as_slice())?;
+    let mut bytes = Vec::new(alloc);
+    put_head(alloc, documents, scopes.as_slice(), &mut bytes)?;
+    put_roots(blocks, &mut bytes)?;
+    let terms = put_terms(alloc, fields, &mut bytes)?;
     put_ordinals(alloc, terms.as_slice(), keywords, &mut bytes)?;
     put_numbers(alloc, numbers, &mut bytes)?;
     put_texts(alloc, documents.len() as u32, texts, &mut bytes)?;

@@ -49,7 +49,7 @@ put_ordinals-requires-clause-entries c =
     let flats = ap flats_lent c.as_slice-documents.ensures.value ∙ c.in_ok-list.ensures in
     let terms : terms_lent c.as_slice-5.result.now ≡ terms_in (rows_in c.in_ok-fields.fields.items) = ap terms_lent c.as_slice-5.ensures.value ∙ c.in_ok-terms.ensures.terms in (
       length (flats_in (map block_seen c.args.blocks.now)),
-      rw c.in_ok-again.ensures.keywords
+      rw c.in_ok-lists.ensures.keywords
           (subst (λ own. AreValueEntries (slice_cmp nat_cmp) (λ field bytes. Contains own (field, bytes)) (length (flats_in (map block_seen c.args.blocks.now))) (entries_in (flats_lent c.as_slice-documents.result.now)).keywords) (sym terms)
           (keywords_fit c.requires.0 (map block_seen c.args.blocks.now) (flats_lent c.as_slice-documents.result.now) c.requires.1 flats (rows_in c.in_ok-fields.fields.items) c.in_ok-fields.ensures)),
     )
@@ -57,12 +57,12 @@ put_ordinals-requires-clause-entries c =
 pub put_numbers-requires : goal.put_numbers-requires
 put_numbers-requires c =
     let flats = ap flats_lent c.as_slice-documents.ensures.value ∙ c.in_ok-list.ensures in
-    (length (flats_in (map block_seen c.args.blocks.now)), rw c.in_ok-again.ensures.numbers (numbers_fit c.requires.0 (map block_seen c.args.blocks.now) (flats_lent c.as_slice-documents.result.now) c.requires.1 flats))
+    (length (flats_in (map block_seen c.args.blocks.now)), rw c.in_ok-lists.ensures.numbers (numbers_fit c.requires.0 (map block_seen c.args.blocks.now) (flats_lent c.as_slice-documents.result.now) c.requires.1 flats))
 
 pub put_texts-requires : goal.put_texts-requires
 put_texts-requires c =
     let flats = ap flats_lent c.as_slice-documents.ensures.value ∙ c.in_ok-list.ensures in
-    rw (c.in_ok-again.ensures.texts, sym (length-map {B = FlatDocument} c.as_slice-documents.result.now (λ document. document_seen document.now)))
+    rw (c.in_ok-lists.ensures.texts, sym (length-map {B = FlatDocument} c.as_slice-documents.result.now (λ document. document_seen document.now)))
     (texts_fit c.requires.0 (map block_seen c.args.blocks.now) (flats_lent c.as_slice-documents.result.now) c.requires.1 flats)
 
 pub returns : goal.returns
@@ -93,12 +93,12 @@ returns c =
       within = sets.within;
       greatest = sets.greatest;
       rows = subst (λ (e : EntriesState). AreGroups term_cmp (all_terms e) (map row_group rows)) same c.in_ok-fields.ensures;
-      numbers = subst (λ own. AreGroups nat_cmp own numbers.0) (c.in_ok-again.ensures.numbers ∙ ap (λ (e : EntriesState). e.numbers) same) numbers.1;
+      numbers = subst (λ own. AreGroups nat_cmp own numbers.0) (c.in_ok-lists.ensures.numbers ∙ ap (λ (e : EntriesState). e.numbers) same) numbers.1;
       keywords = ordinals.0;
-      keyword_groups = subst (λ own. AreGroups nat_cmp own ordinals.0) (c.in_ok-again.ensures.keywords ∙ ap (λ (e : EntriesState). e.keywords) same) ordinals.1;
+      keyword_groups = subst (λ own. AreGroups nat_cmp own ordinals.0) (c.in_ok-lists.ensures.keywords ∙ ap (λ (e : EntriesState). e.keywords) same) ordinals.1;
       ordinals = subst (λ own. map (column_terms own) (map (ordinal_column own) ordinals.0) ≡ map named_group ordinals.0) terms ordinals.2;
       texts = texts.0;
-      text_groups = subst (λ own. AreGroups nat_cmp own texts.0) (c.in_ok-again.ensures.texts ∙ ap (λ (e : EntriesState). e.texts) same) texts.1;
+      text_groups = subst (λ own. AreGroups nat_cmp own texts.0) (c.in_ok-lists.ensures.texts ∙ ap (λ (e : EntriesState). e.texts) same) texts.1;
       present = refl;
     } in (
       columns,
