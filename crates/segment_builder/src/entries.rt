@@ -46,7 +46,6 @@ fn add_documents<'a>(
 }
 
 /// What documents carry besides words: their scopes, and each of the rest with the number of its document and by its field.
-#[derive(Drop)]
 pub(crate) struct Lists<'a> {
     pub scopes: Vec<u32>,
     pub numbers: Vec<(u32, (u32, &'a [i64]))>,
