@@ -362,6 +362,8 @@ def main():
     read, serde = best["read"][0], best["serde"][0]
     for name, (spent, total) in best.items():
         print("%-7s %8.1f ms  %5.2f times reading  %5.2f times serde  %d" % (name, spent / 1000, spent / read, spent / serde, total))
+    spent, total = best["segment"]
+    print("documents read, made and put into segments: %d a second" % (total * 1_000_000 // spent))
     own = sys.argv[3] if len(sys.argv) > 3 else os.path.join(HERE, "crates/nestsearch/out/nestsearch")
     refresh = min(seals(own, trees) for _ in range(3))
     print("refresh %8.1f ms  %5.2f times reading  %5.2f times serde" % (refresh, refresh * 1000 / read, refresh * 1000 / serde))

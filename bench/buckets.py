@@ -25,6 +25,8 @@ SEARCHES = {
     "nested alone": OFFERS % "",
     "terms, and reverse_nested in each": OFFERS % ',"aggs":{"colors":{"terms":{"field":"offers.color"},"aggs":{"products":{"reverse_nested":{}}}}}',
     "min, max and sum": OFFERS % ',"aggs":{"a":{"min":{"field":"offers.price"}},"b":{"max":{"field":"offers.price"}},"c":{"sum":{"field":"offers.price"}}}',
+    "min, max, sum and value_count": OFFERS
+    % ',"aggs":{"a":{"min":{"field":"offers.price"}},"b":{"max":{"field":"offers.price"}},"c":{"sum":{"field":"offers.price"}},"d":{"value_count":{"field":"offers.price"}}}',
 }
 TIMES = 30
 
