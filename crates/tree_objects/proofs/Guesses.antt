@@ -1,5 +1,5 @@
 -- A field that stands where it is looked for first.
-use Rattle.std.proofs.Common.{◌≡◌, ◌∙◌, ◌<◌, ℕ, List as Seq, [], ◌∷◌, ◌++◌, Bool, true, false, length, take, drop, Some, refl, sym, ap, subst, bytes_eq, get_or, arith}
+use Rattle.std.proofs.Common.{◌≡◌, ◌∙◌, ◌<◌, ℕ, List as Seq, [], ◌∷◌, ◌++◌, Bool, true, false, length, take, drop, Some, refl, sym, ap, subst, bytes_eq, arith}
 use Rattle.std.proofs.lemmas.List.{take-append-drop}
 use Rattle.std.proofs.lemmas.Slice.Eq.{bytes_eq-Decides}
 use Rattle.tree_json.specs.Value.{JsonValue}
@@ -22,14 +22,7 @@ below_path whole (byte ∷ path) name h front back =
     ∙ ap (λ rest. take (length (byte ∷ path)) whole ++ rest) back
     ∙ ap (λ start. start ++ (dot ∷ name)) (same_bytes (take (length (byte ∷ path)) whole) (byte ∷ path) front)
 
-pub dot_before : (rest name : Seq ℕ) → 0 < length rest → get_or rest 0 0 ≡ dot → bytes_eq (drop 1 rest) name ≡ true → rest ≡ dot ∷ name
-dot_before [] name h first same = absurd (omega (arith, h))
-dot_before (byte ∷ rest) name h first same =
-    let is : byte ≡ dot = first in
-    let more : rest ≡ name = same_bytes rest name same in
-    rw (is, more) refl
-
-pub ruleset same = (same_bytes, below_root, below_path, dot_before)
+pub ruleset same = (same_bytes, below_root, below_path)
 
 pub field_here : (m : Mapping) (g : ℕ) (path name : Seq ℕ) (near : ℕ)
     → ((bodies : Seq JsonValue) (on : Bool) → AreBodies bodies → AreReached (mapping_of bodies on)) → AreBodies m.bodies → m ≡ mapping_of m.bodies m.dynamic

@@ -1,12 +1,12 @@
 //! What is wrong with a source.
-ghost use Rattle.std.specs.Prelude.{◌≡◌, ◌<◌, ◌≤◌, ◌||◌, nat_lt, length, map, codes, IfOk, Some, None, Option, option_map, option_and_then, if◌then◌else◌};
+ghost use Rattle.std.specs.Prelude.{◌≡◌, ℕ, List, ◌<◌, ◌≤◌, ◌||◌, nat_lt, length, map, codes, IfOk, IsTrue, Some, None, Option, option_map, option_and_then, if◌then◌else◌};
 ghost use Rattle.std.specs.List.{list_any};
 ghost use Rattle.analysis.specs.Words.{words};
 ghost use Rattle.tree_json.specs.Value.{list, object, members_of, elements_of};
 ghost use Rattle.tree_json.specs.View.{view, values, entries};
 ghost use Rattle.tree_objects.specs.Fault.{first_fault, fault_among, fault_at, fault_in, fault_single, fault_converted, holds_objects, is_long_term};
 ghost use Rattle.tree_objects.specs.declared.field_value.FieldValue.{FieldValue};
-ghost use Rattle.mapping.specs.Mapping.{field_at, field_below, kind_at};
+ghost use Rattle.mapping.specs.Mapping.{Mapping as Meaning, field_at, field_below, kind_at};
 ghost use Rattle.mapping_body.specs.Names.{joined};
 ghost use Rattle.tree_objects.specs.Values.{text_of};
 
@@ -99,9 +99,31 @@ fn fault_below(
     match field_near(mapping, generation, path, name, *near) {
         Some(field) => {
             *near = field.saturating_add(1);
+            if is_plainly_of(mapping.kind(field), value) {
+                return Ok(None);
+            }
             fault_at(alloc, mapping, generation, field, value)
         }
         None => Ok(None),
+    }
+}
+
+/// Whether a value is seen to have no fault at a glance, as most are: a short text or a whole number, where the kind takes it.
+#[tactic(auto, unfolding(crate::specs::Values::convert))]
+fn is_plainly_of(kind: Kind, value: &Json) -> bool
+    ensures { (m : Meaning) (g f : ℕ) (path : List ℕ) → IsTrue result → fault_at m g path f kind (view value.now) ≡ None }
+{
+    match value {
+        Json::Text(text) => match kind {
+            Kind::Text => has_short_tokens(text.as_str(), MOST_TERM_BYTES),
+            Kind::Keyword => !is_long_term(text.as_slice()),
+            _ => false,
+        },
+        Json::Whole(_) => match kind {
+            Kind::Long => true,
+            _ => false,
+        },
+        _ => false,
     }
 }
 

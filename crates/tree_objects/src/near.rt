@@ -4,7 +4,6 @@ ghost use Rattle.mapping.specs.Mapping.{field_at, field_below};
 ghost use Rattle.mapping_body.specs.Names.{dot, has_dot, joined};
 
 use mapping::{Mapping, names_lead_to_fields};
-use mapping_body::has_dot;
 
 /// The field of a name below a path, as `Mapping::field_below` finds it. `near` is looked at first, and the answer is the
 /// same whatever it is: a body numbers its fields in the order in which a walk over a source meets them, so that most
@@ -42,32 +41,42 @@ fn is_here(mapping: &Mapping, generation: u32, path: &[u8], name: &[u8], field: 
 }
 
 /// Whether a path is that of a name without a dot below another path.
+#[tactic(auto, using(crate::proofs::Guesses::same))]
 fn stands_at(whole: &[u8], path: &[u8], name: &[u8]) -> bool
     ensures path { IsTrue result → whole.now ≡ joined path.now name.now }
     ensures name { IsTrue result → has_dot name.now ≡ false }
 {
-    is_joined(whole, path, name) && !has_dot(name)
-}
-
-/// Whether a path is that of a name below another path.
-#[tactic(auto, using(crate::proofs::Guesses::same))]
-fn is_joined(whole: &[u8], path: &[u8], name: &[u8]) -> bool
-    ensures { IsTrue result → whole.now ≡ joined path.now name.now }
-{
     if path.is_empty() {
-        whole == name
+        are_name(whole, name)
     } else if whole.len() > path.len() {
         let (front, back) = whole.split_at(path.len());
-        front == path && goes_on(back, name)
+        goes_on(back, name) && front == path
     } else {
         false
     }
 }
 
-/// Whether the rest of a path is a dot and a name.
-#[tactic(auto, using(crate::proofs::Guesses::same))]
+/// Whether the rest of a path is a dot and a name without one.
 fn goes_on(rest: &[u8], name: &[u8]) -> bool
-    ensures { IsTrue result → rest.now ≡ dot ∷ name.now }
+    ensures rest { IsTrue result → rest.now ≡ dot ∷ name.now }
+    ensures name { IsTrue result → has_dot name.now ≡ false }
 {
-    !rest.is_empty() && rest[0] == b'.' && rest.split_at(1).1 == name
+    match rest {
+        [] => false,
+        [byte, behind @ ..] => *byte == b'.' && are_name(behind, name),
+    }
+}
+
+/// Whether bytes are a name without a dot.
+fn are_name(bytes: &[u8], name: &[u8]) -> bool
+    ensures bytes { IsTrue result → bytes.now ≡ name.now }
+    ensures name { IsTrue result → has_dot name.now ≡ false }
+{
+    match name {
+        [] => bytes.is_empty(),
+        [letter, name @ ..] => match bytes {
+            [] => false,
+            [byte, bytes @ ..] => *letter != b'.' && byte == letter && are_name(bytes, name),
+        },
+    }
 }
