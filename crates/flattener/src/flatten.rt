@@ -46,6 +46,7 @@ pub fn block(
     ensures fits { number ≤ 2 ^ 62 → IfOk result (λ b. BlockFits mapping.now (block_seen b)) }
     ensures reads_back { IfOk result (λ b. levels (view source.now) ≤ most_levels → reading b.root.source ≡ is_value (view source.now)) }
     ensures accepted { IsOk result → block_refusal mapping.now (tree_given id.now number (view source.now) generation) ≡ None }
+    ensures too_long { most_source < length (compact (view source.now)) → IfErr result (λ e. (e ≡ FlattenRefusal.NoMemory) ⊎ (e ≡ FlattenRefusal.SourceTooLong)) }
     ensures refused { IfErr result (λ e. (e ≡ FlattenRefusal.NoMemory) ⊎ (((e ≡ FlattenRefusal.SourceTooLong) × (most_source < length (compact (view source.now)))) ⊎ (block_refusal mapping.now (tree_given id.now number (view source.now) generation) ≡ Some e))) }
 {
     let text = source_text(alloc, source)?;
