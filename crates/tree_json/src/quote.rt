@@ -7,6 +7,9 @@ ghost use Rattle.tree_json.specs.Text.{quoted};
 
 use crate::out_text::OutText;
 
+/// The most bytes of a text that is written byte by byte: in a longer one runs are looked for.
+const SHORT_TEXT: usize = 16;
+
 /// The length of the quoted text, in bytes, or the greatest u64 where it is greater than that.
 #[tactic(auto, unfolding(crate::specs::Text::quoted))]
 pub fn quoted_len(text: &[u8]) -> u64
@@ -50,8 +53,27 @@ pub fn put_quoted(text: &[u8], into: &mut OutText)
     ensures room { room_of into.old ≤ room_of into.new }
 {
     into.push_byte(b'"');
-    put_escaped(text, into);
+    if text.len() <= SHORT_TEXT {
+        put_each(text, into);
+    } else {
+        put_escaped(text, into);
+    }
     into.push_byte(b'"');
+}
+
+// Each byte is written by itself.
+fn put_each(text: &[u8], into: &mut OutText)
+    requires { length (escape text.now) ≤ into.old.spare }
+    ensures bytes { into.new.bytes ≡ into.old.bytes ++ escape text.now }
+    ensures spare { into.old.spare ≤ into.new.spare + length (escape text.now) }
+{
+    'bytes: for byte in text {
+        if is_escaped(*byte) {
+            put_escape(*byte, into);
+        } else {
+            into.push_byte(*byte);
+        }
+    }
 }
 
 // Runs of bytes that stand for themselves are copied whole.
@@ -90,11 +112,12 @@ fn plain_len(text: &[u8]) -> usize
     len
 }
 
+// Whether a byte may have to be escaped. Most stand behind the reverse solidus, which one test tells.
 #[tactic(auto, using(crate::proofs::Escapes::cases))]
 fn is_escaped(byte: u8) -> bool
     ensures { result ≡ false → escape_byte byte ≡ byte ∷ [] }
 {
-    byte < 32 || byte == b'"' || byte == b'\\'
+    byte <= b'\\' && (byte < 32 || byte == b'"' || byte == b'\\')
 }
 
 #[tactic(auto, using(crate::proofs::Escapes::cases))]
