@@ -80,7 +80,11 @@ pub(crate) fn index_near(places: &[u64], bytes: &[u8], doc: u32, near: usize) ->
     index_behind(places, bytes, doc, start)
 }
 
-/// The same from an entry on that isn't behind the document's: in steps that double, and then by halves.
+/// The same from an entry on that isn't behind the document's.
+///
+/// Documents ascend by one at least. So the entry stands no further before the last one than its document does from the last's:
+/// where all documents from there on have an entry, it is found at once. Else it is searched in steps that double, and then
+/// by halves.
 fn index_behind(places: &[u64], bytes: &[u8], doc: u32, start: usize) -> Option<usize>
     requires entries { AreEntriesAt places.now bytes.now }
     requires below { start + 1 < length places.now }
@@ -89,7 +93,11 @@ fn index_behind(places: &[u64], bytes: &[u8], doc: u32, start: usize) -> Option<
     ensures missing { IfNone result (¬ Contains (documents_in places.now bytes.now) doc) }
 {
     let count = places.len() - 1;
-    let mut low = start;
+    let last = document(places, bytes, count - 1);
+    let mut low = start.max((count - 1).saturating_sub(last.saturating_sub(doc) as usize));
+    if document(places, bytes, low) == doc {
+        return Some(low);
+    }
     let mut step = 1;
     'steps: while step < count - low && document(places, bytes, low + step) <= doc {
         low += step;
