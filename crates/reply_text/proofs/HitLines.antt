@@ -42,7 +42,7 @@ pub listed_pages : (pages : List InnerPage) → map page_entry pages ≡ page_en
 listed_pages [] = refl
 listed_pages (page ∷ pages) = ap (λ (more : List Entry). page_entry page ∷ more) (listed_pages pages)
 
-page_behind : (hits : List (List ℕ)) (total : ℕ) → object_text (entry (codes "hits") (hits_text hits total) ∷ []) ≡ codes "{\"hits\":" ++ (hits_text hits total ++ codes "}")
+pub page_behind : (hits : List (List ℕ)) (total : ℕ) → object_text (entry (codes "hits") (hits_text hits total) ∷ []) ≡ codes "{\"hits\":" ++ (hits_text hits total ++ codes "}")
 unfolding quoted escape_byte
 page_behind hits total = object_text-flat (entry (codes "hits") (hits_text hits total) ∷ [])
 

@@ -5,3 +5,4 @@ pub mod Commas
 pub mod HitLines
 pub mod BucketLines
 pub mod LinePieces
+pub mod Weights

@@ -1,4 +1,4 @@
--- A reader must believe Object, Refusal, Layout, HitTexts, BucketTexts, Printed and Text. The others serve proofs alone.
+-- A reader must believe Object, Refusal, Layout, HitTexts, BucketTexts, Printed, Text and Weight. The others serve proofs alone.
 pub mod Object
 pub mod Refusal
 pub mod Layout
@@ -6,6 +6,7 @@ pub mod HitTexts
 pub mod BucketTexts
 pub mod Text
 pub mod Printed
+pub mod Weight
 pub mod Field
 pub mod Next
 pub mod HitParts

@@ -18,6 +18,7 @@ mod printer;
 mod refusal;
 mod refused;
 mod reply;
+mod room;
 mod rows;
 mod write;
 
@@ -26,3 +27,4 @@ pub use line::TextRefusal;
 pub use printer::text;
 pub use refusal::{MappingLimit, Refusal};
 pub use reply::{Reply, WriteResult};
+pub use room::{HIT_BYTES, PAGE_BYTES, TooLarge, reply_weighs_its_page, take_hit, take_page};
