@@ -8,7 +8,7 @@ use Rattle.segment.specs.Flat.{FlatDocument}
 use Rattle.term_table.specs.Keys.{number_key}
 use Rattle.term_table.specs.Terms.{term_cmp}
 use Rattle.segment_builder.specs.ByKey.{bare_terms, keywords_bare, numbers_bare, terms_of_kind}
-use Rattle.segment_builder.specs.Entries.{EntriesState, entries_in, flats_in, no_entries, with_blocks}
+use Rattle.segment_builder.specs.Entries.{EntriesState, flats_in, no_entries, with_blocks}
 use Rattle.segment_builder.specs.Groups.{of_key}
 use Rattle.segment_builder.specs.Made.{all_terms}
 use Rattle.segment_builder.specs.Parts.{entries_from, fields_with, tagged, texts_from}
@@ -16,7 +16,7 @@ use Rattle.segment_builder.specs.Terms.{keyword_terms, number_terms, once, terms
 use Rattle.segment_builder.proofs.Agreeing.{apart_of, kinds_of}
 use Rattle.segment_builder.proofs.Grown.{by_doc}
 use Rattle.segment_builder.proofs.Keys.{split}
-use Rattle.segment_builder.proofs.Parted.{keyword_term_tags, keyword_terms_are, keywords_are, number_term_tags, number_terms_are, numbers_are, scopes_are, text_tags, texts_are, words_are}
+use Rattle.segment_builder.proofs.Parted.{keyword_term_tags, keyword_terms_are, keywords_are, number_term_tags, number_terms_are, numbers_are, text_tags, texts_are, words_are}
 use Rattle.segment_builder.proofs.Taking.{keywords_kind, none_of_kind, of_keyword, of_parts, of_word, words_kind}
 use Rattle.segment_builder.proofs.Written.{IsWritten}
 
@@ -59,14 +59,6 @@ numbers_tagged doc (own ∷ numbers) =
 
 -- ---- the parts
 
-same_entries : (a b : EntriesState) → a.scopes ≡ b.scopes → a.numbers ≡ b.numbers → a.keywords ≡ b.keywords → a.words ≡ b.words → a.texts ≡ b.texts → a ≡ b
-same_entries a b scopes numbers keywords words texts =
-    let one : a ≡ record a { scopes = b.scopes } = ap (λ x. record a { scopes = x }) scopes in
-    let two : record a { scopes = b.scopes } ≡ record a { scopes = b.scopes; numbers = b.numbers } = ap (λ x. record a { scopes = b.scopes; numbers = x }) numbers in
-    let three : record a { scopes = b.scopes; numbers = b.numbers } ≡ record a { scopes = b.scopes; numbers = b.numbers; keywords = b.keywords } = ap (λ x. record a { scopes = b.scopes; numbers = b.numbers; keywords = x }) keywords in
-    let four : record a { scopes = b.scopes; numbers = b.numbers; keywords = b.keywords } ≡ record b { texts = a.texts } = ap (λ x. record b { words = x; texts = a.texts }) words in
-    one ∙ two ∙ three ∙ four ∙ ap (λ x. record b { texts = x }) texts
-
 module _ (blocks : List BlockState) where
   abbrev it : EntriesState
   it = with_blocks no_entries blocks
@@ -91,9 +83,6 @@ module _ (blocks : List BlockState) where
 
   number_terms_by : number_terms it.numbers ≡ entries_from numbers_bare 0 flats
   number_terms_by = number_terms_are it blocks refl ∙ by_same number_term_tags (λ doc flat. tagged doc (numbers_bare flat)) (λ doc flat. numbers_tagged doc flat.numbers) 0 flats ∙ entries_are numbers_bare 0 flats
-
-  pub by_documents : it ≡ entries_in flats
-  by_documents = same_entries it (entries_in flats) (scopes_are it blocks refl) numbers_by keywords_by words_by texts_by
 
   module _ (m : Mapping) (all : AllByRecursion (IsWritten (kinds_of m)) (flats_in blocks)) (term : ℕ × List ℕ) where
     pub terms_by : of_key term_cmp term (all_terms it) ≡ of_key term_cmp term (entries_from (terms_of_kind (kind_at m term.0)) 0 flats)

@@ -1,26 +1,23 @@
 -- Terms field by field: what fields carry at a term, and the rows that they make.
-use Rattle.std.proofs.Common.{◌≡◌, ℕ, ◌+◌, ◌<◌, Bool, true, false, cond, List, [], ◌∷◌, ◌++◌, length, map, drop, get_or, refl, sym, ap, subst, ◌∙◌, append_assoc, append-nil, arith, Vec}
+use Rattle.std.proofs.Common.{◌≡◌, ℕ, ◌+◌, ◌<◌, false, cond, List, [], ◌∷◌, ◌++◌, length, map, drop, get_or, refl, sym, ap, subst, ◌∙◌, append_assoc, append-nil, arith}
 use Rattle.std.specs.Cmp.Lexicographic.{slice_cmp}
 use Rattle.std.specs.List.{AllByRecursion}
 use Rattle.std.specs.List.Sorted.{IsStrictlySortedBy}
 use Rattle.std.specs.Ordering.{eq_by_cmp, is_eq, nat_cmp, ordering_then}
 use Rattle.std.specs.declared.cmp.Ordering.{Ordering}
 use Rattle.std.specs.declared.cmp.Ordering.TheVariants.{Less, Equal, Greater}
-use Rattle.std.proofs.lemmas.Cmp.{eq_by_cmp_equiv}
-use Rattle.std.proofs.lemmas.List.{at_drop_more, length-map, map-append}
+use Rattle.std.proofs.lemmas.List.{at_drop_more, map-append}
 use Rattle.term_table.specs.Terms.{term_cmp}
-use Rattle.segment_builder.specs.Groups.{groups_seen, in_groups, keys, of_key, runs, AreGroups, AreOrdered, AreRising}
-use Rattle.segment_builder.specs.Terms.{at_field, field_entries, field_row, field_rows, fields_seen, row_group, rows_in, rows_of, AreAllRising, ArePut}
+use Rattle.segment_builder.specs.Groups.{in_groups, keys, of_key, runs, AreGroups, AreOrdered, AreRising}
+use Rattle.segment_builder.specs.Terms.{at_field, field_entries, field_row, field_rows, fields_seen, row_group, rows_in, rows_of, AreAllRising}
 use Rattle.segment_builder.specs.declared.rows.FieldTerms.{FieldTerms}
 use Rattle.segment_builder.proofs.Assembled.{map_twice}
-use Rattle.segment_builder.proofs.AtFields.{group_of, in_mapped}
 use Rattle.segment_builder.proofs.Grown.{of_append}
-use Rattle.segment_builder.proofs.InOrder.{are_groups, each_both, own_groups}
+use Rattle.segment_builder.proofs.InOrder.{are_groups}
 use Rattle.segment_builder.proofs.Keys.{groups_append, split}
 use Rattle.segment_builder.proofs.Orders.{exact_bytes, nat_order, term_order}
 use Rattle.segment_builder.proofs.Runs.{gather, ordered}
 use Rattle.segment_builder.proofs.Sorted.{each_append, same_field, sorted_append, sorted_cons, sorted_first, sorted_none, sorted_rest}
-use Rattle.segment_builder.proofs.Taking.{none_of_kind}
 
 -- the bytes of a term, a document, and the positions in it
 abbrev pub Entry : Type 0
@@ -36,89 +33,14 @@ both_equal Less b = refl
 both_equal Equal b = refl
 both_equal Greater b = refl
 
-term_is : (f g : ℕ) (b c : List ℕ) → eq_by_cmp term_cmp (f, b) (g, c) ≡ cond (eq_by_cmp nat_cmp f g) (eq_by_cmp bytes_cmp b c) false
+pub term_is : (f g : ℕ) (b c : List ℕ) → eq_by_cmp term_cmp (f, b) (g, c) ≡ cond (eq_by_cmp nat_cmp f g) (eq_by_cmp bytes_cmp b c) false
 term_is f g b c = both_equal (nat_cmp f g) (bytes_cmp b c)
-
--- what a field's entry carries at bytes is what a term carries at the field and the bytes
-one_here : (f g : ℕ) (b : List ℕ) (entry : Entry) → of_key bytes_cmp b (of_key nat_cmp f ((g, entry) ∷ [])) ≡ of_key term_cmp (f, b) (((g, entry.0), entry.1) ∷ [])
-one_here f g b entry =
-    split (eq_by_cmp nat_cmp f g)
-    (λ is. rw (term_is f g b entry.0, is) refl)
-    (λ isnt. rw (term_is f g b entry.0, isnt) refl)
 
 abbrev pub Fields : Type 0
 Fields = List (ℕ × List Entry)
 
 abbrev pub Terms : Type 0
 Terms = List ((ℕ × List ℕ) × (ℕ × List ℕ))
-
-one_seen : {E : Type 0} (seen : E → Entry) (f g : ℕ) (entry : E) → map seen (of_key nat_cmp f ((g, entry) ∷ [])) ≡ of_key nat_cmp f ((g, seen entry) ∷ [])
-one_seen seen f g entry =
-    split (eq_by_cmp nat_cmp f g)
-    (λ is. rw is refl)
-    (λ isnt. rw isnt refl)
-
--- entries that are seen so
-module _ {E A : Type 0} (seen : E → Entry) where
-  abbrev entries_by : Vec E A → List Entry
-  entries_by entries = map seen entries.items
-
-  in_seen : (f : ℕ) (fields : List (ℕ × Vec E A)) → in_groups nat_cmp f (fields_seen entries_by fields) ≡ map seen (in_groups nat_cmp f (groups_seen fields))
-  in_seen f fields =
-      ap (in_groups nat_cmp f) (sym (map_twice (group_of nat_cmp seen) (λ (field : ℕ × Vec E A). (field.0, field.1.items)) fields))
-      ∙ in_mapped nat_cmp seen f (groups_seen fields)
-
-  -- one more of the terms goes to its field
-  pub put_one : (g : ℕ) (entry : E) (old new : List (ℕ × Vec E A)) → ((any : ℕ) → in_groups nat_cmp any (groups_seen new) ≡ in_groups nat_cmp any (groups_seen old) ++ of_key nat_cmp any ((g, entry) ∷ []))
-      → ArePut (((g, (seen entry).0), (seen entry).1) ∷ []) (fields_seen entries_by old) (fields_seen entries_by new)
-  put_one g entry old new more = λ f b.
-      ap (of_key bytes_cmp b)
-      (in_seen f new
-      ∙ ap (map seen) (more f)
-      ∙ map-append seen (in_groups nat_cmp f (groups_seen old)) (of_key nat_cmp f ((g, entry) ∷ []))
-      ∙ ap (λ front. front ++ map seen (of_key nat_cmp f ((g, entry) ∷ []))) (sym (in_seen f old))
-      ∙ ap (λ last. in_groups nat_cmp f (fields_seen entries_by old) ++ last) (one_seen seen f g entry))
-      ∙ of_append bytes_cmp b (in_groups nat_cmp f (fields_seen entries_by old)) (of_key nat_cmp f ((g, seen entry) ∷ []))
-      ∙ ap (λ last. at_field f b (fields_seen entries_by old) ++ last) (one_here f g b (seen entry))
-
-  seen_keys : (fields : List (ℕ × Vec E A)) → keys (fields_seen entries_by fields) ≡ keys (groups_seen fields)
-  seen_keys [] = refl
-  seen_keys (field ∷ fields) = ap (λ rest. field.0 ∷ rest) (seen_keys fields)
-
-  seen_some : (fields : List (ℕ × Vec E A)) → AllByRecursion (λ (group : ℕ × List E). 0 < length group.1) (groups_seen fields) → AllByRecursion (λ (field : ℕ × List Entry). 0 < length field.1) (fields_seen entries_by fields)
-  seen_some [] all = tt
-  seen_some (field ∷ fields) all = (omega (arith, all.0, length-map field.1.items seen), seen_some fields all.1)
-
-  pub seen_ordered : (fields : List (ℕ × Vec E A)) → AreOrdered nat_cmp (groups_seen fields) → AreOrdered nat_cmp (fields_seen entries_by fields)
-  seen_ordered fields up = record {
-    ascending = subst (IsStrictlySortedBy nat_cmp) (sym (seen_keys fields)) up.ascending;
-    some = seen_some fields up.some;
-  }
-
-pub put_none : (fields : Fields) → ArePut [] fields fields
-put_none fields = λ f b. sym (append-nil (at_field f b fields))
-
-pub put_both : (one two : Terms) (old middle new : Fields) → ArePut one old middle → ArePut two middle new → ArePut (one ++ two) old new
-put_both one two old middle new first second = λ f b.
-    second f b
-    ∙ ap (λ front. front ++ of_key term_cmp (f, b) two) (first f b)
-    ∙ append_assoc (at_field f b old) (of_key term_cmp (f, b) one) (of_key term_cmp (f, b) two)
-    ∙ ap (λ last. at_field f b old ++ last) (sym (of_append term_cmp (f, b) one two))
-
--- while terms are put, fields carry what they did and, with those that are left, all of them
-abbrev pub Putting : Terms → Fields → Terms → Fields → Type 0
-Putting all begun left fields = (f : ℕ) (b : List ℕ) → at_field f b fields ++ of_key term_cmp (f, b) left ≡ at_field f b begun ++ of_key term_cmp (f, b) all
-
-pub put_on : (one left rest all : Terms) (begun old new : Fields) → left ≡ one ++ rest → ArePut one old new → Putting all begun left old → Putting all begun rest new
-put_on one left rest all begun old new is more goes = λ f b.
-    ap (λ front. front ++ of_key term_cmp (f, b) rest) (more f b)
-    ∙ append_assoc (at_field f b old) (of_key term_cmp (f, b) one) (of_key term_cmp (f, b) rest)
-    ∙ ap (λ last. at_field f b old ++ last) (sym (ap (of_key term_cmp (f, b)) is ∙ of_append term_cmp (f, b) one rest))
-    ∙ goes f b
-
-pub put_all : (left all : Terms) (begun fields : Fields) → left ≡ [] → Putting all begun left fields → ArePut all begun fields
-put_all left all begun fields none goes = λ f b.
-    sym (append-nil (at_field f b fields)) ∙ ap (λ terms. at_field f b fields ++ of_key term_cmp (f, b) terms) (sym none) ∙ goes f b
 
 -- ---- one field after the other is put in order
 
@@ -175,28 +97,6 @@ module _ {X Y : Type 0} (was : X → List Entry) (are : Y → List Entry) where
   pub keys_all : (old : List (ℕ × Y)) (left : List (ℕ × X)) (whole : List ℕ) → length left ≡ 0 → keys (fields_seen are old) ++ keys (fields_seen was left) ≡ whole → keys (fields_seen are old) ≡ whole
   keys_all old [] whole none goes = sym (append-nil (keys (fields_seen are old))) ∙ goes
   keys_all old (field ∷ left) whole none goes = absurd (omega (arith, none))
-
--- what holds of the field of each term holds of each field, since none of them is empty
-pub fields_of_terms : (terms : Terms) (fields : Fields) → ArePut terms [] fields → AreOrdered nat_cmp fields
-    → (test : ℕ → Bool) → AllByRecursion (λ (entry : (ℕ × List ℕ) × (ℕ × List ℕ)). test entry.0.0 ≡ true) terms → AllByRecursion (λ field. test field ≡ true) (keys fields)
-fields_of_terms terms fields put up test all =
-    by_keys fields (each_both (λ (field : ℕ × List Entry). in_groups nat_cmp field.0 fields ≡ field.1) (λ (field : ℕ × List Entry). 0 < length field.1) (λ (field : ℕ × List Entry). test field.0 ≡ true)
-    (λ field own some. known field.0 field.1 own some) fields (own_groups nat_cmp nat_order.total fields up.ascending) up.some)
-  where
-    by_keys : (xs : Fields) → AllByRecursion (λ (field : ℕ × List Entry). test field.0 ≡ true) xs → AllByRecursion (λ field. test field ≡ true) (keys xs)
-    by_keys [] is = tt
-    by_keys (x ∷ xs) is = (is.0, by_keys xs is.1)
-
-    known : (f : ℕ) (entries : List Entry) → in_groups nat_cmp f fields ≡ entries → 0 < length entries → test f ≡ true
-    known f [] own some = absurd (omega (arith, some))
-    known f (entry ∷ entries) own some =
-        split (test f)
-        (λ is. is)
-        (λ isnt.
-        let none : of_key term_cmp (f, entry.0) terms ≡ [] = none_of_kind test (f, entry.0) terms all isnt in
-        let here : of_key bytes_cmp entry.0 (entry ∷ entries) ≡ [] = ap (of_key bytes_cmp entry.0) (sym own) ∙ put f entry.0 ∙ none in
-        let more : of_key bytes_cmp entry.0 (entry ∷ entries) ≡ entry.1 ∷ of_key bytes_cmp entry.0 entries = rw ((eq_by_cmp_equiv exact_bytes.total).refl entry.0) refl in
-        absurd (omega (arith, ap length (sym more ∙ here))))
 
 -- ---- the rows of fields
 

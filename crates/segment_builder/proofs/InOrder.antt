@@ -50,7 +50,7 @@ not_after Less gt eq = refl
 not_after Equal gt eq = absurd (cc (eq))
 not_after Greater gt eq = absurd (cc (gt))
 
-gt_is : (a b : Ordering) → b ≡ ordering_reverse a → is_lt b ≡ is_gt a
+pub gt_is : (a b : Ordering) → b ≡ ordering_reverse a → is_lt b ≡ is_gt a
 gt_is Less b e = rw e refl
 gt_is Equal b e = rw e refl
 gt_is Greater b e = rw e refl

@@ -37,7 +37,7 @@ field_count {Y} groups = length-map groups (λ (group : ℕ × Y). group.0)
 less_nat : (x y : ℕ) → x < y → nat_cmp x y ≡ Less
 less_nat x y less = grind (arith, nat_tests)
 
-same_nat : (x y : ℕ) → eq_by_cmp nat_cmp x y ≡ true → x ≡ y
+pub same_nat : (x y : ℕ) → eq_by_cmp nat_cmp x y ≡ true → x ≡ y
 same_nat x y same = grind (arith, nat_tests)
 
 pub from_less : (x y : ℕ) → Less ≡ nat_cmp x y → x < y

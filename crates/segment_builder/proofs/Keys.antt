@@ -16,12 +16,12 @@ pub split : {C : Type 0} (t : Bool) → (t ≡ true → C) → (t ≡ false → 
 split true left right = left refl
 split false left right = right refl
 
-tied : (a b : Ordering) → b ≡ ordering_reverse a → not (is_lt a) && not (is_lt b) ≡ is_eq a
+pub tied : (a b : Ordering) → b ≡ ordering_reverse a → not (is_lt a) && not (is_lt b) ≡ is_eq a
 tied Less b e = refl
 tied Equal b e = rw e refl
 tied Greater b e = rw e refl
 
-filter_same : {X : Type 0} (p q : X → Bool) → ((x : X) → p x ≡ q x) → (xs : List X) → filter p xs ≡ filter q xs
+pub filter_same : {X : Type 0} (p q : X → Bool) → ((x : X) → p x ≡ q x) → (xs : List X) → filter p xs ≡ filter q xs
 filter_same p q same [] = refl
 filter_same p q same (x ∷ xs) = rw (same x, filter_same p q same xs) refl
 

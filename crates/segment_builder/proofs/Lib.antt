@@ -47,3 +47,5 @@ pub mod Put
 pub mod Ranked
 pub mod Fielded
 pub mod Mixed
+pub mod Added
+pub mod Carried

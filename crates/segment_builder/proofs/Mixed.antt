@@ -1,5 +1,5 @@
--- Fields of numbers among other fields, put in order by field.
-use Rattle.std.proofs.Common.{◌≡◌, ℕ, ◌≤◌, Bool, true, false, not, List, [], ◌∷◌, ◌++◌, length, map, refl, sym, ap, subst, ◌∙◌, append-nil, arith}
+-- Fields of words, keywords and numbers, put in order by field.
+use Rattle.std.proofs.Common.{◌≡◌, ℕ, suc, ◌+◌, ◌≤◌, Bool, true, false, cond, List, [], ◌∷◌, ◌++◌, length, map, refl, sym, ap, subst, ◌∙◌, arith}
 use Rattle.std.specs.Cmp.Lexicographic.{slice_cmp}
 use Rattle.std.specs.List.{AllByRecursion, flat_map}
 use Rattle.std.specs.List.Sorted.{IsStrictlySortedBy}
@@ -8,12 +8,9 @@ use Rattle.std.specs.declared.cmp.Ordering.TheVariants.{Less}
 use Rattle.term_table.specs.Terms.{term_cmp}
 use Rattle.segment_builder.specs.Groups.{in_groups, keys, of_key, AreGroups, AreRising}
 use Rattle.segment_builder.specs.Regrouped.{key_as}
-use Rattle.segment_builder.specs.Terms.{at_field, field_entries, fields_in, row_group, rows_in, AreFieldsApart, AreSortedFields}
+use Rattle.segment_builder.specs.Terms.{at_field, field_entries, fields_in, row_group, rows_in, AreAllRising}
 use Rattle.segment_builder.specs.declared.rows.FieldTerms.{FieldTerms}
-use Rattle.segment_builder.proofs.Among.{each_both_sides}
-use Rattle.segment_builder.proofs.Fielded.{fields_more, rows_grouped, Entry, Fields, Terms}
-use Rattle.segment_builder.proofs.Grown.{of_append}
-use Rattle.segment_builder.proofs.InOrder.{each_then}
+use Rattle.segment_builder.proofs.Fielded.{rows_grouped, Entry, Fields, Terms}
 use Rattle.segment_builder.proofs.Keys.{split}
 use Rattle.segment_builder.proofs.Orders.{nat_exact}
 use Rattle.segment_builder.proofs.Ranked.{equal_from}
@@ -49,21 +46,6 @@ module _ {P : Type 0} where
           (λ is. (rw is at here).1)
           (λ isnt. rw isnt at here)
 
-  none_less : (f : ℕ) (fields : List (ℕ × P)) → AllByRecursion (λ other. nat_cmp f other ≡ Less) (keys fields) → of_key nat_cmp f fields ≡ []
-  none_less f [] all = refl
-  none_less f (field ∷ fields) all = rw all.0 (none_less f fields all.1)
-
-  -- of fields that ascend each stands there once
-  once_at_most : (fields : List (ℕ × P)) → IsStrictlySortedBy nat_cmp (keys fields) → (f : ℕ) → length (of_key nat_cmp f fields) ≤ 1
-  once_at_most [] up f = omega arith
-  once_at_most (field ∷ fields) up f =
-      split (eq_by_cmp nat_cmp f field.0)
-      (λ is.
-      let same : f ≡ field.0 = nat_exact f field.0 (equal_from (nat_cmp f field.0) is) in
-      let none : of_key nat_cmp f fields ≡ [] = none_less f fields (rw same (sorted_first nat_cmp field.0 (keys fields) up)) in
-      rw (is, none) (omega arith))
-      (λ isnt. rw isnt (once_at_most fields (sorted_rest nat_cmp field.0 (keys fields) up) f))
-
   -- fields that rise, and of which each stands there once, ascend
   all_less : (f : ℕ) (fields : List (ℕ × P)) → AllByRecursion (λ (later : ℕ × P). is_gt (nat_cmp f later.0) ≡ false) fields → length (of_key nat_cmp f fields) ≡ 0 → AllByRecursion (λ other. nat_cmp f other ≡ Less) (keys fields)
   all_less f [] all none = tt
@@ -84,14 +66,48 @@ module _ {P : Type 0} where
           (λ is. omega (arith, rw is at here))
           (λ isnt. rw isnt at here)
 
-  none_other : (test : ℕ → Bool) (f : ℕ) (fields : List (ℕ × P)) → AllByRecursion (λ other. test other ≡ true) (keys fields) → test f ≡ false → of_key nat_cmp f fields ≡ []
-  none_other test f [] all isnt = refl
-  none_other test f (field ∷ fields) all isnt =
-      split (eq_by_cmp nat_cmp f field.0)
-      (λ is. absurd (
-      let same : f ≡ field.0 = nat_exact f field.0 (equal_from (nat_cmp f field.0) is) in
-      let never : true ≡ false = sym all.0 ∙ ap test (sym same) ∙ isnt in cc (never)))
-      (λ other. rw other (none_other test f fields all.1 isnt))
+-- ---- how often a field stands among fields
+
+abbrev pub times : ℕ → List ℕ → ℕ
+times f [] = 0
+times f (field ∷ fields) = cond (eq_by_cmp nat_cmp f field) (suc (times f fields)) (times f fields)
+
+times_of : {P : Type 0} (f : ℕ) (fields : List (ℕ × P)) → length (of_key nat_cmp f fields) ≡ times f (keys fields)
+times_of f [] = refl
+times_of f (field ∷ fields) =
+    split (eq_by_cmp nat_cmp f field.0)
+    (λ is. rw is (ap suc (times_of f fields)))
+    (λ isnt. rw isnt (times_of f fields))
+
+pub times_both : (f : ℕ) (xs ys : List ℕ) → times f (xs ++ ys) ≡ times f xs + times f ys
+times_both f [] ys = omega arith
+times_both f (x ∷ xs) ys =
+    split (eq_by_cmp nat_cmp f x)
+    (λ is. rw is (omega (arith, times_both f xs ys)))
+    (λ isnt. rw isnt (times_both f xs ys))
+
+pub times_none : (test : ℕ → Bool) (f : ℕ) (fields : List ℕ) → AllByRecursion (λ field. test field ≡ true) fields → test f ≡ false → times f fields ≡ 0
+times_none test f [] all isnt = refl
+times_none test f (field ∷ fields) all isnt =
+    split (eq_by_cmp nat_cmp f field)
+    (λ is. absurd (
+    let same : f ≡ field = nat_exact f field (equal_from (nat_cmp f field) is) in
+    let never : true ≡ false = sym all.0 ∙ ap test (sym same) ∙ isnt in cc (never)))
+    (λ other. rw other (times_none test f fields all.1 isnt))
+
+none_less : (f : ℕ) (fields : List ℕ) → AllByRecursion (λ other. nat_cmp f other ≡ Less) fields → times f fields ≡ 0
+none_less f [] all = refl
+none_less f (field ∷ fields) all = rw all.0 (none_less f fields all.1)
+
+pub times_once : (f : ℕ) (fields : List ℕ) → IsStrictlySortedBy nat_cmp fields → times f fields ≤ 1
+times_once f [] up = omega arith
+times_once f (field ∷ fields) up =
+    split (eq_by_cmp nat_cmp f field)
+    (λ is.
+    let same : f ≡ field = nat_exact f field (equal_from (nat_cmp f field) is) in
+    let none : times f fields ≡ 0 = none_less f fields (rw same (sorted_first nat_cmp field fields up)) in
+    rw (is, none) (omega arith))
+    (λ isnt. rw isnt (times_once f fields (sorted_rest nat_cmp field fields up)))
 
 -- ---- fields as they are seen
 
@@ -103,43 +119,25 @@ rising_in : (fields : List (ℕ × FieldTerms)) → AreRising nat_cmp fields →
 rising_in [] up = tt
 rising_in (field ∷ fields) up = (rising_later field.0 fields up.0, rising_in fields up.1)
 
-module _ (others numbers : Terms) (words keys_of : Fields) (of_others : AreSortedFields others words) (of_numbers : AreSortedFields numbers keys_of) (apart : AreFieldsApart others numbers) where
-  once_in_both : (f : ℕ) → length (of_key nat_cmp f (words ++ keys_of)) ≤ 1
-  once_in_both f =
-      rw (of_append nat_cmp f words keys_of)
-      (split (apart.is_number f)
-      (λ is.
-      let none : of_key nat_cmp f words ≡ [] = none_other (λ field. not (apart.is_number field)) f words
-      (of_others.of_terms (λ field. not (apart.is_number field)) (each_then (λ (entry : (ℕ × List ℕ) × (ℕ × List ℕ)). apart.is_number entry.0.0 ≡ false) (λ (entry : (ℕ × List ℕ) × (ℕ × List ℕ)). not (apart.is_number entry.0.0) ≡ true) (λ entry isnt. ap not isnt) others apart.others_are))
-      (ap not is) in
-      rw none (once_at_most keys_of of_numbers.ascending f))
-      (λ isnt.
-      let none : of_key nat_cmp f keys_of ≡ [] = none_other apart.is_number f keys_of (of_numbers.of_terms apart.is_number apart.numbers_are) isnt in
-      rw (none, append-nil (of_key nat_cmp f words)) (once_at_most words of_others.ascending f)))
+-- the rows of fields, put in order by field, are the groups of their terms
+module _ (terms : Terms) (old new : List (ℕ × FieldTerms)) (carry : (f : ℕ) (b : List ℕ) → at_field f b (fields_in old) ≡ of_key term_cmp (f, b) terms) (once : (f : ℕ) → times f (keys (fields_in old)) ≤ 1) (all : AreAllRising (fields_in old))
+    (same : (f : ℕ) → of_key nat_cmp f new ≡ of_key nat_cmp f old) (rising : AreRising nat_cmp new) where
+  at_each : (f : ℕ) → of_key nat_cmp f (fields_in new) ≡ of_key nat_cmp f (fields_in old)
+  at_each f =
+      key_as nat_cmp nat_cmp (λ (field : ℕ). field) field_entries (λ a b. refl) f new
+      ∙ ap (map field_entries) (same f)
+      ∙ sym (key_as nat_cmp nat_cmp (λ (field : ℕ). field) field_entries (λ a b. refl) f old)
 
-  -- the rows of both kinds of fields, put in order by field, are the groups of the terms of both
-  pub rows_mixed : (old new : List (ℕ × FieldTerms)) → fields_in old ≡ words ++ keys_of → ((f : ℕ) → of_key nat_cmp f new ≡ of_key nat_cmp f old) → AreRising nat_cmp new → AreGroups term_cmp (others ++ numbers) (map row_group (rows_in new))
-  rows_mixed old new is same rising = rows_grouped (others ++ numbers) (fields_in new) carry (ascend (fields_in new) (rising_in new rising) once) (each_from (AreRising (slice_cmp nat_cmp)) (fields_in new) each)
-    where
-      at_each : (f : ℕ) → of_key nat_cmp f (fields_in new) ≡ of_key nat_cmp f (words ++ keys_of)
-      at_each f =
-          key_as nat_cmp nat_cmp (λ (field : ℕ). field) field_entries (λ a b. refl) f new
-          ∙ ap (map field_entries) (same f)
-          ∙ sym (key_as nat_cmp nat_cmp (λ (field : ℕ). field) field_entries (λ a b. refl) f old)
-          ∙ ap (of_key nat_cmp f) is
+  carry_on : (f : ℕ) (b : List ℕ) → at_field f b (fields_in new) ≡ of_key term_cmp (f, b) terms
+  carry_on f b =
+      ap (of_key (slice_cmp nat_cmp) b) (in_of f (fields_in new) ∙ ap (flat_map (λ (entries : List Entry). entries)) (at_each f) ∙ sym (in_of f (fields_in old)))
+      ∙ carry f b
 
-      carry : (f : ℕ) (b : List ℕ) → at_field f b (fields_in new) ≡ of_key term_cmp (f, b) (others ++ numbers)
-      carry f b =
-          ap (of_key (slice_cmp nat_cmp) b) (in_of f (fields_in new) ∙ ap (flat_map (λ (entries : List Entry). entries)) (at_each f) ∙ sym (in_of f (words ++ keys_of)))
-          ∙ fields_more f b words keys_of
-          ∙ ap (λ front. front ++ at_field f b keys_of) (of_others.carry f b)
-          ∙ ap (λ last. of_key term_cmp (f, b) others ++ last) (of_numbers.carry f b)
-          ∙ sym (of_append term_cmp (f, b) others numbers)
+  once_on : (f : ℕ) → length (of_key nat_cmp f (fields_in new)) ≤ 1
+  once_on f = rw (at_each f) (omega (arith, once f, times_of f (fields_in old)))
 
-      once : (f : ℕ) → length (of_key nat_cmp f (fields_in new)) ≤ 1
-      once f = rw (at_each f) (once_in_both f)
+  each : (f : ℕ) → AllByRecursion (AreRising (slice_cmp nat_cmp)) (of_key nat_cmp f (fields_in new))
+  each f = subst (AllByRecursion (AreRising (slice_cmp nat_cmp))) (sym (at_each f)) (each_to (AreRising (slice_cmp nat_cmp)) (fields_in old) all f)
 
-      each : (f : ℕ) → AllByRecursion (AreRising (slice_cmp nat_cmp)) (of_key nat_cmp f (fields_in new))
-      each f =
-          subst (AllByRecursion (AreRising (slice_cmp nat_cmp))) (sym (at_each f))
-          (each_to (AreRising (slice_cmp nat_cmp)) (words ++ keys_of) (each_both_sides (λ (field : ℕ × List Entry). AreRising (slice_cmp nat_cmp) field.1) words keys_of of_others.rising of_numbers.rising) f)
+  pub rows_mixed : AreGroups term_cmp terms (map row_group (rows_in new))
+  rows_mixed = rows_grouped terms (fields_in new) carry_on (ascend (fields_in new) (rising_in new rising) once_on) (each_from (AreRising (slice_cmp nat_cmp)) (fields_in new) each)

@@ -4,10 +4,11 @@ use Rattle.std.specs.Prelude.{◌≡◌, ℕ, ℤ, suc, ◌+◌, ◌<◌, ◌≤
 use Rattle.std.specs.Cmp.Lexicographic.{slice_cmp}
 use Rattle.std.specs.Ordering.{eq_by_cmp, nat_cmp}
 use Rattle.doc_values.specs.Stands.{IsColumn}
-use Rattle.smallvec.specs.SmallVec.{SmallVec}
+use Rattle.flattener.specs.declared.document.KeywordField.{KeywordField}
+use Rattle.flattener.specs.declared.document.NumberField.{NumberField}
 use Rattle.term_table.specs.Terms.{term_cmp}
 use Rattle.term_table.specs.declared.rows.TermRow.{TermRow}
-use Rattle.segment_builder.specs.Entries.{bytes_lent}
+use Rattle.segment_builder.specs.Members.{keyword_member, number_member}
 
 abbrev pub terms_in : List TermRow → List (ℕ × List ℕ)
 terms_in rows = map (λ (row : TermRow). row.term) rows
@@ -17,17 +18,17 @@ terms_lent terms = map (λ (term : ℕ × Bor (List ℕ)). (term.0, term.1.now))
 
 -- ---- rows that are lent
 
-abbrev pub number_rows : List (ℕ × Bor (List ℤ)) → List (ℕ × List ℤ)
-number_rows rows = map (λ (row : ℕ × Bor (List ℤ)). (row.0, row.1.now)) rows
+abbrev pub number_rows : List (ℕ × Bor NumberField) → List (ℕ × List ℤ)
+number_rows rows = map number_member rows
 
-abbrev pub keyword_rows : List (ℕ × Bor (List (SmallVec ℕ))) → List (ℕ × List (List ℕ))
-keyword_rows rows = map (λ (row : ℕ × Bor (List (SmallVec ℕ))). (row.0, bytes_lent row.1.now)) rows
+abbrev pub keyword_rows : List (ℕ × Bor KeywordField) → List (ℕ × List (List ℕ))
+keyword_rows rows = map keyword_member rows
 
-abbrev pub number_groups : {A : Type 0} → List (ℕ × Vec (ℕ × Bor (List ℤ)) A) → List (ℕ × List (ℕ × List ℤ))
-number_groups {A} groups = map (λ (group : ℕ × Vec (ℕ × Bor (List ℤ)) A). (group.0, number_rows group.1.items)) groups
+abbrev pub number_groups : {A : Type 0} → List (ℕ × Vec (ℕ × Bor NumberField) A) → List (ℕ × List (ℕ × List ℤ))
+number_groups {A} groups = map (λ (group : ℕ × Vec (ℕ × Bor NumberField) A). (group.0, number_rows group.1.items)) groups
 
-abbrev pub keyword_groups : {A : Type 0} → List (ℕ × Vec (ℕ × Bor (List (SmallVec ℕ))) A) → List (ℕ × List (ℕ × List (List ℕ)))
-keyword_groups {A} groups = map (λ (group : ℕ × Vec (ℕ × Bor (List (SmallVec ℕ))) A). (group.0, keyword_rows group.1.items)) groups
+abbrev pub keyword_groups : {A : Type 0} → List (ℕ × Vec (ℕ × Bor KeywordField) A) → List (ℕ × List (ℕ × List (List ℕ)))
+keyword_groups {A} groups = map (λ (group : ℕ × Vec (ℕ × Bor KeywordField) A). (group.0, keyword_rows group.1.items)) groups
 
 -- ---- ordinals
 

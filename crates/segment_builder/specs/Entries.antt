@@ -1,13 +1,10 @@
 -- What the documents of blocks carry, as it is taken apart, document after document.
-use denote.Ref.{Bor}
 use Rattle.std.specs.Prelude.{ℕ, ℤ, List, [], ◌∷◌, ◌++◌, length, map}
 use Rattle.std.specs.List.{flat_map}
 use Rattle.smallvec.specs.SmallVec.{SmallVec}
 use Rattle.segment.specs.Flat.{FlatDocument}
-use Rattle.segment_builder.specs.Parts.{tagged, fields_with, entries_from, texts_from}
+use Rattle.segment_builder.specs.Parts.{tagged, fields_with}
 use Rattle.flattener.specs.Block.{BlockState}
-use Rattle.flattener.specs.Seen.{document_seen}
-use Rattle.flattener.specs.declared.document.Document.{Document}
 
 -- the documents of blocks, one block behind the other
 abbrev pub flats_in : List BlockState → List FlatDocument
@@ -15,17 +12,8 @@ flats_in blocks = flat_map (λ (block : BlockState). block.flats) blocks
 
 -- ---- what is lent
 
-abbrev pub flats_lent : List (Bor Document) → List FlatDocument
-flats_lent documents = map (λ (document : Bor Document). document_seen document.now) documents
-
-abbrev pub numbers_lent : List (ℕ × (ℕ × Bor (List ℤ))) → List (ℕ × (ℕ × List ℤ))
-numbers_lent entries = map (λ (entry : ℕ × (ℕ × Bor (List ℤ))). (entry.0, (entry.1.0, entry.1.1.now))) entries
-
 abbrev pub bytes_lent : List (SmallVec ℕ) → List (List ℕ)
 bytes_lent values = map (λ (bytes : SmallVec ℕ). bytes.items) values
-
-abbrev pub keywords_lent : List (ℕ × (ℕ × Bor (List (SmallVec ℕ)))) → List (ℕ × (ℕ × List (List ℕ)))
-keywords_lent entries = map (λ (entry : ℕ × (ℕ × Bor (List (SmallVec ℕ)))). (entry.0, (entry.1.0, bytes_lent entry.1.1.now))) entries
 
 pub record EntriesState : Type 0 where
   pub scopes : List ℕ
@@ -33,16 +21,6 @@ pub record EntriesState : Type 0 where
   pub keywords : List (ℕ × (ℕ × List (List ℕ)))
   pub words : List ((ℕ × List ℕ) × (ℕ × List ℕ))
   pub texts : List (ℕ × ℕ)
-
--- what documents carry, one document after the other
-abbrev pub entries_in : List FlatDocument → EntriesState
-entries_in flats = record {
-  scopes = map (λ (flat : FlatDocument). flat.scope) flats;
-  numbers = entries_from (λ flat. flat.numbers) 0 flats;
-  keywords = entries_from (λ flat. flat.keywords) 0 flats;
-  words = entries_from (λ flat. flat.words) 0 flats;
-  texts = texts_from 0 flats;
-}
 
 abbrev pub no_entries : EntriesState
 no_entries = record { scopes = []; numbers = []; keywords = []; words = []; texts = [] }

@@ -8,6 +8,8 @@ pub mod Parts
 pub mod Entries
 pub mod Groups
 pub mod Regrouped
+pub mod Members
+pub mod Lists
 pub mod Rising
 pub mod Marks
 pub mod Taken

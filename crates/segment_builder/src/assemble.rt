@@ -10,25 +10,28 @@ ghost use Rattle.segment_parts.specs.Text.{head_text, segment_text};
 ghost use Rattle.segment_parts.specs.declared.columns.Columns.{Columns};
 ghost use Rattle.term_table.specs.Terms.{term_cmp};
 ghost use Rattle.segment_builder.specs.Blocks.{blocks_of, objects_of};
-ghost use Rattle.segment_builder.specs.Entries.{entries_in, flats_in, flats_lent, keywords_lent, no_entries, numbers_lent, with_blocks};
+ghost use Rattle.segment_builder.specs.Entries.{EntriesState, flats_in, no_entries, with_blocks};
 ghost use Rattle.segment_builder.specs.Given.{AreGiven};
 ghost use Rattle.segment_builder.specs.Groups.{AreGroups};
 ghost use Rattle.segment_builder.specs.Made.{AreSetsOf, IsMade, all_terms};
-ghost use Rattle.segment_builder.specs.Terms.{fields_of_keys, keyword_terms, number_terms, row_group, rows_in, AreFieldsApart, AreSortedFields};
+ghost use Rattle.segment_builder.specs.Lists.{AreFieldLists, AreFieldsApart};
+ghost use Rattle.segment_builder.specs.Terms.{row_group, rows_in};
 
-use crate::entries::{Lists, documents_of, lists_of};
+use crate::entries::{Lists, lists_of};
 use crate::fit::blocks_fit;
 use crate::grouping::sort;
 use crate::numbers::put_numbers;
 use crate::ordinals::put_ordinals;
 use crate::present::put_texts;
+use crate::room::room_of;
 use crate::roots::put_roots;
-use crate::rows::{FieldTerms, add_numbers, put_terms, sorted_numbers, sorted_words};
+use crate::rows::{FieldTerms, add_keywords, add_numbers, add_words, put_terms};
 use crate::scopes::scope_sets;
-use crate::terms::{fields_of, number_fields_of};
 use crate::{NoMemory, made_columns_agree, made_segments_are_blocks};
 use block_bits::words_are_of_one_set;
-use flattener::{Block, Document, Keyword, blocks_are_of_their_mapping, blocks_are_small};
+use flattener::{
+    Block, KeywordField, NumberField, Word, blocks_are_of_their_mapping, blocks_are_small,
+};
 use mapping::{Mapping, names_lead_to_fields};
 use segment::{Segment, scopes_are_of_documents};
 use segment_parts::put_head_of;
@@ -78,84 +81,68 @@ fn made_of(alloc: Global, blocks: &[Block]) -> Result<Segment, NoMemory>
     Ok(segment)
 }
 
-/// The bytes of the segment of blocks, written part by part. What documents carry besides words is listed once, for the terms and
-/// for the other parts; the terms are sorted before there are bytes, since nothing else takes as much room.
+/// The bytes of the segment of blocks, written part by part. The terms are sorted before there are bytes, since nothing else
+/// takes as much room.
 fn bytes_of(alloc: Global, blocks: &[Block]) -> Result<Vec<u8>, NoMemory>
     requires { (m : Mapping) × AreGiven m (map block_seen blocks.now) }
     ensures { IfOk result (λ bytes. (columns : Columns) × IsMade (with_blocks no_entries (map block_seen blocks.now)) columns
         × (roots_of columns ≡ map (λ block. block.root) (map block_seen blocks.now)) × (length columns.terms < 2 ^ 64) × (bytes.items ≡ segment_text columns)) }
 {
     keys_are_ordered();
-    let list = documents_of(alloc, blocks)?;
-    let documents = list.as_slice();
-    let lists = lists_of(alloc, documents)?;
+    let lists = lists_of(alloc, blocks)?;
     let Lists {
         scopes,
         numbers,
         keywords,
+        words,
         texts,
     } = lists;
-    let keys = sorted_keys(alloc, numbers.as_slice())?;
-    let fields = sorted_terms(alloc, documents, keywords.as_slice(), keys.as_slice())?;
+    let fields = sorted_terms(alloc, words, keywords.as_slice(), numbers.as_slice())?;
     let mut bytes = Vec::new(alloc);
-    put_head(alloc, documents, scopes.as_slice(), &mut bytes)?;
+    put_head(alloc, scopes.as_slice(), &mut bytes)?;
+    let room = room_of(
+        blocks,
+        fields.as_slice(),
+        keywords.as_slice(),
+        numbers.as_slice(),
+        texts.as_slice(),
+    );
+    bytes.reserve_exact(room)?;
     put_roots(blocks, &mut bytes)?;
-    let terms = put_terms(alloc, fields, &mut bytes)?;
-    put_ordinals(alloc, terms.as_slice(), keywords, &mut bytes)?;
-    put_numbers(alloc, numbers, &mut bytes)?;
-    put_texts(alloc, documents.len() as u32, texts, &mut bytes)?;
+    let terms = put_terms(alloc, fields.as_slice(), &mut bytes)?;
+    put_ordinals(terms.as_slice(), keywords.as_slice(), &mut bytes)?;
+    put_numbers(numbers.as_slice(), &mut bytes)?;
+    put_texts(alloc, scopes.len() as u32, texts.as_slice(), &mut bytes)?;
     // a segment lives long: it keeps no room that it grew by
     bytes.shrink_to_fit();
     Ok(bytes)
 }
 
-/// The keys of the numbers of documents field by field, in order; those of one number keep the order of the documents.
-fn sorted_keys(
-    alloc: Global,
-    numbers: &[(u32, (u32, &[i64]))],
-) -> Result<Vec<(u32, Vec<([u8; 8], u32)>)>, NoMemory>
-    ensures { IfOk result (λ fields. AreSortedFields (number_terms (numbers_lent numbers.now)) (fields_of_keys fields.items)) }
-{
-    let fields = number_fields_of(alloc, numbers)?;
-    Ok(sorted_numbers(alloc, fields)?)
-}
-
-/// The terms of documents field by field, in order, where numbers are so already; those of one term keep the order of the
-/// documents.
+/// The terms of documents field by field, in order; those of one term keep the order of the documents.
 fn sorted_terms<'a>(
     alloc: Global,
-    documents: &[&'a Document],
-    keywords: &[(u32, (u32, &'a [Keyword]))],
-    numbers: &'a [(u32, Vec<([u8; 8], u32)>)],
+    words: Vec<(u32, Vec<(&'a Word, u32)>)>,
+    keywords: &[(u32, Vec<(u32, &'a KeywordField)>)],
+    numbers: &[(u32, Vec<(u32, &NumberField)>)],
 ) -> Result<Vec<(u32, FieldTerms<'a>)>, NoMemory>
-    requires few { length documents.now < 2 ^ 32 }
-    requires keywords { keywords_lent keywords.now ≡ (entries_in (flats_lent documents.now)).keywords }
-    requires numbers { AreSortedFields (number_terms (entries_in (flats_lent documents.now)).numbers) (fields_of_keys numbers.now) }
-    requires apart { AreFieldsApart ((entries_in (flats_lent documents.now)).words ++ keyword_terms (entries_in (flats_lent documents.now)).keywords)
-        (number_terms (entries_in (flats_lent documents.now)).numbers) }
-    ensures { IfOk result (λ fields. AreGroups term_cmp (all_terms (entries_in (flats_lent documents.now))) (map row_group (rows_in fields.items))) }
+    ensures { IfOk result (λ fields. (it : EntriesState) → AreFieldLists it words.entry.items keywords.now numbers.now → AreFieldsApart it
+        → AreGroups term_cmp (all_terms it) (map row_group (rows_in fields.items))) }
 {
-    let words = fields_of(alloc, documents, keywords)?;
-    let mut fields = sorted_words(alloc, words)?;
-    add_numbers(numbers, &mut fields)?;
+    let mut fields = Vec::new(alloc);
+    add_words(words, &mut fields)?;
+    add_keywords(alloc, keywords, &mut fields)?;
+    add_numbers(alloc, numbers, &mut fields)?;
     sort(&mut fields)?;
     Ok(fields)
 }
 
 /// Appends the number of documents, and the documents of each scope.
-fn put_head(
-    alloc: Global,
-    documents: &[&Document],
-    scopes: &[u32],
-    into: &mut Vec<u8>,
-) -> Result<(), NoMemory>
-    requires scopes { scopes.now ≡ (entries_in (flats_lent documents.now)).scopes }
-    requires below { All (λ scope. scope + 1 < 2 ^ 32) (entries_in (flats_lent documents.now)).scopes }
-    requires few { length documents.now < 2 ^ 32 }
-    ensures { OnOk result ((sets : List (List Bool)) × AreSetsOf (entries_in (flats_lent documents.now)).scopes sets
-        × (into.new.items ≡ into.old.items ++ head_text (length documents.now) sets)) }
+fn put_head(alloc: Global, scopes: &[u32], into: &mut Vec<u8>) -> Result<(), NoMemory>
+    requires below { All (λ scope. scope + 1 < 2 ^ 32) scopes.now }
+    requires few { length scopes.now < 2 ^ 32 }
+    ensures { OnOk result ((sets : List (List Bool)) × AreSetsOf scopes.now sets × (into.new.items ≡ into.old.items ++ head_text (length scopes.now) sets)) }
 {
     let sets = scope_sets(alloc, scopes)?;
-    put_head_of(documents.len() as u32, sets.as_slice(), into)?;
+    put_head_of(scopes.len() as u32, sets.as_slice(), into)?;
     Ok(())
 }

@@ -68,6 +68,7 @@ pub(crate) fn put<P: Drop>(
         Ok(place) => {
             known.note(field, place);
             let group = &mut groups[place];
+            make_room(&mut group.1)?;
             group.1.push(member)?;
             Ok(())
         }
@@ -79,6 +80,18 @@ pub(crate) fn put<P: Drop>(
             Ok(())
         }
     }
+}
+
+/// Sees to it that there is room for one more, and where room is made, for a quarter more than there are: a segment has few
+/// bytes for each member of a group, and groups are not to take many more.
+fn make_room<P>(members: &mut Vec<P>) -> Result<(), NoMemory>
+    ensures { members.new.items ≡ members.old.items }
+{
+    let count = members.len();
+    if count == members.capacity() {
+        members.reserve_exact(count / 4 + 4)?;
+    }
+    Ok(())
 }
 
 /// The place of the group of a field, or else where it belongs. It is looked for first at a place that may be its own.

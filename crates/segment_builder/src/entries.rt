@@ -1,26 +1,48 @@
-//! What the documents of blocks carry, each thing with the number of its document and by its key, lent from the blocks.
+//! What the documents of blocks carry, by field, each thing with the number of its document, lent from the blocks.
 
-ghost use Rattle.std.specs.Prelude.{◌≡◌, ◌<◌, ◌^◌, ◌++◌, length, map, IfOk, OnOk};
-ghost use Rattle.segment_builder.specs.Entries.{entries_in, flats_in, flats_lent, keywords_lent, numbers_lent};
+ghost use Rattle.std.specs.Prelude.{◌≡◌, ◌+◌, ◌<◌, ◌^◌, length, map, IfOk, OnOk};
+ghost use Rattle.std.specs.Ordering.{nat_cmp};
+ghost use Rattle.flattener.specs.Seen.{block_seen, document_seen, keyword_seen, number_seen, word_seen};
+ghost use Rattle.segment_builder.specs.Entries.{EntriesState, flats_in, no_entries, with_blocks, with_document, with_documents};
+ghost use Rattle.segment_builder.specs.Groups.{groups_seen, AreOrdered};
+ghost use Rattle.segment_builder.specs.Lists.{AreLists};
+ghost use Rattle.segment_builder.specs.Members.{by_field, keyword_member, number_member, text_member, word_member, AreAdded};
 ghost use Rattle.segment_builder.specs.Parts.{fields_with, tagged};
-ghost use Rattle.flattener.specs.Seen.{block_seen, document_seen, keyword_seen, number_seen};
 
 use crate::NoMemory;
-use flattener::{Block, Document, Keyword, KeywordField, NumberField};
+use crate::by_field::{KnownPlaces, put};
+use flattener::{Block, Document, KeywordField, NumberField, Word};
 use std::alloc::Global;
 
-/// The documents of blocks, one block behind the other.
-pub(crate) fn documents_of<'a>(
-    alloc: Global,
-    blocks: &'a [Block],
-) -> Result<Vec<&'a Document>, NoMemory>
-    ensures { IfOk result (λ documents. flats_lent documents.items ≡ flats_in (map block_seen blocks.now)) }
+/// What documents carry, by field, each thing with the number of its document.
+#[derive(Drop)]
+pub(crate) struct Lists<'a> {
+    /// The scope of each document.
+    pub scopes: Vec<u32>,
+    pub numbers: Vec<(u32, Vec<(u32, &'a NumberField)>)>,
+    pub keywords: Vec<(u32, Vec<(u32, &'a KeywordField)>)>,
+    pub words: Vec<(u32, Vec<(&'a Word, u32)>)>,
+    /// The text fields that have a value.
+    pub texts: Vec<(u32, Vec<u32>)>,
+}
+
+/// What the documents of blocks carry, listed in one pass over them.
+pub(crate) fn lists_of<'a>(alloc: Global, blocks: &'a [Block]) -> Result<Lists<'a>, NoMemory>
+    requires { length (flats_in (map block_seen blocks.now)) < 2 ^ 32 }
+    ensures { IfOk result (AreLists (with_blocks no_entries (map block_seen blocks.now))) }
 {
-    let mut documents = Vec::with_capacity(alloc, document_count(blocks))?;
+    let mut known = KnownPlaces::new();
+    let mut lists = Lists {
+        scopes: Vec::with_capacity(alloc, document_count(blocks))?,
+        numbers: Vec::new(alloc),
+        keywords: Vec::new(alloc),
+        words: Vec::new(alloc),
+        texts: Vec::new(alloc),
+    };
     'each: for block in blocks {
-        add_documents(block.documents.as_slice(), &mut documents)?;
+        add_documents(alloc, block.documents.as_slice(), &mut known, &mut lists)?;
     }
-    Ok(documents)
+    Ok(lists)
 }
 
 /// How many documents blocks have together.
@@ -32,89 +54,137 @@ fn document_count(blocks: &[Block]) -> usize {
     count
 }
 
-/// Adds documents.
+/// Adds what the documents of a block carry.
 fn add_documents<'a>(
+    alloc: Global,
     documents: &'a [Document],
-    into: &mut Vec<&'a Document>,
+    known: &mut KnownPlaces,
+    lists: &mut Lists<'a>,
 ) -> Result<(), NoMemory>
-    ensures { OnOk result (flats_lent into.new.items ≡ flats_lent into.old.items ++ map document_seen documents.now) }
+    requires few { length lists.old.scopes.items + length documents.now < 2 ^ 32 }
+    requires lists { (it : EntriesState) × AreLists it lists.old }
+    ensures lists { OnOk result ((it : EntriesState) → AreLists it lists.old → AreLists (with_documents it (map document_seen documents.now)) lists.new) }
+    ensures longer { OnOk result (length lists.new.scopes.items ≡ length lists.old.scopes.items + length documents.now) }
 {
     'documents: for document in documents {
-        into.push(document)?;
+        add_document(alloc, document, known, lists)?;
     }
     Ok(())
 }
 
-/// What documents carry besides words: their scopes, and each of the rest with the number of its document and by its field.
-pub(crate) struct Lists<'a> {
-    pub scopes: Vec<u32>,
-    pub numbers: Vec<(u32, (u32, &'a [i64]))>,
-    pub keywords: Vec<(u32, (u32, &'a [Keyword]))>,
-    /// The text fields that have a value.
-    pub texts: Vec<(u32, u32)>,
-}
-
-/// What documents carry besides words, listed in one pass over them.
-pub(crate) fn lists_of<'a>(alloc: Global, documents: &[&'a Document]) -> Result<Lists<'a>, NoMemory>
-    requires { length documents.now < 2 ^ 32 }
-    ensures scopes { IfOk result (λ lists. lists.scopes.items ≡ (entries_in (flats_lent documents.now)).scopes) }
-    ensures numbers { IfOk result (λ lists. numbers_lent lists.numbers.items ≡ (entries_in (flats_lent documents.now)).numbers) }
-    ensures keywords { IfOk result (λ lists. keywords_lent lists.keywords.items ≡ (entries_in (flats_lent documents.now)).keywords) }
-    ensures texts { IfOk result (λ lists. lists.texts.items ≡ (entries_in (flats_lent documents.now)).texts) }
+/// Adds what the next document carries.
+fn add_document<'a>(
+    alloc: Global,
+    document: &'a Document,
+    known: &mut KnownPlaces,
+    lists: &mut Lists<'a>,
+) -> Result<(), NoMemory>
+    requires few { length lists.old.scopes.items < 2 ^ 32 }
+    requires lists { (it : EntriesState) × AreLists it lists.old }
+    ensures lists { OnOk result ((it : EntriesState) → AreLists it lists.old → AreLists (with_document it (document_seen document.now)) lists.new) }
+    ensures longer { OnOk result (length lists.new.scopes.items ≡ length lists.old.scopes.items + 1) }
 {
-    let mut scopes = Vec::with_capacity(alloc, documents.len())?;
-    let mut numbers = Vec::with_capacity(alloc, documents.len())?;
-    let mut keywords = Vec::with_capacity(alloc, documents.len())?;
-    let mut texts = Vec::new(alloc);
-    'documents: for doc in 0..documents.len() {
-        let document = documents[doc];
-        scopes.push(document.scope)?;
-        add_numbers(doc as u32, document.numbers.as_slice(), &mut numbers)?;
-        add_keywords(doc as u32, document.keywords.as_slice(), &mut keywords)?;
-        add_texts(doc as u32, document.texts.as_slice(), &mut texts)?;
-    }
-    Ok(Lists {
-        scopes,
-        numbers,
-        keywords,
-        texts,
-    })
+    let doc = lists.scopes.len() as u32;
+    add_numbers(
+        alloc,
+        doc,
+        document.numbers.as_slice(),
+        known,
+        &mut lists.numbers,
+    )?;
+    add_keywords(
+        alloc,
+        doc,
+        document.keywords.as_slice(),
+        known,
+        &mut lists.keywords,
+    )?;
+    add_words(
+        alloc,
+        doc,
+        document.words.as_slice(),
+        known,
+        &mut lists.words,
+    )?;
+    add_texts(
+        alloc,
+        doc,
+        document.texts.as_slice(),
+        known,
+        &mut lists.texts,
+    )?;
+    lists.scopes.push(document.scope)?;
+    Ok(())
 }
 
-/// Adds the numbers of a document by field.
+/// Adds the numbers of a document.
 fn add_numbers<'a>(
+    alloc: Global,
     doc: u32,
     fields: &'a [NumberField],
-    into: &mut Vec<(u32, (u32, &'a [i64]))>,
+    known: &mut KnownPlaces,
+    into: &mut Vec<(u32, Vec<(u32, &'a NumberField)>)>,
 ) -> Result<(), NoMemory>
-    ensures { OnOk result (numbers_lent into.new.items ≡ numbers_lent into.old.items ++ tagged doc (map number_seen fields.now)) }
+    requires { AreOrdered nat_cmp (groups_seen into.old.items) }
+    ensures added { OnOk result (AreAdded number_member (tagged doc (map number_seen fields.now)) into.old.items into.new.items) }
+    ensures ordered { OnOk result (AreOrdered nat_cmp (groups_seen into.new.items)) }
 {
     'fields: for field in fields {
-        into.push((field.field, (doc, field.values.as_slice())))?;
+        put(alloc, field.field, (doc, field), known, into)?;
     }
     Ok(())
 }
 
-/// Adds the keywords of a document by field.
+/// Adds the keywords of a document.
 fn add_keywords<'a>(
+    alloc: Global,
     doc: u32,
     fields: &'a [KeywordField],
-    into: &mut Vec<(u32, (u32, &'a [Keyword]))>,
+    known: &mut KnownPlaces,
+    into: &mut Vec<(u32, Vec<(u32, &'a KeywordField)>)>,
 ) -> Result<(), NoMemory>
-    ensures { OnOk result (keywords_lent into.new.items ≡ keywords_lent into.old.items ++ tagged doc (map keyword_seen fields.now)) }
+    requires { AreOrdered nat_cmp (groups_seen into.old.items) }
+    ensures added { OnOk result (AreAdded keyword_member (tagged doc (map keyword_seen fields.now)) into.old.items into.new.items) }
+    ensures ordered { OnOk result (AreOrdered nat_cmp (groups_seen into.new.items)) }
 {
     'fields: for field in fields {
-        into.push((field.field, (doc, field.values.as_slice())))?;
+        put(alloc, field.field, (doc, field), known, into)?;
+    }
+    Ok(())
+}
+
+/// Adds the words of a document.
+fn add_words<'a>(
+    alloc: Global,
+    doc: u32,
+    words: &'a [Word],
+    known: &mut KnownPlaces,
+    into: &mut Vec<(u32, Vec<(&'a Word, u32)>)>,
+) -> Result<(), NoMemory>
+    requires { AreOrdered nat_cmp (groups_seen into.old.items) }
+    ensures added { OnOk result (AreAdded word_member (by_field (tagged doc (map word_seen words.now))) into.old.items into.new.items) }
+    ensures ordered { OnOk result (AreOrdered nat_cmp (groups_seen into.new.items)) }
+{
+    'words: for word in words {
+        put(alloc, word.field, (word, doc), known, into)?;
     }
     Ok(())
 }
 
 /// Adds the text fields of a document that have a value.
-fn add_texts(doc: u32, fields: &[u32], into: &mut Vec<(u32, u32)>) -> Result<(), NoMemory>
-    ensures { OnOk result (into.new.items ≡ into.old.items ++ fields_with doc fields.now) }
+fn add_texts(
+    alloc: Global,
+    doc: u32,
+    fields: &[u32],
+    known: &mut KnownPlaces,
+    into: &mut Vec<(u32, Vec<u32>)>,
+) -> Result<(), NoMemory>
+    requires { AreOrdered nat_cmp (groups_seen into.old.items) }
+    ensures added { OnOk result (AreAdded text_member (fields_with doc fields.now) into.old.items into.new.items) }
+    ensures ordered { OnOk result (AreOrdered nat_cmp (groups_seen into.new.items)) }
 {
     'fields: for field in fields {
-        into.push((*field, doc))?;
+        put(alloc, *field, doc, known, into)?;
     }
     Ok(())
 }

@@ -1,10 +1,10 @@
 //! Entries put together by key.
 
-ghost use Rattle.std.specs.Prelude.{◌≡◌, ◌<◌, ◌≤◌, ◌++◌, ◌∷◌, [], false, length, IfOk, OnOk};
+ghost use Rattle.std.specs.Prelude.{◌≡◌, ◌++◌, ◌∷◌, [], false, IfOk, OnOk};
 ghost use Rattle.std.specs.List.{AllByRecursion};
 ghost use Rattle.std.specs.Ordering.{is_gt};
 ghost use Rattle.std.specs.declared.cmp.Ordering.TheVariants.{Less};
-ghost use Rattle.segment_builder.specs.Groups.{of_key, in_groups, run_length, groups_seen, AreGroups, AreOrdered, AreRising, AreUpTo};
+ghost use Rattle.segment_builder.specs.Groups.{of_key, in_groups, groups_seen, AreGroups, AreOrdered, AreRising, AreUpTo};
 
 use crate::NoMemory;
 use std::alloc::Global;
@@ -27,20 +27,6 @@ pub(crate) fn sort<K: Ord, P>(entries: &mut Vec<(K, P)>) -> Result<(), NoMemory>
 {
     entries.sort_by(|one, other| one.0.cmp(&other.0))?;
     Ok(())
-}
-
-/// How many entries in front have a key. The first of them has it.
-pub(crate) fn run_len<K: Ord, P>(key: &K, entries: &[(K, P)]) -> usize
-    requires { 0 < run_length K.cmp key.now entries.now }
-    ensures run { result ≡ run_length K.cmp key.now entries.now }
-    ensures within { result ≤ length entries.now }
-{
-    'entries: for at in 1..entries.len() {
-        if *key != entries[at].0 {
-            return at;
-        }
-    }
-    entries.len()
 }
 
 /// The groups of entries that stand by ascending key.

@@ -18,6 +18,7 @@ mod numbers;
 mod ordinals;
 mod present;
 mod refusal;
+mod room;
 mod roots;
 mod rows;
 mod scopes;

@@ -9,33 +9,32 @@ ghost use Rattle.doc_values.specs.Text.{column_text, entry_text};
 ghost use Rattle.part_text.specs.Text.{i64_text};
 ghost use Rattle.segment_parts.specs.Text.{numbers_text};
 ghost use Rattle.segment_builder.specs.Columns.{number_groups, number_rows};
-ghost use Rattle.segment_builder.specs.Entries.{numbers_lent};
 ghost use Rattle.segment_builder.specs.Groups.{AreGroups};
 ghost use Rattle.segment_builder.specs.Taken.{AreValueEntries};
 
 use crate::NoMemory;
-use crate::by_field::grouped_by_field;
+use flattener::NumberField;
 use part_text::{put_i64, put_u32};
-use std::alloc::Global;
 
 /// Appends the columns of numbers, by ascending field, behind their number.
 pub(crate) fn put_numbers(
-    alloc: Global,
-    numbers: Vec<(u32, (u32, &[i64]))>,
+    groups: &[(u32, Vec<(u32, &NumberField)>)],
     into: &mut Vec<u8>,
 ) -> Result<(), NoMemory>
-    requires { (documents : ℕ) × AreValueEntries int_cmp (λ field number. FitsSigned w64 number) documents (numbers_lent numbers.items) }
-    ensures { OnOk result ((columns : List (ℕ × List (ℕ × List ℤ))) × AreGroups nat_cmp (numbers_lent numbers.entry.items) columns
-        × (into.new.items ≡ into.old.items ++ numbers_text columns)) }
+    requires { (documents : ℕ) × (entries : List (ℕ × (ℕ × List ℤ))) × AreValueEntries int_cmp (λ field number. FitsSigned w64 number) documents entries
+        × AreGroups nat_cmp entries (number_groups groups.now) }
+    ensures { OnOk result (into.new.items ≡ into.old.items ++ numbers_text (number_groups groups.now)) }
 {
-    let groups = grouped_by_field(alloc, numbers)?;
     put_u32(into, groups.len() as u32)?;
-    put_columns(groups.as_slice(), into)?;
+    put_columns(groups, into)?;
     Ok(())
 }
 
 /// Appends the columns of groups of numbers.
-fn put_columns(groups: &[(u32, Vec<(u32, &[i64])>)], into: &mut Vec<u8>) -> Result<(), NoMemory>
+fn put_columns(
+    groups: &[(u32, Vec<(u32, &NumberField)>)],
+    into: &mut Vec<u8>,
+) -> Result<(), NoMemory>
     requires { All (IsColumn int_cmp (FitsSigned w64)) (number_groups groups.now) }
     ensures { OnOk result (into.new.items ≡ into.old.items ++ flat_map (column_text i64_text) (number_groups groups.now)) }
 {
@@ -46,14 +45,18 @@ fn put_columns(groups: &[(u32, Vec<(u32, &[i64])>)], into: &mut Vec<u8>) -> Resu
 }
 
 /// Appends the column of a field's numbers.
-fn put_column(field: u32, members: &[(u32, &[i64])], into: &mut Vec<u8>) -> Result<(), NoMemory>
+fn put_column(
+    field: u32,
+    members: &[(u32, &NumberField)],
+    into: &mut Vec<u8>,
+) -> Result<(), NoMemory>
     requires { IsColumn int_cmp (FitsSigned w64) (field, number_rows members.now) }
     ensures { OnOk result (into.new.items ≡ into.old.items ++ column_text i64_text (field, number_rows members.now)) }
 {
     put_u32(into, field)?;
     put_u32(into, members.len() as u32)?;
-    'members: for (doc, values) in members {
-        put_entry(*doc, *values, into)?;
+    'members: for (doc, own) in members {
+        put_entry(*doc, own.values.as_slice(), into)?;
     }
     Ok(())
 }

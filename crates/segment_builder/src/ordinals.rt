@@ -9,40 +9,36 @@ ghost use Rattle.part_text.specs.Text.{u64_text};
 ghost use Rattle.segment_parts.specs.Text.{ordinals_text};
 ghost use Rattle.term_table.specs.Terms.{AreAscending};
 ghost use Rattle.segment_builder.specs.Columns.{column_terms, IsKeywordColumn, keyword_groups, keyword_rows, named_group, ordinal_column, ordinal_row, terms_lent, IsFieldRange};
-ghost use Rattle.segment_builder.specs.Entries.{bytes_lent, keywords_lent};
+ghost use Rattle.segment_builder.specs.Entries.{bytes_lent};
 ghost use Rattle.segment_builder.specs.Groups.{AreGroups};
 ghost use Rattle.segment_builder.specs.Taken.{AreValueEntries};
 
 use crate::NoMemory;
-use crate::by_field::grouped_by_field;
 use crate::find::{KnownTerms, field_range};
-use flattener::Keyword;
+use flattener::{Keyword, KeywordField};
 use part_text::{put_u32, put_u64};
-use std::alloc::Global;
 
 /// Appends the columns of keywords, by ascending field, behind their number.
 pub(crate) fn put_ordinals(
-    alloc: Global,
     terms: &[(u32, &[u8])],
-    keywords: Vec<(u32, (u32, &[Keyword]))>,
+    groups: &[(u32, Vec<(u32, &KeywordField)>)],
     into: &mut Vec<u8>,
 ) -> Result<(), NoMemory>
     requires ascending { AreAscending (terms_lent terms.now) }
-    requires entries { (documents : ℕ) × AreValueEntries (slice_cmp nat_cmp) (λ field bytes. Contains (terms_lent terms.now) (field, bytes)) documents (keywords_lent keywords.items) }
-    ensures { OnOk result ((groups : List (ℕ × List (ℕ × List (List ℕ)))) × AreGroups nat_cmp (keywords_lent keywords.entry.items) groups
-        × (map (column_terms (terms_lent terms.now)) (map (ordinal_column (terms_lent terms.now)) groups) ≡ map named_group groups)
-        × (into.new.items ≡ into.old.items ++ ordinals_text (map (ordinal_column (terms_lent terms.now)) groups))) }
+    requires entries { (documents : ℕ) × (entries : List (ℕ × (ℕ × List (List ℕ)))) × AreValueEntries (slice_cmp nat_cmp) (λ field bytes. Contains (terms_lent terms.now) (field, bytes)) documents entries
+        × AreGroups nat_cmp entries (keyword_groups groups.now) }
+    ensures named { OnOk result (map (column_terms (terms_lent terms.now)) (map (ordinal_column (terms_lent terms.now)) (keyword_groups groups.now)) ≡ map named_group (keyword_groups groups.now)) }
+    ensures text { OnOk result (into.new.items ≡ into.old.items ++ ordinals_text (map (ordinal_column (terms_lent terms.now)) (keyword_groups groups.now))) }
 {
-    let groups = grouped_by_field(alloc, keywords)?;
     put_u32(into, groups.len() as u32)?;
-    put_columns(terms, groups.as_slice(), into)?;
+    put_columns(terms, groups, into)?;
     Ok(())
 }
 
 /// Appends the columns of groups of keywords.
 fn put_columns(
     terms: &[(u32, &[u8])],
-    groups: &[(u32, Vec<(u32, &[Keyword])>)],
+    groups: &[(u32, Vec<(u32, &KeywordField)>)],
     into: &mut Vec<u8>,
 ) -> Result<(), NoMemory>
     requires ascending { AreAscending (terms_lent terms.now) }
@@ -59,7 +55,7 @@ fn put_columns(
 fn put_column(
     terms: &[(u32, &[u8])],
     field: u32,
-    members: &[(u32, &[Keyword])],
+    members: &[(u32, &KeywordField)],
     into: &mut Vec<u8>,
 ) -> Result<(), NoMemory>
     requires ascending { AreAscending (terms_lent terms.now) }
@@ -70,8 +66,17 @@ fn put_column(
     put_u32(into, members.len() as u32)?;
     let (from, end) = field_range(terms, field);
     let mut known = KnownTerms::new();
-    'members: for (doc, values) in members {
-        put_entry(terms, from, end, field, *doc, *values, &mut known, into)?;
+    'members: for (doc, own) in members {
+        put_entry(
+            terms,
+            from,
+            end,
+            field,
+            *doc,
+            own.values.as_slice(),
+            &mut known,
+            into,
+        )?;
     }
     Ok(())
 }

@@ -11,7 +11,6 @@ ghost use Rattle.segment_builder.specs.Made.{marked_groups};
 ghost use Rattle.segment_builder.specs.Taken.{AreTextEntries};
 
 use crate::NoMemory;
-use crate::by_field::grouped_by_field;
 use block_bits::BitSet;
 use part_text::put_u32;
 use std::alloc::Global;
@@ -20,16 +19,14 @@ use std::alloc::Global;
 pub(crate) fn put_texts(
     alloc: Global,
     documents: u32,
-    texts: Vec<(u32, u32)>,
+    groups: &[(u32, Vec<u32>)],
     into: &mut Vec<u8>,
 ) -> Result<(), NoMemory>
-    requires { AreTextEntries documents texts.items }
-    ensures { OnOk result ((groups : List (ℕ × List ℕ)) × AreGroups nat_cmp texts.items groups
-        × (into.new.items ≡ into.old.items ++ present_text (marked_groups documents groups))) }
+    requires { (entries : List (ℕ × ℕ)) × AreTextEntries documents entries × AreGroups nat_cmp entries (groups_seen groups.now) }
+    ensures { OnOk result (into.new.items ≡ into.old.items ++ present_text (marked_groups documents (groups_seen groups.now))) }
 {
-    let groups = grouped_by_field(alloc, texts)?;
     put_u32(into, groups.len() as u32)?;
-    put_fields(alloc, documents, groups.as_slice(), into)?;
+    put_fields(alloc, documents, groups, into)?;
     Ok(())
 }
 

@@ -8,108 +8,175 @@ ghost use Rattle.part_text.specs.Text.{u64_text};
 ghost use Rattle.term_table.specs.Part.{posting_text, row_text, rows_text, AreRows, IsRow};
 ghost use Rattle.term_table.specs.Terms.{term_cmp};
 ghost use Rattle.segment_builder.specs.Columns.{terms_in, terms_lent};
-ghost use Rattle.segment_builder.specs.Groups.{keys, members, of_key, AreGroups, AreRising};
+ghost use Rattle.segment_builder.specs.Groups.{members, of_key, run_length, AreGroups, AreRising};
 ghost use Rattle.segment_builder.specs.Taken.{AreTermEntries};
-ghost use Rattle.segment_builder.specs.Terms.{at_field, entries_lent, entries_of_keys, field_entries, field_row, field_rows, fields_in, fields_lent, fields_of_keys, rank, row_group, rows_in, AreAllRising};
+ghost use Rattle.segment_builder.specs.Terms.{entries_seen, field_entries, field_row, field_rows, fields_in, key_entry, keyword_fields, number_fields, rank, row_group, rows_in, word_fields, AddSorted};
 
 use crate::NoMemory;
-use crate::grouping::{run_len, sort};
+use crate::terms::{keys_of, keywords_of};
+use flattener::{Keyword, KeywordField, NumberField, Word};
 use part_text::{put_string, put_u32, put_u64};
 use std::alloc::Global;
+
+/// What is a term in a document: its bytes, and its positions there, of which keywords and numbers have none.
+pub(crate) trait Term {
+    ghost bytes: { Self → List ℕ };
+
+    ghost positions: { Self → List ℕ };
+
+    fn bytes(&self) -> &[u8]
+        ensures { result.now ≡ bytes self.now };
+
+    fn positions(&self) -> &[u32]
+        ensures { result.now ≡ positions self.now };
+}
+
+impl Term for &Word {
+    ghost bytes = { λ word. word.now.word.items };
+
+    ghost positions = { λ word. word.now.positions.items };
+
+    fn bytes(&self) -> &[u8] {
+        self.word.as_slice()
+    }
+
+    fn positions(&self) -> &[u32] {
+        self.positions.as_slice()
+    }
+}
+
+impl Term for &Keyword {
+    ghost use Rattle.std.specs.Prelude.{[]};
+
+    ghost bytes = { λ keyword. keyword.now.items };
+
+    ghost positions = { λ keyword. [] };
+
+    fn bytes(&self) -> &[u8] {
+        self.as_slice()
+    }
+
+    fn positions(&self) -> &[u32] {
+        &[]
+    }
+}
+
+impl Term for [u8; 8] {
+    ghost use Rattle.std.specs.Prelude.{[]};
+
+    ghost bytes = { λ key. key };
+
+    ghost positions = { λ key. [] };
+
+    fn bytes(&self) -> &[u8] {
+        self.as_slice()
+    }
+
+    fn positions(&self) -> &[u32] {
+        &[]
+    }
+}
 
 /// The terms of a field, each with a document.
 #[derive(Drop)]
 pub(crate) enum FieldTerms<'a> {
-    /// Words or keywords, with the positions of each in its document.
-    Words(Vec<(&'a [u8], (u32, &'a [u32]))>),
-    /// The keys of numbers, which have no positions.
-    Numbers(&'a [([u8; 8], u32)]),
+    Words(Vec<(&'a Word, u32)>),
+    Keywords(Vec<(&'a Keyword, u32)>),
+    /// Numbers by their keys.
+    Numbers(Vec<([u8; 8], u32)>),
 }
 
-/// Puts the words and keywords of each field in order; those of one term keep their order.
-pub(crate) fn sorted_words<'a>(
-    alloc: Global,
-    fields: Vec<(u32, Vec<(&'a [u8], (u32, &'a [u32]))>)>,
-) -> Result<Vec<(u32, FieldTerms<'a>)>, NoMemory>
-    ensures same { IfOk result (λ sorted. (field : ℕ) (bytes : List ℕ) → at_field field bytes (fields_in sorted.items) ≡ at_field field bytes (fields_lent fields.entry.items)) }
-    ensures fields { IfOk result (λ sorted. keys (fields_in sorted.items) ≡ keys (fields_lent fields.entry.items)) }
-    ensures rising { IfOk result (λ sorted. AreAllRising (fields_in sorted.items)) }
-{
-    let mut sorted = Vec::new(alloc);
-    'fields: for (field, entries) in fields {
-        let mut entries = entries;
-        sort_entries(&mut entries)?;
-        sorted.push((field, FieldTerms::Words(entries)))?;
-    }
-    Ok(sorted)
-}
-
-/// Puts the numbers of each field in order; those of one number keep their order.
-pub(crate) fn sorted_numbers(
-    alloc: Global,
-    fields: Vec<(u32, Vec<([u8; 8], u32)>)>,
-) -> Result<Vec<(u32, Vec<([u8; 8], u32)>)>, NoMemory>
-    ensures same { IfOk result (λ sorted. (field : ℕ) (bytes : List ℕ) → at_field field bytes (fields_of_keys sorted.items) ≡ at_field field bytes (fields_of_keys fields.items)) }
-    ensures fields { IfOk result (λ sorted. keys (fields_of_keys sorted.items) ≡ keys (fields_of_keys fields.items)) }
-    ensures rising { IfOk result (λ sorted. AreAllRising (fields_of_keys sorted.items)) }
-{
-    let mut sorted = Vec::new(alloc);
-    'fields: for (field, entries) in fields {
-        let mut entries = entries;
-        sort_numbers(&mut entries)?;
-        sorted.push((field, entries))?;
-    }
-    Ok(sorted)
-}
-
-/// Adds fields of numbers.
-pub(crate) fn add_numbers<'a>(
-    numbers: &'a [(u32, Vec<([u8; 8], u32)>)],
+/// Adds fields of words, each with its words in order; those of one term keep their order.
+pub(crate) fn add_words<'a>(
+    words: Vec<(u32, Vec<(&'a Word, u32)>)>,
     into: &mut Vec<(u32, FieldTerms<'a>)>,
 ) -> Result<(), NoMemory>
-    ensures { OnOk result (fields_in into.new.items ≡ fields_in into.old.items ++ fields_of_keys numbers.now) }
+    ensures { OnOk result (AddSorted (word_fields words.entry.items) (fields_in into.old.items) (fields_in into.new.items)) }
 {
-    'numbers: for (field, entries) in numbers {
-        into.push((*field, FieldTerms::Numbers(entries.as_slice())))?;
+    'fields: for (field, entries) in words {
+        let mut entries = entries;
+        sort_entries(&mut entries)?;
+        into.push((field, FieldTerms::Words(entries)))?;
+    }
+    Ok(())
+}
+
+/// Adds fields of keywords, each with its keywords in order; those of one term keep their order.
+pub(crate) fn add_keywords<'a>(
+    alloc: Global,
+    keywords: &[(u32, Vec<(u32, &'a KeywordField)>)],
+    into: &mut Vec<(u32, FieldTerms<'a>)>,
+) -> Result<(), NoMemory>
+    ensures { OnOk result (AddSorted (keyword_fields keywords.now) (fields_in into.old.items) (fields_in into.new.items)) }
+{
+    'fields: for (field, rows) in keywords {
+        let mut entries = keywords_of(alloc, rows.as_slice())?;
+        sort_entries(&mut entries)?;
+        into.push((*field, FieldTerms::Keywords(entries)))?;
+    }
+    Ok(())
+}
+
+/// Adds fields of numbers, each with its numbers in order; those of one number keep their order.
+pub(crate) fn add_numbers(
+    alloc: Global,
+    numbers: &[(u32, Vec<(u32, &NumberField)>)],
+    into: &mut Vec<(u32, FieldTerms<'_>)>,
+) -> Result<(), NoMemory>
+    ensures { OnOk result (AddSorted (number_fields numbers.now) (fields_in into.old.items) (fields_in into.new.items)) }
+{
+    'fields: for (field, rows) in numbers {
+        let mut entries = keys_of(alloc, rows.as_slice())?;
+        sort_numbers(&mut entries)?;
+        into.push((*field, FieldTerms::Numbers(entries)))?;
     }
     Ok(())
 }
 
 /// Sorts the terms of a field by their bytes; those of one term keep their order.
-fn sort_entries(entries: &mut Vec<(&[u8], (u32, &[u32]))>) -> Result<(), NoMemory>
-    ensures same { OnOk result ((bytes : List ℕ) → of_key (slice_cmp nat_cmp) bytes (entries_lent entries.new.items) ≡ of_key (slice_cmp nat_cmp) bytes (entries_lent entries.old.items)) }
-    ensures rising { OnOk result (AreRising (slice_cmp nat_cmp) (entries_lent entries.new.items)) }
+fn sort_entries<T: Term>(entries: &mut Vec<(T, u32)>) -> Result<(), NoMemory>
+    ensures same { OnOk result ((bytes : List ℕ) → of_key (slice_cmp nat_cmp) bytes (entries_seen T.bytes T.positions entries.new.items) ≡ of_key (slice_cmp nat_cmp) bytes (entries_seen T.bytes T.positions entries.old.items)) }
+    ensures rising { OnOk result (AreRising (slice_cmp nat_cmp) (entries_seen T.bytes T.positions entries.new.items)) }
 {
     sort_by_rank(entries)?;
-    sort(entries)?;
+    sort_by_bytes(entries)?;
     Ok(())
 }
 
 /// Sorts the terms of a field by the number that their first bytes are, which costs far less than a sort by all of their bytes,
 /// and leaves that sort little to do: where no two terms begin with the same eight bytes, it finds them in order.
-fn sort_by_rank(entries: &mut Vec<(&[u8], (u32, &[u32]))>) -> Result<(), NoMemory>
-    ensures { OnOk result ((bytes : List ℕ) → of_key (slice_cmp nat_cmp) bytes (entries_lent entries.new.items) ≡ of_key (slice_cmp nat_cmp) bytes (entries_lent entries.old.items)) }
+fn sort_by_rank<T: Term>(entries: &mut Vec<(T, u32)>) -> Result<(), NoMemory>
+    ensures { OnOk result ((bytes : List ℕ) → of_key (slice_cmp nat_cmp) bytes (entries_seen T.bytes T.positions entries.new.items) ≡ of_key (slice_cmp nat_cmp) bytes (entries_seen T.bytes T.positions entries.old.items)) }
 {
-    entries.sort_by_cached_key(|entry| rank(entry.0))?;
+    entries.sort_by_cached_key(|entry| rank(entry.0.bytes()))?;
     Ok(())
 }
 
 /// Sorts the numbers of a field by their keys; those of one number keep their order.
 fn sort_numbers(entries: &mut Vec<([u8; 8], u32)>) -> Result<(), NoMemory>
-    ensures same { OnOk result ((bytes : List ℕ) → of_key (slice_cmp nat_cmp) bytes (entries_of_keys entries.new.items) ≡ of_key (slice_cmp nat_cmp) bytes (entries_of_keys entries.old.items)) }
-    ensures rising { OnOk result (AreRising (slice_cmp nat_cmp) (entries_of_keys entries.new.items)) }
+    ensures same { OnOk result ((bytes : List ℕ) → of_key (slice_cmp nat_cmp) bytes (map key_entry entries.new.items) ≡ of_key (slice_cmp nat_cmp) bytes (map key_entry entries.old.items)) }
+    ensures rising { OnOk result (AreRising (slice_cmp nat_cmp) (map key_entry entries.new.items)) }
 {
     sort_by_number(entries)?;
-    sort(entries)?;
+    sort_by_bytes(entries)?;
     Ok(())
 }
 
 /// Sorts the numbers of a field by what their keys are as numbers, which costs less than a sort by the bytes of the keys, and
 /// leaves that sort nothing to do but to find them in order.
 fn sort_by_number(entries: &mut Vec<([u8; 8], u32)>) -> Result<(), NoMemory>
-    ensures { OnOk result ((bytes : List ℕ) → of_key (slice_cmp nat_cmp) bytes (entries_of_keys entries.new.items) ≡ of_key (slice_cmp nat_cmp) bytes (entries_of_keys entries.old.items)) }
+    ensures { OnOk result ((bytes : List ℕ) → of_key (slice_cmp nat_cmp) bytes (map key_entry entries.new.items) ≡ of_key (slice_cmp nat_cmp) bytes (map key_entry entries.old.items)) }
 {
     entries.sort_by_key(|entry| u64::from_be_bytes(entry.0))?;
+    Ok(())
+}
+
+/// Sorts the terms of a field by their bytes, by comparing these; those of one term keep their order.
+fn sort_by_bytes<T: Term>(entries: &mut Vec<(T, u32)>) -> Result<(), NoMemory>
+    ensures same { OnOk result ((bytes : List ℕ) → of_key (slice_cmp nat_cmp) bytes (entries_seen T.bytes T.positions entries.new.items) ≡ of_key (slice_cmp nat_cmp) bytes (entries_seen T.bytes T.positions entries.old.items)) }
+    ensures rising { OnOk result (AreRising (slice_cmp nat_cmp) (entries_seen T.bytes T.positions entries.new.items)) }
+{
+    entries.sort_by(|one, other| one.0.bytes().cmp(other.0.bytes()))?;
     Ok(())
 }
 
@@ -145,20 +212,19 @@ fn byte_at(bytes: &[u8], at: usize) -> u8
 /// them and is known behind them: until then a 0 stands there.
 pub(crate) fn put_terms<'a>(
     alloc: Global,
-    fields: Vec<(u32, FieldTerms<'a>)>,
+    fields: &'a [(u32, FieldTerms<'_>)],
     into: &mut Vec<u8>,
 ) -> Result<Vec<(u32, &'a [u8])>, NoMemory>
-    requires { (documents : ℕ) × (terms : List ((ℕ × List ℕ) × (ℕ × List ℕ))) × AreTermEntries documents terms × AreGroups term_cmp terms (map row_group (rows_in fields.items)) }
-    ensures terms { IfOk result (λ terms. terms_lent terms.items ≡ terms_in (rows_in fields.entry.items)) }
-    ensures rows { OnOk result (AreRows (rows_in fields.entry.items)) }
-    ensures text { OnOk result (into.new.items ≡ into.old.items ++ rows_text (rows_in fields.entry.items)) }
+    requires { (documents : ℕ) × (terms : List ((ℕ × List ℕ) × (ℕ × List ℕ))) × AreTermEntries documents terms × AreGroups term_cmp terms (map row_group (rows_in fields.now)) }
+    ensures terms { IfOk result (λ terms. terms_lent terms.items ≡ terms_in (rows_in fields.now)) }
+    ensures rows { OnOk result (AreRows (rows_in fields.now)) }
+    ensures text { OnOk result (into.new.items ≡ into.old.items ++ rows_text (rows_in fields.now)) }
 {
     let at = into.len();
     put_u64(into, 0)?;
     let mut terms = Vec::new(alloc);
-    put_fields(fields.as_slice(), &mut terms, into)?;
+    put_fields(fields, &mut terms, into)?;
     overwrite_u64(into, at, terms.len() as u64);
-    terms.shrink_to_fit();
     Ok(terms)
 }
 
@@ -184,7 +250,7 @@ fn overwrite(into: &mut [u8], bytes: &[u8])
 
 /// Appends the rows of fields, and adds their terms.
 fn put_fields<'a>(
-    fields: &[(u32, FieldTerms<'a>)],
+    fields: &'a [(u32, FieldTerms<'_>)],
     terms: &mut Vec<(u32, &'a [u8])>,
     into: &mut Vec<u8>,
 ) -> Result<(), NoMemory>
@@ -201,7 +267,7 @@ fn put_fields<'a>(
 /// Appends the rows of a field, and adds its terms.
 fn put_field<'a>(
     field: u32,
-    own: &FieldTerms<'a>,
+    own: &'a FieldTerms<'_>,
     terms: &mut Vec<(u32, &'a [u8])>,
     into: &mut Vec<u8>,
 ) -> Result<(), NoMemory>
@@ -214,29 +280,34 @@ fn put_field<'a>(
             put_rows(field, entries.as_slice(), terms, into)?;
             Ok(())
         }
+        FieldTerms::Keywords(entries) => {
+            put_rows(field, entries.as_slice(), terms, into)?;
+            Ok(())
+        }
         FieldTerms::Numbers(entries) => {
-            put_number_rows(field, *entries, terms, into)?;
+            put_rows(field, entries.as_slice(), terms, into)?;
             Ok(())
         }
     }
 }
 
 /// Appends the rows of a field's entries, whose terms rise, and adds their terms, each once.
-fn put_rows<'a>(
+fn put_rows<'a, T: Term>(
     field: u32,
-    entries: &[(&'a [u8], (u32, &'a [u32]))],
+    entries: &'a [(T, u32)],
     terms: &mut Vec<(u32, &'a [u8])>,
     into: &mut Vec<u8>,
 ) -> Result<(), NoMemory>
-    requires { AllByRecursion IsRow (field_rows field (entries_lent entries.now)) }
-    ensures terms { OnOk result (terms_lent terms.new.items ≡ terms_lent terms.old.items ++ terms_in (field_rows field (entries_lent entries.now))) }
-    ensures text { OnOk result (into.new.items ≡ into.old.items ++ flat_map row_text (field_rows field (entries_lent entries.now))) }
+    requires { AllByRecursion IsRow (field_rows field (entries_seen T.bytes T.positions entries.now)) }
+    ensures terms { OnOk result (terms_lent terms.new.items ≡ terms_lent terms.old.items ++ terms_in (field_rows field (entries_seen T.bytes T.positions entries.now))) }
+    ensures text { OnOk result (into.new.items ≡ into.old.items ++ flat_map row_text (field_rows field (entries_seen T.bytes T.positions entries.now))) }
 {
     let mut at = 0;
     'rows: while at < entries.len() {
-        let bytes = entries[at].0;
+        let term = &entries[at].0;
+        let bytes = term.bytes();
         let rest = entries.split_at(at).1;
-        let count = run_len(&bytes, rest);
+        let count = run_len(bytes, rest);
         terms.push((field, bytes))?;
         put_row(field, bytes, rest.split_at(count).0, into)?;
         at += count;
@@ -244,15 +315,30 @@ fn put_rows<'a>(
     Ok(())
 }
 
+/// How many entries in front are of a term. The first of them is.
+fn run_len<T: Term>(bytes: &[u8], entries: &[(T, u32)]) -> usize
+    requires { 0 < run_length (slice_cmp nat_cmp) bytes.now (entries_seen T.bytes T.positions entries.now) }
+    ensures run { result ≡ run_length (slice_cmp nat_cmp) bytes.now (entries_seen T.bytes T.positions entries.now) }
+    ensures within { result ≤ length entries.now }
+{
+    'entries: for at in 1..entries.len() {
+        let term = &entries[at].0;
+        if bytes.cmp(term.bytes()).is_ne() {
+            return at;
+        }
+    }
+    entries.len()
+}
+
 /// Appends a term, and the postings of entries behind their number.
-fn put_row(
+fn put_row<T: Term>(
     field: u32,
     bytes: &[u8],
-    run: &[(&[u8], (u32, &[u32]))],
+    run: &[(T, u32)],
     into: &mut Vec<u8>,
 ) -> Result<(), NoMemory>
-    requires { IsRow (field_row field (bytes.now, members (entries_lent run.now))) }
-    ensures { OnOk result (into.new.items ≡ into.old.items ++ row_text (field_row field (bytes.now, members (entries_lent run.now)))) }
+    requires { IsRow (field_row field (bytes.now, members (entries_seen T.bytes T.positions run.now))) }
+    ensures { OnOk result (into.new.items ≡ into.old.items ++ row_text (field_row field (bytes.now, members (entries_seen T.bytes T.positions run.now)))) }
 {
     put_u32(into, field)?;
     put_string(into, bytes)?;
@@ -262,12 +348,12 @@ fn put_row(
 }
 
 /// Appends the postings of entries.
-fn put_postings(entries: &[(&[u8], (u32, &[u32]))], into: &mut Vec<u8>) -> Result<(), NoMemory>
-    requires { All (λ entry. length entry.1.1.now < 2 ^ 32) entries.now }
-    ensures { OnOk result (into.new.items ≡ into.old.items ++ flat_map posting_text (members (entries_lent entries.now))) }
+fn put_postings<T: Term>(entries: &[(T, u32)], into: &mut Vec<u8>) -> Result<(), NoMemory>
+    requires { All (λ entry. length (T.positions entry.0) < 2 ^ 32) entries.now }
+    ensures { OnOk result (into.new.items ≡ into.old.items ++ flat_map posting_text (members (entries_seen T.bytes T.positions entries.now))) }
 {
-    'entries: for (_, (doc, positions)) in entries {
-        put_posting(*doc, *positions, into)?;
+    'entries: for (term, doc) in entries {
+        put_posting(*doc, term.positions(), into)?;
     }
     Ok(())
 }
@@ -281,57 +367,6 @@ fn put_posting(doc: u32, positions: &[u32], into: &mut Vec<u8>) -> Result<(), No
     put_u32(into, positions.len() as u32)?;
     'positions: for position in positions {
         put_u32(into, *position)?;
-    }
-    Ok(())
-}
-
-/// Appends the rows of a field's numbers, which rise, and adds their keys, each once.
-fn put_number_rows<'a>(
-    field: u32,
-    entries: &'a [([u8; 8], u32)],
-    terms: &mut Vec<(u32, &'a [u8])>,
-    into: &mut Vec<u8>,
-) -> Result<(), NoMemory>
-    requires { AllByRecursion IsRow (field_rows field (entries_of_keys entries.now)) }
-    ensures terms { OnOk result (terms_lent terms.new.items ≡ terms_lent terms.old.items ++ terms_in (field_rows field (entries_of_keys entries.now))) }
-    ensures text { OnOk result (into.new.items ≡ into.old.items ++ flat_map row_text (field_rows field (entries_of_keys entries.now))) }
-{
-    let mut at = 0;
-    'rows: while at < entries.len() {
-        let key = &entries[at].0;
-        let rest = entries.split_at(at).1;
-        let count = run_len(key, rest);
-        let bytes = key.as_slice();
-        terms.push((field, bytes))?;
-        put_number_row(field, bytes, rest.split_at(count).0, into)?;
-        at += count;
-    }
-    Ok(())
-}
-
-/// Appends the key of a number, and the documents of entries behind their number.
-fn put_number_row(
-    field: u32,
-    key: &[u8],
-    run: &[([u8; 8], u32)],
-    into: &mut Vec<u8>,
-) -> Result<(), NoMemory>
-    requires { IsRow (field_row field (key.now, members (entries_of_keys run.now))) }
-    ensures { OnOk result (into.new.items ≡ into.old.items ++ row_text (field_row field (key.now, members (entries_of_keys run.now)))) }
-{
-    put_u32(into, field)?;
-    put_string(into, key)?;
-    put_u32(into, run.len() as u32)?;
-    put_documents(run, into)?;
-    Ok(())
-}
-
-/// Appends the documents of entries, each with no positions.
-fn put_documents(entries: &[([u8; 8], u32)], into: &mut Vec<u8>) -> Result<(), NoMemory>
-    ensures { OnOk result (into.new.items ≡ into.old.items ++ flat_map posting_text (members (entries_of_keys entries.now))) }
-{
-    'entries: for (_, doc) in entries {
-        put_posting(*doc, &[], into)?;
     }
     Ok(())
 }

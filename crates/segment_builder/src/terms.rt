@@ -1,250 +1,142 @@
-//! The terms of documents, put together by field: words and keywords, and apart from them numbers.
+//! The keywords and the numbers of a field as terms, each once in a document.
 
-ghost use Rattle.std.specs.Prelude.{◌≡◌, ◌<◌, ◌^◌, ◌++◌, ◌∷◌, [], length, map, IfOk, OnOk};
-ghost use Rattle.std.specs.Ordering.{nat_cmp};
+ghost use Rattle.std.specs.Prelude.{◌≡◌, ◌++◌, map, IfOk, OnOk};
 ghost use Rattle.term_table.specs.Keys.{number_key};
-ghost use Rattle.flattener.specs.Seen.{word_seen};
-ghost use Rattle.segment_builder.specs.Entries.{bytes_lent, entries_in, flats_lent, keywords_lent, numbers_lent};
-ghost use Rattle.segment_builder.specs.Groups.{groups_seen, AreOrdered};
-ghost use Rattle.segment_builder.specs.Parts.{tagged};
-ghost use Rattle.segment_builder.specs.Terms.{terms_at, unless_same, once_after, once, fields_lent, fields_of_keys, keyword_terms, number_terms, ArePut};
+ghost use Rattle.segment_builder.specs.Columns.{keyword_rows, number_rows};
+ghost use Rattle.segment_builder.specs.Entries.{bytes_lent};
+ghost use Rattle.segment_builder.specs.Terms.{entries_at, key_entry, keyword_entry, keyword_entries, number_entries, once, once_after, unless_same};
 
 use crate::NoMemory;
-use crate::by_field::{KnownPlaces, put};
-use flattener::{Document, Keyword, Word};
+use flattener::{Keyword, KeywordField, NumberField};
 use std::alloc::Global;
 use term_table::number_key;
 
-/// The words and the keywords of documents by field.
-pub(crate) fn fields_of<'a>(
+/// The keywords of a field.
+pub(crate) fn keywords_of<'a>(
     alloc: Global,
-    documents: &[&'a Document],
-    keywords: &[(u32, (u32, &'a [Keyword]))],
-) -> Result<Vec<(u32, Vec<(&'a [u8], (u32, &'a [u32]))>)>, NoMemory>
-    requires few { length documents.now < 2 ^ 32 }
-    requires keywords { keywords_lent keywords.now ≡ (entries_in (flats_lent documents.now)).keywords }
-    ensures put { IfOk result (λ fields. ArePut ((entries_in (flats_lent documents.now)).words ++ keyword_terms (entries_in (flats_lent documents.now)).keywords) [] (fields_lent fields.items)) }
-    ensures ordered { IfOk result (λ fields. AreOrdered nat_cmp (groups_seen fields.items)) }
+    rows: &[(u32, &'a KeywordField)],
+) -> Result<Vec<(&'a Keyword, u32)>, NoMemory>
+    ensures { IfOk result (λ entries. map keyword_entry entries.items ≡ keyword_entries (keyword_rows rows.now)) }
 {
-    let mut known = KnownPlaces::new();
-    let mut fields = Vec::new(alloc);
-    put_words_of(alloc, documents, &mut known, &mut fields)?;
-    put_keyword_terms(alloc, keywords, &mut known, &mut fields)?;
-    Ok(fields)
-}
-
-/// Adds the words of documents.
-fn put_words_of<'a>(
-    alloc: Global,
-    documents: &[&'a Document],
-    known: &mut KnownPlaces,
-    into: &mut Vec<(u32, Vec<(&'a [u8], (u32, &'a [u32]))>)>,
-) -> Result<(), NoMemory>
-    requires few { length documents.now < 2 ^ 32 }
-    requires ordered { AreOrdered nat_cmp (groups_seen into.old.items) }
-    ensures put { OnOk result (ArePut ((entries_in (flats_lent documents.now)).words) (fields_lent into.old.items) (fields_lent into.new.items)) }
-    ensures ordered { OnOk result (AreOrdered nat_cmp (groups_seen into.new.items)) }
-{
-    'documents: for doc in 0..documents.len() {
-        put_words(
-            alloc,
-            doc as u32,
-            documents[doc].words.as_slice(),
-            known,
-            into,
-        )?;
+    let mut entries = Vec::with_capacity(alloc, keyword_count(rows))?;
+    'rows: for (doc, field) in rows {
+        put_keywords(*doc, *field, &mut entries)?;
     }
-    Ok(())
+    Ok(entries)
 }
 
-/// Adds the words of a document.
-fn put_words<'a>(
-    alloc: Global,
-    doc: u32,
-    words: &'a [Word],
-    known: &mut KnownPlaces,
-    into: &mut Vec<(u32, Vec<(&'a [u8], (u32, &'a [u32]))>)>,
-) -> Result<(), NoMemory>
-    requires ordered { AreOrdered nat_cmp (groups_seen into.old.items) }
-    ensures put { OnOk result (ArePut (tagged doc (map word_seen words.now)) (fields_lent into.old.items) (fields_lent into.new.items)) }
-    ensures ordered { OnOk result (AreOrdered nat_cmp (groups_seen into.new.items)) }
-{
-    'words: for word in words {
-        let bytes = word.word.as_slice();
-        put_term(
-            alloc,
-            word.field,
-            bytes,
-            doc,
-            word.positions.as_slice(),
-            known,
-            into,
-        )?;
+/// How many keywords rows have.
+pub(crate) fn keyword_count(rows: &[(u32, &KeywordField)]) -> usize {
+    let mut count: usize = 0;
+    'rows: for (_, field) in rows {
+        count = count.saturating_add(field.values.len());
     }
-    Ok(())
+    count
 }
 
-/// Adds keywords, each once in a document.
-fn put_keyword_terms<'a>(
-    alloc: Global,
-    keywords: &[(u32, (u32, &'a [Keyword]))],
-    known: &mut KnownPlaces,
-    into: &mut Vec<(u32, Vec<(&'a [u8], (u32, &'a [u32]))>)>,
-) -> Result<(), NoMemory>
-    requires ordered { AreOrdered nat_cmp (groups_seen into.old.items) }
-    ensures put { OnOk result (ArePut (keyword_terms (keywords_lent keywords.now)) (fields_lent into.old.items) (fields_lent into.new.items)) }
-    ensures ordered { OnOk result (AreOrdered nat_cmp (groups_seen into.new.items)) }
-{
-    'entries: for (field, (doc, values)) in keywords {
-        put_keywords(alloc, *field, *doc, *values, known, into)?;
-    }
-    Ok(())
-}
-
-/// Adds the keywords of a field in one document, each once.
+/// Adds the keywords of a field in one document.
 fn put_keywords<'a>(
-    alloc: Global,
-    field: u32,
     doc: u32,
-    values: &'a [Keyword],
-    known: &mut KnownPlaces,
-    into: &mut Vec<(u32, Vec<(&'a [u8], (u32, &'a [u32]))>)>,
+    field: &'a KeywordField,
+    into: &mut Vec<(&'a Keyword, u32)>,
 ) -> Result<(), NoMemory>
-    requires ordered { AreOrdered nat_cmp (groups_seen into.old.items) }
-    ensures put { OnOk result (ArePut (terms_at field doc (once (bytes_lent values.now))) (fields_lent into.old.items) (fields_lent into.new.items)) }
-    ensures ordered { OnOk result (AreOrdered nat_cmp (groups_seen into.new.items)) }
+    ensures { OnOk result (map keyword_entry into.new.items ≡ map keyword_entry into.old.items ++ entries_at doc (once (bytes_lent field.now.values.items))) }
 {
-    match values {
+    match field.values.as_slice() {
         [] => Ok(()),
         [first, rest @ ..] => {
-            put_term(alloc, field, first.as_slice(), doc, &[], known, into)?;
-            put_later_keywords(alloc, field, doc, first.as_slice(), rest, known, into)?;
+            into.push((first, doc))?;
+            put_later_keywords(doc, first.as_slice(), rest, into)?;
             Ok(())
         }
     }
 }
 
-/// Adds keywords that come behind one, each once.
+/// Adds keywords that come behind one.
 fn put_later_keywords<'a>(
-    alloc: Global,
-    field: u32,
     doc: u32,
     first: &[u8],
     rest: &'a [Keyword],
-    known: &mut KnownPlaces,
-    into: &mut Vec<(u32, Vec<(&'a [u8], (u32, &'a [u32]))>)>,
+    into: &mut Vec<(&'a Keyword, u32)>,
 ) -> Result<(), NoMemory>
-    requires ordered { AreOrdered nat_cmp (groups_seen into.old.items) }
-    ensures put { OnOk result (ArePut (terms_at field doc (once_after first.now (bytes_lent rest.now))) (fields_lent into.old.items) (fields_lent into.new.items)) }
-    ensures ordered { OnOk result (AreOrdered nat_cmp (groups_seen into.new.items)) }
+    ensures { OnOk result (map keyword_entry into.new.items ≡ map keyword_entry into.old.items ++ entries_at doc (once_after first.now (bytes_lent rest.now))) }
 {
     let mut last = first;
     'rest: for value in rest {
-        let own = value.as_slice();
-        put_unless_same(alloc, field, doc, last, own, known, into)?;
-        last = own;
+        put_unless_same(doc, last, value, into)?;
+        last = value.as_slice();
     }
     Ok(())
 }
 
-/// Adds a term without positions, unless it is the one before it.
+/// Adds a keyword, unless it is the one before it.
 fn put_unless_same<'a>(
-    alloc: Global,
-    field: u32,
     doc: u32,
     last: &[u8],
-    value: &'a [u8],
-    known: &mut KnownPlaces,
-    into: &mut Vec<(u32, Vec<(&'a [u8], (u32, &'a [u32]))>)>,
+    value: &'a Keyword,
+    into: &mut Vec<(&'a Keyword, u32)>,
 ) -> Result<(), NoMemory>
-    requires ordered { AreOrdered nat_cmp (groups_seen into.old.items) }
-    ensures put { OnOk result (ArePut (terms_at field doc (unless_same last.now value.now)) (fields_lent into.old.items) (fields_lent into.new.items)) }
-    ensures ordered { OnOk result (AreOrdered nat_cmp (groups_seen into.new.items)) }
+    ensures { OnOk result (map keyword_entry into.new.items ≡ map keyword_entry into.old.items ++ entries_at doc (unless_same last.now value.now.items)) }
 {
-    if value == last {
+    if value.as_slice() == last {
         Ok(())
     } else {
-        put_term(alloc, field, value, doc, &[], known, into)?;
+        into.push((value, doc))?;
         Ok(())
     }
 }
 
-/// Adds a term of a document, with its positions there.
-fn put_term<'a>(
+/// The keys of the numbers of a field.
+pub(crate) fn keys_of(
     alloc: Global,
-    field: u32,
-    bytes: &'a [u8],
-    doc: u32,
-    positions: &'a [u32],
-    known: &mut KnownPlaces,
-    into: &mut Vec<(u32, Vec<(&'a [u8], (u32, &'a [u32]))>)>,
-) -> Result<(), NoMemory>
-    requires ordered { AreOrdered nat_cmp (groups_seen into.old.items) }
-    ensures put { OnOk result (ArePut (((field, bytes.now), (doc, positions.now)) ∷ []) (fields_lent into.old.items) (fields_lent into.new.items)) }
-    ensures ordered { OnOk result (AreOrdered nat_cmp (groups_seen into.new.items)) }
+    rows: &[(u32, &NumberField)],
+) -> Result<Vec<([u8; 8], u32)>, NoMemory>
+    ensures { IfOk result (λ entries. map key_entry entries.items ≡ number_entries (number_rows rows.now)) }
 {
-    put(alloc, field, (bytes, (doc, positions)), known, into)?;
-    Ok(())
-}
-
-/// The keys of the numbers of documents by field, each once in a document.
-pub(crate) fn number_fields_of(
-    alloc: Global,
-    numbers: &[(u32, (u32, &[i64]))],
-) -> Result<Vec<(u32, Vec<([u8; 8], u32)>)>, NoMemory>
-    ensures put { IfOk result (λ fields. ArePut (number_terms (numbers_lent numbers.now)) [] (fields_of_keys fields.items)) }
-    ensures ordered { IfOk result (λ fields. AreOrdered nat_cmp (groups_seen fields.items)) }
-{
-    let mut known = KnownPlaces::new();
-    let mut fields = Vec::new(alloc);
-    'entries: for (field, (doc, values)) in numbers {
-        put_keys(alloc, *field, *doc, *values, &mut known, &mut fields)?;
+    let mut entries = Vec::with_capacity(alloc, number_count(rows))?;
+    'rows: for (doc, field) in rows {
+        put_keys(*doc, field.values.as_slice(), &mut entries)?;
     }
-    Ok(fields)
+    Ok(entries)
 }
 
-/// Adds the keys of the numbers of a field in one document, each once.
-fn put_keys(
-    alloc: Global,
-    field: u32,
-    doc: u32,
-    values: &[i64],
-    known: &mut KnownPlaces,
-    into: &mut Vec<(u32, Vec<([u8; 8], u32)>)>,
-) -> Result<(), NoMemory>
-    requires ordered { AreOrdered nat_cmp (groups_seen into.old.items) }
-    ensures put { OnOk result (ArePut (terms_at field doc (once (map number_key values.now))) (fields_of_keys into.old.items) (fields_of_keys into.new.items)) }
-    ensures ordered { OnOk result (AreOrdered nat_cmp (groups_seen into.new.items)) }
+/// How many numbers rows have.
+pub(crate) fn number_count(rows: &[(u32, &NumberField)]) -> usize {
+    let mut count: usize = 0;
+    'rows: for (_, field) in rows {
+        count = count.saturating_add(field.values.len());
+    }
+    count
+}
+
+/// Adds the keys of the numbers of a field in one document.
+fn put_keys(doc: u32, values: &[i64], into: &mut Vec<([u8; 8], u32)>) -> Result<(), NoMemory>
+    ensures { OnOk result (map key_entry into.new.items ≡ map key_entry into.old.items ++ entries_at doc (once (map number_key values.now))) }
 {
     match values {
         [] => Ok(()),
         [first, rest @ ..] => {
             let key = number_key(*first);
-            put_key(alloc, field, doc, key, known, into)?;
-            put_later_keys(alloc, field, doc, key, rest, known, into)?;
+            into.push((key, doc))?;
+            put_later_keys(doc, key, rest, into)?;
             Ok(())
         }
     }
 }
 
-/// Adds the keys of numbers that come behind one, each once.
+/// Adds the keys of numbers that come behind one.
 fn put_later_keys(
-    alloc: Global,
-    field: u32,
     doc: u32,
     first: [u8; 8],
     rest: &[i64],
-    known: &mut KnownPlaces,
-    into: &mut Vec<(u32, Vec<([u8; 8], u32)>)>,
+    into: &mut Vec<([u8; 8], u32)>,
 ) -> Result<(), NoMemory>
-    requires ordered { AreOrdered nat_cmp (groups_seen into.old.items) }
-    ensures put { OnOk result (ArePut (terms_at field doc (once_after first (map number_key rest.now))) (fields_of_keys into.old.items) (fields_of_keys into.new.items)) }
-    ensures ordered { OnOk result (AreOrdered nat_cmp (groups_seen into.new.items)) }
+    ensures { OnOk result (map key_entry into.new.items ≡ map key_entry into.old.items ++ entries_at doc (once_after first (map number_key rest.now))) }
 {
     let mut last = first;
     'rest: for value in rest {
         let key = number_key(*value);
-        put_key_unless_same(alloc, field, doc, last, key, known, into)?;
+        put_key_unless_same(doc, last, key, into)?;
         last = key;
     }
     Ok(())
@@ -252,39 +144,17 @@ fn put_later_keys(
 
 /// Adds a key, unless it is the one before it.
 fn put_key_unless_same(
-    alloc: Global,
-    field: u32,
     doc: u32,
     last: [u8; 8],
     key: [u8; 8],
-    known: &mut KnownPlaces,
-    into: &mut Vec<(u32, Vec<([u8; 8], u32)>)>,
+    into: &mut Vec<([u8; 8], u32)>,
 ) -> Result<(), NoMemory>
-    requires ordered { AreOrdered nat_cmp (groups_seen into.old.items) }
-    ensures put { OnOk result (ArePut (terms_at field doc (unless_same last key)) (fields_of_keys into.old.items) (fields_of_keys into.new.items)) }
-    ensures ordered { OnOk result (AreOrdered nat_cmp (groups_seen into.new.items)) }
+    ensures { OnOk result (map key_entry into.new.items ≡ map key_entry into.old.items ++ entries_at doc (unless_same last key)) }
 {
     if key.as_slice() == last.as_slice() {
         Ok(())
     } else {
-        put_key(alloc, field, doc, key, known, into)?;
+        into.push((key, doc))?;
         Ok(())
     }
-}
-
-/// Adds the key of a number in a document.
-fn put_key(
-    alloc: Global,
-    field: u32,
-    doc: u32,
-    key: [u8; 8],
-    known: &mut KnownPlaces,
-    into: &mut Vec<(u32, Vec<([u8; 8], u32)>)>,
-) -> Result<(), NoMemory>
-    requires ordered { AreOrdered nat_cmp (groups_seen into.old.items) }
-    ensures put { OnOk result (ArePut (((field, key), (doc, [])) ∷ []) (fields_of_keys into.old.items) (fields_of_keys into.new.items)) }
-    ensures ordered { OnOk result (AreOrdered nat_cmp (groups_seen into.new.items)) }
-{
-    put(alloc, field, (key, doc), known, into)?;
-    Ok(())
 }

@@ -1,4 +1,4 @@
-use Rattle.std.proofs.Common.{refl, subst, ◌∙◌}
+use Rattle.std.proofs.Common.{[], ◌∷◌, ◌++◌, refl, ap, subst, ◌∙◌}
 use Rattle.std.specs.List.Sorted.{IsStrictlySortedBy}
 use Rattle.std.specs.Ordering.{nat_cmp}
 use Rattle.segment_builder.proofs.Inserted.{inserted_in, inserted_ordered, more_in, more_ordered, seen_keys}
@@ -10,12 +10,12 @@ place_from-requires g c = rw c.as_slice.ensures.value (subst (IsStrictlySortedBy
 pub returns-in_ok-push-in-Ok-clause-gather : goal.returns-in_ok-push-in-Ok-clause-gather
 returns-in_ok-push-in-Ok-clause-gather g c = λ any.
     let place = rw c.as_slice.ensures.value at c.in-Ok.ensures.place in
-    more_in any c.args.field c.args.member c.index_mut-group.result.now c.push.new.self c.args.groups.now.items c.in-Ok.place place.0 c.index_mut-group.ensures.value place.1 c.in_ok-push-in-Ok.ensures.items c.requires
+    more_in any c.args.field c.args.member c.index_mut-group.result.now c.push.new.self c.args.groups.now.items c.in-Ok.place place.0 c.index_mut-group.ensures.value place.1 (c.in_ok-push-in-Ok.ensures.items ∙ ap (λ items. items ++ c.args.member ∷ []) c.in_ok-make_room-in-Ok.ensures) c.requires
 
 pub returns-in_ok-push-in-Ok-clause-ordered : goal.returns-in_ok-push-in-Ok-clause-ordered
 returns-in_ok-push-in-Ok-clause-ordered g c =
     let place = rw c.as_slice.ensures.value at c.in-Ok.ensures.place in
-    more_ordered c.args.member c.index_mut-group.result.now c.push.new.self c.args.groups.now.items c.in-Ok.place place.0 c.index_mut-group.ensures.value c.in_ok-push-in-Ok.ensures.items c.requires
+    more_ordered c.args.member c.index_mut-group.result.now c.push.new.self c.args.groups.now.items c.in-Ok.place place.0 c.index_mut-group.ensures.value (c.in_ok-push-in-Ok.ensures.items ∙ ap (λ items. items ++ c.args.member ∷ []) c.in_ok-make_room-in-Ok.ensures) c.requires
 
 pub returns-in_ok-insert-in-Err-clause-gather : goal.returns-in_ok-insert-in-Err-clause-gather
 returns-in_ok-insert-in-Err-clause-gather g c = λ any.

@@ -3,7 +3,7 @@ use Rattle.std.specs.Cmp.Lexicographic.{slice_cmp}
 use Rattle.std.specs.Int.{from_be_bytes}
 use Rattle.std.specs.Ordering.{nat_cmp}
 use Rattle.std.proofs.lemmas.List.Sorted.{answers_always}
-use Rattle.segment_builder.proofs.Lent.{key_entry}
+use Rattle.segment_builder.specs.Terms.{key_entry}
 use Rattle.segment_builder.proofs.Orders.{exact_bytes}
 use Rattle.segment_builder.proofs.Ranked.{kept_at}
 use Rattle.segment_builder.proofs.rows.sort_by_number.Goals as goal
