@@ -23,7 +23,7 @@ ghost use Rattle.bucket_aggs.specs.Sums.{IsKept};
 
 use crate::NoMemory;
 use crate::across::{children_across, parents_across};
-use crate::facets::{facet_asked, facets};
+use crate::facets::facets;
 use crate::metric_answers::{count, greatest, least, sum};
 use crate::metrics::FieldSummary;
 use crate::objects::{alike, count_of, filtered, have_one_score, inside_of};
@@ -542,10 +542,11 @@ fn field_terms(
     requires long { AreLong entries.now objects.now }
     ensures { (given : List Tree → Object → Option ℕ) → IsSeen mapping.now entries.now scope given objects.now → IfOk result (λ value. IsAnswer mapping.now entries.now scope (value_by mapping.now (AggForm.Terms (Some field) size by_key descending) (definitions_of inner.now)) given (value_of value)) }
 {
-    match facet_asked(entries, mapping, field, inner, objects) {
-        Some((name, path)) => Ok(facets(
-            alloc, entries, mapping, field, size, by_key, descending, name, path, scope, objects,
-        )?),
+    let facets = facets(
+        alloc, entries, mapping, field, size, by_key, descending, inner, scope, objects,
+    )?;
+    match facets {
+        Some(value) => Ok(value),
         None => Ok(mapped_terms(
             alloc, entries, mapping, ordinals, field, size, by_key, descending, inner, once, scope,
             objects,

@@ -1,6 +1,6 @@
 //! The terms of a keyword field, counted at once with the objects of a path around those that show them.
 
-ghost use Rattle.std.specs.Prelude.{◌≡◌, ◌-◌, ◌<◌, ◌≤◌, [], true, false, length, map, replicate, count_by, slice_index_or, IfOk, OnOk, Some};
+ghost use Rattle.std.specs.Prelude.{◌≡◌, ◌-◌, ◌<◌, ◌≤◌, [], true, false, length, map, replicate, count_by, slice_index_or, IfOk, IfSome, IsSome, OnOk, Some};
 ghost use Rattle.doc_values.specs.Values.{values_of};
 ghost use Rattle.block_bits.specs.Flags.{is_marked};
 ghost use Rattle.query_ast.specs.Uses.{is_written};
@@ -16,6 +16,7 @@ ghost use Rattle.postings.specs.Marks.{has_document};
 ghost use Rattle.bucket_aggs.specs.Counts.{AreCounts, AreKeys, AreUps, Counted, KeysAscend, UpsWeighed, Weighed, cut_from, flats_of_view, view_ups, weight};
 
 use crate::NoMemory;
+use crate::objects::count_of;
 use crate::posted::mark_term;
 use crate::ranges::terms_of_field;
 use crate::rows::{CountRow, compared, merged};
@@ -30,66 +31,41 @@ use segment_view::Entry;
 use std::alloc::Global;
 use tree_objects::FieldValue;
 
-/// How many terms a field may have in a segment where they are counted at once.
-const MOST_TERMS: u64 = 1024;
-
 /// How many postings, and u64s of the sets of terms, there may be for each document that is counted.
 const WORK_EACH: u64 = 4;
 
-/// Whether the values of a keyword field are counted at once with the objects around those that show them: the postings and the
-/// sets of its terms are small beside the documents.
-pub(crate) fn is_at_once(entries: &[Entry], field: u32, objects: &Matches) -> bool
-    requires { AreLong entries.now objects.now }
-{
-    let objects = objects.as_slice();
-    let mut documents: u64 = 0;
-    let mut work: u64 = 0;
-    'entries: for at in 0..entries.len() {
-        let set = objects[at].set();
-        documents = documents.saturating_add(u64::from(set.count()));
-        work = work.saturating_add(work_of(entries[at].segment(), field, set.len()));
-    }
-    work / WORK_EACH <= documents
-}
-
-/// How many postings the terms of a field have, and u64s the sets of so many documents for each of them.
-fn work_of(segment: &Segment, field: u32, documents: u32) -> u64 {
-    let Some(column) = segment.ordinals(field) else {
-        return 0;
-    };
-    let (first, end) = terms_of_field(&segment.terms(), field, &column);
-    let terms = end - first;
-    if terms > MOST_TERMS {
-        return u64::MAX;
-    }
-    u64::from(column.rows()).saturating_add(terms.saturating_mul(u64::from(documents / 64)))
-}
-
 /// The values of a keyword field, by ascending value, each with the number of objects that show it; and rows of how many
-/// objects of a path are around those, several for a value perhaps.
+/// objects of a path are around those, several for a value perhaps. No more than `shown` of the values are shown.
+///
+/// None where that is much work beside the objects: in segments with more terms than are shown, whose postings and sets are many.
 pub(crate) fn counted_at_once(
     alloc: Global,
     entries: &[Entry],
     kind: Kind,
     field: u32,
+    shown: u32,
     objects: &Matches,
     to: u32,
     ups: &mut Vec<CountRow>,
-) -> Result<Vec<CountRow>, NoMemory>
+) -> Result<Option<Vec<CountRow>>, NoMemory>
     requires written { is_written kind ≡ true }
     requires long { AreLong entries.now objects.now }
     requires none { ups.old.items ≡ [] }
-    ensures counts { IfOk result (λ rows. AreCounts kind field (flats_of_view entries.now objects.now) rows.items) }
-    ensures ups { (v : Value) → OnOk result (weight v ups.new.items ≡ view_ups to kind field entries.now objects.now v) }
+    ensures counts { IfOk result (λ counted. IfSome counted (λ rows. AreCounts kind field (flats_of_view entries.now objects.now) rows.items)) }
+    ensures ups { (v : Value) → IfOk result (λ counted. IsSome counted → weight v ups.new.items ≡ view_ups to kind field entries.now objects.now v) }
 {
+    let documents = count_of(objects)?;
     let objects = objects.as_slice();
     let mut counts = TermCounts {
         own: Vec::new(alloc),
         around: Vec::new(alloc),
+        near: (0, 0),
+        shown: documents.min(u64::from(shown)),
+        work_left: documents.saturating_mul(WORK_EACH),
     };
     let mut rows = Vec::new(alloc);
     'entries: for at in 0..entries.len() {
-        add_at_once(
+        let done = add_at_once(
             alloc,
             entries[at].segment(),
             kind,
@@ -100,19 +76,46 @@ pub(crate) fn counted_at_once(
             &mut rows,
             ups,
         )?;
+        if !done {
+            return Ok(None);
+        }
     }
-    Ok(merged(alloc, rows)?)
+    Ok(Some(merged(alloc, rows)?))
 }
 
-/// How many documents have each term of a field in a segment, by ordinal, and how many documents of a scope are around those; the
-/// memory serves one segment after the other.
+/// What goes from one segment to the next: memory for how many documents have each term of a field, by ordinal, and how many
+/// documents of a scope are around those; where the terms stood; how many terms are shown; and how much work is left for more.
 #[derive(Drop)]
 struct TermCounts {
     own: Vec<u64>,
     around: Vec<u64>,
+    near: (u64, u64),
+    shown: u64,
+    work_left: u64,
 }
 
-/// Adds the values that the documents of a set show, and the objects around those.
+impl TermCounts {
+    /// Whether so many terms with so many postings are counted at once in a segment of so many documents: all may be shown, where
+    /// each would cost as much by itself, or there is work left for them.
+    fn has_room(&mut self, terms: u64, postings: u32, documents: u32) -> bool {
+        if terms <= self.shown {
+            return true;
+        }
+        let words = terms.saturating_mul(u64::from(documents) / 64 + 1);
+        match self
+            .work_left
+            .checked_sub(words.saturating_add(u64::from(postings)))
+        {
+            Some(left) => {
+                self.work_left = left;
+                true
+            }
+            None => false,
+        }
+    }
+}
+
+/// Adds the values that the documents of a set show, and the objects around those; false where that is too much work.
 fn add_at_once(
     alloc: Global,
     segment: &Segment,
@@ -123,27 +126,31 @@ fn add_at_once(
     counts: &mut TermCounts,
     rows: &mut Vec<CountRow>,
     ups: &mut Vec<CountRow>,
-) -> Result<(), NoMemory>
+) -> Result<bool, NoMemory>
     requires written { is_written kind ≡ true }
     requires long { length set.now ≡ segment.now.documents }
-    ensures counts { OnOk result (Weighed kind field (map (flat_of segment.now) (marked_places 0 set.now)) rows.old.items rows.new.items) }
-    ensures keys { AreKeys kind rows.old.items → OnOk result (AreKeys kind rows.new.items) }
-    ensures ups { OnOk result (UpsWeighed segment.now to kind field set.now ups.old.items ups.new.items) }
+    ensures counts { IfOk result (λ done. done ≡ true → Weighed kind field (map (flat_of segment.now) (marked_places 0 set.now)) rows.old.items rows.new.items) }
+    ensures keys { AreKeys kind rows.old.items → IfOk result (λ done. done ≡ true → AreKeys kind rows.new.items) }
+    ensures ups { IfOk result (λ done. done ≡ true → UpsWeighed segment.now to kind field set.now ups.old.items ups.new.items) }
 {
     values_are_of_documents(segment);
     let _documents = segment.docs();
     let Some(column) = segment.ordinals(field) else {
-        return Ok(());
+        return Ok(true);
     };
     let terms = segment.terms();
     let _ascending = terms.count();
-    let (first, end) = terms_of_field(&terms, field, &column);
+    let (first, end) = terms_of_field(&terms, field, counts.near);
+    counts.near = (first, end);
+    if !counts.has_room(end - first, column.rows(), set.len()) {
+        return Ok(false);
+    }
     counts.own.clear();
     counts.around.clear();
     counts_at_once(alloc, segment, field, set, &column, first, end, to, counts)?;
     put_terms(alloc, &terms, first, counts.own.as_slice(), rows)?;
     put_terms(alloc, &terms, first, counts.around.as_slice(), ups)?;
-    Ok(())
+    Ok(true)
 }
 
 /// The counts of the terms of a field in the documents of a set, by ordinal from the field's first up to its end, and of the

@@ -16,11 +16,11 @@ use block_bits::BitSet;
 use doc_values::{Column, ColumnValue, OrdinalColumn, SingleRows, Values};
 use mapping::Kind;
 
-/// How many rows of a column there may be for each document of a set where all rows are walked over.
-const ROWS_EACH: u32 = 2;
+/// How many rows of a column there may be for each document of a set where all rows are walked over: to look for one costs as much.
+const ROWS_EACH: u32 = 8;
 
 /// Whether a set has so many of a column's documents that its rows are walked over.
-pub(crate) fn has_most<T: ColumnValue>(set: &BitSet, column: &Column<T>) -> bool {
+pub(crate) fn has_many<T: ColumnValue>(set: &BitSet, column: &Column<T>) -> bool {
     column.rows() / ROWS_EACH < set.count()
 }
 
@@ -36,7 +36,7 @@ pub(crate) fn single_rows<'a, T: ColumnValue>(column: &Column<'a, T>) -> Option<
 /// Adds the documents of a set to the counts of the ordinals that they have; the first count is that of the ordinal `first`. Each
 /// document of the column has a place in the set.
 ///
-/// Where the set has most documents of the column its rows are walked over, else each document's row is looked for near the one before.
+/// Where the set has many documents of the column its rows are walked over, else each document's row is looked for near the one before.
 pub(crate) fn count_ordinals(
     set: &BitSet,
     column: &OrdinalColumn,
@@ -46,7 +46,7 @@ pub(crate) fn count_ordinals(
     requires { All (λ doc. doc < length set.now) (documents column.now) }
     ensures { OnOk result (Counted first (map (λ doc. values_of doc column.now) (marked_places 0 set.now)) counts.old.items counts.new.items) }
 {
-    if !has_most(set, column) {
+    if !has_many(set, column) {
         return count_documents(set, column, first, counts);
     }
     match single_rows(column) {

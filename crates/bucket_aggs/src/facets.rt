@@ -1,12 +1,9 @@
 //! The buckets of a keyword field of which the number of objects of a path around theirs is all that is asked.
 
-ghost use Rattle.std.specs.Prelude.{◌≡◌, ℕ, true, List, [], ◌∷◌, Option, Some, map, IfOk, IfSome};
-ghost use Rattle.mapping.specs.Mapping.{IsAbove, kind_at};
-ghost use Rattle.query_ast.specs.Agg.{Agg};
-ghost use Rattle.query_ast.specs.Definition.{Definitions, definition, no_definitions, with_definition};
+ghost use Rattle.std.specs.Prelude.{◌≡◌, ℕ, List, [], ◌∷◌, Option, Some, map, IfOk, IfSome};
+ghost use Rattle.query_ast.specs.Definition.{definition, definitions_of, no_definitions};
 ghost use Rattle.query_ast.specs.Replies.View.{bucket_part, value_of};
-ghost use Rattle.query_ast.specs.Resolved.{IsUse};
-ghost use Rattle.query_ast.specs.Uses.{is_written};
+ghost use Rattle.query_ast.specs.Resolved.{AreAggDefinitions, IsUse};
 ghost use Rattle.query_ast.specs.declared.agg.AggForm.{AggForm};
 ghost use Rattle.query_eval.specs.Found.{AreLong, IsSeen};
 ghost use Rattle.tree_objects.specs.Object.{Object};
@@ -15,7 +12,7 @@ ghost use Rattle.bucket_aggs.specs.Counts.{KeysAscend, facet_of};
 ghost use Rattle.bucket_aggs.specs.Given.{IsAnswer, value_by};
 
 use crate::NoMemory;
-use crate::at_once::{count_of_key, counted_at_once, is_at_once};
+use crate::at_once::{count_of_key, counted_at_once};
 use crate::columns::is_text;
 use crate::rows::{CountRow, copied, merged, ordered, sum_of_counts};
 use block_join::Matches;
@@ -27,34 +24,6 @@ use std::alloc::Global;
 use tree_joins::objects_are_parted;
 use tree_objects::{Bytes, objects_nest};
 use view_objects::documents_show_values;
-
-/// The name and the path of the only definition inside a `terms`, where it is a `reverse_nested` with nothing inside and the
-/// field is counted at once with it.
-pub(crate) fn facet_asked<'a>(
-    entries: &[Entry],
-    mapping: &Mapping,
-    field: u32,
-    inner: &'a AggList,
-    objects: &Matches,
-) -> Option<(&'a Bytes, u32)>
-    requires field { IsUse (λ u. u.sorted) mapping.now (Some field) }
-    requires long { AreLong entries.now objects.now }
-    ensures asked { IfSome result (λ both. inner.now ≡ definition (record { name = both.0.now; form = AggForm.ReverseNested both.1 }) no_definitions ∷ []) }
-    ensures written { IfSome result (λ both. is_written (kind_at mapping.now field) ≡ true) }
-{
-    match lone_way_up(inner) {
-        Some((name, path)) => {
-            if !is_text(mapping.kind(field)) {
-                return None;
-            }
-            if is_at_once(entries, field, objects) {
-                return Some((name, path));
-            }
-            None
-        }
-        None => None,
-    }
-}
 
 /// The name and the path of the only one of some definitions, if it is a `reverse_nested` with nothing inside.
 #[tactic(auto, using(crate::proofs::Faceted::lone_way))]
@@ -75,7 +44,8 @@ fn lone_way_up(inner: &AggList) -> Option<(&Bytes, u32)>
     }
 }
 
-/// A bucket for each of the first values of a keyword field, with the number of objects of a path around those that show it.
+/// A bucket for each of the first values of a field, with the number of objects of a path around those that show it. None where
+/// something else is asked of the buckets than that number alone, or the field is no keyword field that is counted at once with it.
 pub(crate) fn facets(
     alloc: Global,
     entries: &[Entry],
@@ -84,43 +54,43 @@ pub(crate) fn facets(
     size: u32,
     by_key: bool,
     descending: bool,
-    name: &Bytes,
-    path: u32,
+    inner: &AggList,
     scope: u32,
     objects: &Matches,
-) -> Result<AggValue, NoMemory>
+) -> Result<Option<AggValue>, NoMemory>
     requires field { IsUse (λ u. u.sorted) mapping.now (Some field) }
-    requires written { is_written (kind_at mapping.now field) ≡ true }
-    requires path { IsAbove mapping.now path scope }
+    requires resolved { AreAggDefinitions mapping.now scope (definitions_of inner.now) }
     requires long { AreLong entries.now objects.now }
-    ensures { (given : List Tree → Object → Option ℕ) (ds : Definitions Agg) → IsSeen mapping.now entries.now scope given objects.now → ds ≡ with_definition (definition (record { name = name.now; form = AggForm.ReverseNested path }) no_definitions) no_definitions
-        → IfOk result (λ value. IsAnswer mapping.now entries.now scope (value_by mapping.now (AggForm.Terms (Some field) size by_key descending) ds) given (value_of value)) }
+    ensures { (given : List Tree → Object → Option ℕ) → IsSeen mapping.now entries.now scope given objects.now
+        → IfOk result (λ found. IfSome found (λ value. IsAnswer mapping.now entries.now scope (value_by mapping.now (AggForm.Terms (Some field) size by_key descending) (definitions_of inner.now)) given (value_of value))) }
 {
     documents_show_values();
     objects_nest();
     objects_are_parted();
     ups_are_counted();
     let _scopes = mapping.scope_count();
+    let kind = mapping.kind(field);
+    if !is_text(kind) {
+        return Ok(None);
+    }
+    let Some((name, path)) = lone_way_up(inner) else {
+        return Ok(None);
+    };
     let mut ups = Vec::new(alloc);
-    let rows = counted_at_once(
-        alloc,
-        entries,
-        mapping.kind(field),
-        field,
-        objects,
-        path,
-        &mut ups,
-    )?;
+    let counted = counted_at_once(alloc, entries, kind, field, size, objects, path, &mut ups)?;
+    let Some(rows) = counted else {
+        return Ok(None);
+    };
     let ups = merged(alloc, ups)?;
     let sorted = ordered(rows, by_key, descending)?;
     let end = sorted.len().min(size as usize);
     let (first, others) = sorted.as_slice().split_at(end);
     let other = sum_of_counts(others)?;
     let buckets = shown_facets(alloc, first, name, ups.as_slice())?;
-    Ok(AggValue::Buckets {
+    Ok(Some(AggValue::Buckets {
         buckets: BucketList::of(buckets),
         other,
-    })
+    }))
 }
 
 /// The buckets of values, in their order, each with the count that rows by ascending key have of it.

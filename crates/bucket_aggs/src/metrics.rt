@@ -14,7 +14,7 @@ ghost use Rattle.bucket_aggs.specs.Sums.{HasRoom, IsAdded, IsAnew, IsKept, IsSum
 ghost use Rattle.bucket_aggs.specs.declared.metrics.Running.{Running};
 
 use crate::NoMemory;
-use crate::columns::{has_most, is_in, is_text, single_rows};
+use crate::columns::{has_many, is_in, is_text, single_rows};
 use block_bits::BitSet;
 use block_join::Matches;
 use doc_values::{Column, ColumnValue, NumberColumn, SingleRows, Values};
@@ -228,7 +228,7 @@ fn own_numbers<'a>(
 
 /// The numbers that the documents of a set have in a segment's column of a field.
 ///
-/// The rows are there if each has one value and most of them are of documents of the set.
+/// The rows are there if each has one value and many of them are of documents of the set.
 #[derive(Drop)]
 struct OwnNumbers<'a> {
     set: &'a BitSet,
@@ -262,7 +262,7 @@ impl<'a> OwnNumbers<'a> {
         let Some(column) = segment.numbers(field) else {
             return None;
         };
-        let rows = if has_most(set, &column) {
+        let rows = if has_many(set, &column) {
             single_rows(&column)
         } else {
             None
@@ -284,12 +284,12 @@ impl<'a> OwnNumbers<'a> {
 
 /// With the numbers that the documents of a set have in a column; nothing has been added yet.
 ///
-/// Where the set has most documents of the column its rows are walked over, else each document's row is looked for near the one before.
+/// Where the set has many documents of the column its rows are walked over, else each document's row is looked for near the one before.
 fn with_column(set: &BitSet, column: &NumberColumn, start: Running) -> Running
     requires { IsAnew start }
     ensures { IsAdded start (flat_map (λ doc. values_of doc column.now) (marked_places 0 set.now)) result }
 {
-    if has_most(set, column) {
+    if has_many(set, column) {
         with_rows(set, column, start)
     } else {
         with_documents(set, column, start)
@@ -425,12 +425,12 @@ fn own_count(segment: &Segment, field: u32, set: &BitSet) -> Result<u64, NoMemor
 
 /// How many values the documents of a set have in a column, each of whose documents has a place in the set.
 ///
-/// Where the set has most documents of the column its rows are walked over, else each document's row is looked for near the one before.
+/// Where the set has many documents of the column its rows are walked over, else each document's row is looked for near the one before.
 fn column_count<T: ColumnValue>(set: &BitSet, column: &Column<T>) -> Result<u64, NoMemory>
     requires { All (λ doc. doc < length set.now) (documents column.now) }
     ensures { IfOk result (λ count. count ≡ sum_by (λ doc. length (values_of doc column.now)) (marked_places 0 set.now)) }
 {
-    if !has_most(set, column) {
+    if !has_many(set, column) {
         return documents_count(set, column);
     }
     match single_rows(column) {

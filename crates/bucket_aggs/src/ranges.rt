@@ -1,38 +1,25 @@
-//! The terms of a keyword field in a segment, looked for near one of them.
+//! The terms of a keyword field in a segment, looked for near those of another.
 
 ghost use Rattle.std.specs.Prelude.{◌≡◌, ◌<◌, ◌≤◌, ℕ, List, length, nat_lt, slice_get, Some};
 ghost use Rattle.term_table.specs.Ranges.{IsRange, is_of_field};
 
-use doc_values::OrdinalColumn;
 use term_table::TermTable;
 
-/// The terms of a field: the ordinal of the first, and the one past the last. They are looked for near an ordinal that the
-/// field's column has.
+/// The terms of a field: the ordinal of the first, and the one past the last. They are looked for where they stood in another
+/// segment.
 ///
 /// The terms of all fields of a segment stand in one list. A search by halves of the whole list reads terms all over the segment,
-/// which costs more than to count the documents of ten terms of a small one; this reads those beside the field's own.
-pub(crate) fn terms_of_field(terms: &TermTable, field: u32, column: &OrdinalColumn) -> (u64, u64)
+/// which costs more than to count the documents of ten terms of a small one; in segments of one kind of trees this reads those
+/// beside the two ends.
+pub(crate) fn terms_of_field(terms: &TermTable, field: u32, near: (u64, u64)) -> (u64, u64)
     ensures ordered { result.0 ≤ result.1 }
     ensures within { result.1 ≤ length terms.now }
     ensures of_field { IsRange (is_of_field field) terms.now result.0 result.1 }
 {
-    let near = some_ordinal(column);
     let bound = u64::from(field);
-    let first = terms_below(terms, bound, near);
-    let end = terms_below(terms, bound + 1, near);
+    let first = terms_below(terms, bound, near.0);
+    let end = terms_below(terms, bound + 1, near.1.saturating_sub(1));
     (first, end)
-}
-
-/// An ordinal that a column has; 0 where it has none.
-fn some_ordinal(column: &OrdinalColumn) -> u64 {
-    if column.rows() == 0 {
-        return 0;
-    }
-    let values = column.row_values(0);
-    if values.len() == 0 {
-        return 0;
-    }
-    values.value(0)
 }
 
 /// How many terms are of fields below a bound, looked for from an ordinal on in steps that double, and then by halves.
@@ -47,13 +34,14 @@ fn terms_below(terms: &TermTable, bound: u64, near: u64) -> u64
     let mut step: u64 = 1;
     'search: while low < high {
         let at = probe(low, high, guess);
+        let away = step;
         step = step.saturating_mul(2);
         if is_below(terms, at, bound) {
             low = at + 1;
-            guess = at.saturating_add(step);
+            guess = at.saturating_add(away);
         } else {
             high = at;
-            guess = at.saturating_sub(step);
+            guess = at.saturating_sub(away);
         }
     }
     low

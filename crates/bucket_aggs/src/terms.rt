@@ -15,7 +15,7 @@ ghost use Rattle.tree_objects.specs.declared.field_value.FieldValue.{FieldValue 
 ghost use Rattle.bucket_aggs.specs.Counts.{AreCounts, AreFound, AreKeys, AreKnown, Counted, Weighed, count_if, counts_of, flats_of_view, is_number, is_term, term_key, weight};
 
 use crate::NoMemory;
-use crate::columns::{count_ordinals, has_most, is_text};
+use crate::columns::{count_ordinals, has_many, is_text};
 use crate::distinct::distinct_values;
 use crate::posted::{TermSet, posting_counts, posting_sets};
 use crate::ranges::terms_of_field;
@@ -48,6 +48,7 @@ pub(crate) fn counted(
 {
     let objects = objects.as_slice();
     let mut rows = Vec::new(alloc);
+    let mut near = (0, 0);
     'entries: for at in 0..entries.len() {
         add_rows(
             alloc,
@@ -57,6 +58,7 @@ pub(crate) fn counted(
             objects[at].set(),
             at,
             keep,
+            &mut near,
             found,
             &mut rows,
         )?;
@@ -73,6 +75,7 @@ fn add_rows(
     set: &BitSet,
     entry: usize,
     keep: bool,
+    near: &mut (u64, u64),
     found: &mut Vec<TermSet>,
     rows: &mut Vec<CountRow>,
 ) -> Result<(), NoMemory>
@@ -82,7 +85,9 @@ fn add_rows(
     ensures keys { AreKeys kind rows.old.items → OnOk result (AreKeys kind rows.new.items) }
 {
     if is_text(kind) {
-        add_texts(alloc, segment, kind, field, set, entry, keep, found, rows)?;
+        add_texts(
+            alloc, segment, kind, field, set, entry, keep, near, found, rows,
+        )?;
         return Ok(());
     }
     add_numbers(alloc, segment, kind, field, set, rows)?;
@@ -93,7 +98,7 @@ fn add_rows(
 const TERMS_EACH: u64 = 64;
 
 /// Those of a keyword field: a row for each term of the field that some document has, counted by ordinal. Where the documents
-/// are few beside the terms, their ordinals are sorted.
+/// are few beside the terms, their ordinals are sorted. The terms are looked for where they stood in the segment before.
 fn add_texts(
     alloc: Global,
     segment: &Segment,
@@ -102,6 +107,7 @@ fn add_texts(
     set: &BitSet,
     entry: usize,
     keep: bool,
+    near: &mut (u64, u64),
     found: &mut Vec<TermSet>,
     rows: &mut Vec<CountRow>,
 ) -> Result<(), NoMemory>
@@ -118,7 +124,8 @@ fn add_texts(
     };
     let terms = segment.terms();
     let _ascending = terms.count();
-    let (first, end) = terms_of_field(&terms, field, &column);
+    let (first, end) = terms_of_field(&terms, field, *near);
+    *near = (first, end);
     let few = u64::from(set.count()) < (end - first) / TERMS_EACH;
     if few {
         let _sorted = column.values(0);
@@ -148,7 +155,7 @@ fn are_kept(terms: u64, set: &BitSet) -> bool {
 
 /// The counts of the terms of a field in the documents of a set, by ordinal from the field's first up to its end.
 ///
-/// Postings take less room than the rows of a column: they are walked over where the set has most documents of the column, and
+/// Postings take less room than the rows of a column: they are walked over where the set has many documents of the column, and
 /// the terms are few.
 fn term_counts(
     alloc: Global,
@@ -171,7 +178,7 @@ fn term_counts(
     ensures found { OnOk result (AreFound segment.now set.now entry found.old.items found.new.items) }
 {
     let _agree = segment.docs();
-    if has_most(set, column) && end - first < u64::from(set.count()) / DOCUMENTS_EACH {
+    if has_many(set, column) && end - first < u64::from(set.count()) / DOCUMENTS_EACH {
         let _ascending = segment.terms().count();
         if keep && are_kept(end - first, set) {
             return Ok(posting_sets(alloc, segment, set, first, end, entry, found)?);

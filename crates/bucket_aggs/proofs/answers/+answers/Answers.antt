@@ -137,14 +137,11 @@ terms-returns-in_ok-field_terms-in-Some t c = λ given is.
     subst (λ (field : Option ℕ). IsAnswer m c.args.entries.now c.args.scope (value_by m (Terms field c.args.size c.args.by_key c.args.descending) (definitions_of c.args.inner.now)) given (value_of c.in_ok-field_terms-in-Some.field-0)) (sym c.in-Some.is)
     (c.in_ok-field_terms-in-Some.ensures given is)
 
-pub field_terms-facets-requires-clause-path : goal.field_terms-facets-requires-clause-path
-field_terms-facets-requires-clause-path t c =
-    let own = subst (λ (ds : Definitions Agg). AreAggDefinitions c.args.mapping.now c.args.scope ds) (ap definitions_of c.in-Some.ensures.asked) c.requires.resolved in
-    own.0.0
-
-pub field_terms-returns-in_ok-facets-in-Some : goal.field_terms-returns-in_ok-facets-in-Some
-field_terms-returns-in_ok-facets-in-Some t c = λ given is.
-    c.in_ok-facets-in-Some.ensures given (definitions_of c.args.inner.now) is (ap definitions_of c.in-Some.ensures.asked)
+pub field_terms-returns-in-Some : goal.field_terms-returns-in-Some
+field_terms-returns-in-Some t c = λ given is.
+    let m = c.args.mapping.now in
+    let form = Terms (Some c.args.field) c.args.size c.args.by_key c.args.descending in
+    subst (λ found. IfSome found (λ value. IsAnswer m c.args.entries.now c.args.scope (value_by m form (definitions_of c.args.inner.now)) given (value_of value))) c.in-Some.is (c.in_ok-facets.ensures given is)
 
 pub terms-returns-in-None : goal.terms-returns-in-None
 terms-returns-in-None t c = λ given is.

@@ -9,18 +9,18 @@ use Rattle.bucket_aggs.proofs.at_once.add_at_once.Goals as goal
 pub returns-in_default-clause-counts : goal.returns-in_default-clause-counts
 returns-in_default-clause-counts c =
     let none : column_of c.args.field c.args.segment.now.ordinals ≡ None = sym c.ordinals.ensures ∙ c.in_default.is in
-    record { each = λ v. omega (arith, no_texts_shown c.args.segment.now c.args.kind c.args.field v (marked_places 0 c.args.set.now) c.requires.written c.values_are_of_documents.ensures.keywords none) }
+    λ done. record { each = λ v. omega (arith, no_texts_shown c.args.segment.now c.args.kind c.args.field v (marked_places 0 c.args.set.now) c.requires.written c.values_are_of_documents.ensures.keywords none) }
 
 pub returns-in_default-clause-ups : goal.returns-in_default-clause-ups
 returns-in_default-clause-ups c =
     let none : column_of c.args.field c.args.segment.now.ordinals ≡ None = sym c.ordinals.ensures ∙ c.in_default.is in
-    record { each = λ v. omega (arith, no_ups c.args.segment.now c.args.to c.args.kind c.args.field c.args.set.now v c.requires.written c.values_are_of_documents.ensures.keywords none) }
+    λ done. record { each = λ v. omega (arith, no_ups c.args.segment.now c.args.to c.args.kind c.args.field c.args.set.now v c.requires.written c.values_are_of_documents.ensures.keywords none) }
 
 pub returns-clause-counts : goal.returns-clause-counts
 returns-clause-counts c =
     let some : column_of c.args.field c.args.segment.now.ordinals ≡ Some c.in-Some.column = sym c.ordinals.ensures ∙ c.in-Some.is in
     let docs = marked_places 0 c.args.set.now in
-    record {
+    λ done. record {
       each = λ v.
           omega (
             arith,
@@ -34,7 +34,7 @@ returns-clause-counts c =
 pub returns-clause-ups : goal.returns-clause-ups
 returns-clause-ups c =
     let some : column_of c.args.field c.args.segment.now.ordinals ≡ Some c.in-Some.column = sym c.ordinals.ensures ∙ c.in-Some.is in
-    record {
+    λ done. record {
       each = λ v.
           omega (
             arith,

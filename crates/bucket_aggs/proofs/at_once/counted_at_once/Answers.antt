@@ -33,12 +33,12 @@ entries-preserved c =
     let step : flats_from c.entries.at view scores ≡ own_flats c.segment.result.now c.set.result.now ++ flats_from (c.entries.at + 1) view scores =
     flats_step c.entries.at view scores e s c.segment.result.now c.set.result.now c.requires.long c.entries-test.true c.index-entries-at.is
     there c.segment.ensures c.set.ensures in (
-      counting_step c.args.kind c.args.field c.entries.at view scores (own_flats c.segment.result.now c.set.result.now) c.entries.rows.items c.add_at_once.new.rows.items step c.entries.invariant.0 c.in_ok-add_at_once.ensures.counts c.in_ok-add_at_once.ensures.keys,
+      counting_step c.args.kind c.args.field c.entries.at view scores (own_flats c.segment.result.now c.set.result.now) c.entries.rows.items c.add_at_once.new.rows.items step c.entries.invariant.0 (c.in_ok-done.ensures.counts c.if-not-done.false) (λ keys. c.in_ok-done.ensures.keys keys c.if-not-done.false),
       λ v.
           omega (
             arith,
             c.entries.invariant.1 v,
-            c.in_ok-add_at_once.ensures.ups.each v,
+            (c.in_ok-done.ensures.ups c.if-not-done.false).each v,
             ups_step c.args.to c.args.kind c.args.field v c.entries.at view scores e s c.segment.result.now c.set.result.now c.requires.long c.entries-test.true c.index-entries-at.is there c.segment.ensures c.set.ensures,
           ),
     )
@@ -49,5 +49,5 @@ returns-clause-counts c =
     c.in_ok-merged.ensures.ascend c.in_ok-merged.ensures.counts (c.in_ok-merged.ensures.keys c.args.kind)
 
 pub returns-clause-ups : goal.returns-clause-ups
-returns-clause-ups c = λ v.
+returns-clause-ups c = λ v some.
     omega (arith, c.entries.invariant.1 v, ups_end c.args.to c.args.kind c.args.field v c.entries.at c.args.entries.now c.args.objects.now (omega (arith, c.entries-test.false)))

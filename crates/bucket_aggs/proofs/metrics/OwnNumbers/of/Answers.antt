@@ -4,7 +4,7 @@ use Rattle.segment_parts.specs.Text.{marked_places}
 use Rattle.bucket_aggs.specs.Columns.{AreOwnRows}
 use Rattle.bucket_aggs.proofs.Numbered.{no_numbers_told, numbers_told}
 use Rattle.bucket_aggs.proofs.Within.{numbers_below, own_rows}
-use Rattle.bucket_aggs.proofs.metrics.OwnNumbers.of.Goals.{then-has_most, else-has_most}
+use Rattle.bucket_aggs.proofs.metrics.OwnNumbers.of.Goals.{then-has_many, else-has_many}
 use Rattle.bucket_aggs.proofs.metrics.OwnNumbers.of.Goals as goal
 
 pub returns-in_default-clause-none : goal.returns-in_default-clause-none
@@ -23,9 +23,9 @@ invariant_of-result c =
     let column : List (ℕ × List ℤ) = c.in-Some.column in
     let some : column_of c.args.field c.args.segment.now.numbers ≡ Some column = sym c.numbers.ensures ∙ c.in-Some.is in
     let within = numbers_below c.args.segment.now c.args.field flags c.docs-agree.ensures.agree c.requires column some in
-    elim c.if-has_most.branch [
-      | then-has_most w ↦
+    elim c.if-has_many.branch [
+      | then-has_many w ↦
           subst (λ (rows : Option (List (ℕ × List ℤ))). IfSome rows (AreOwnRows column flags)) (sym w.rows-is)
           (own_rows column flags w.single_rows-rows.result within w.single_rows-rows.ensures.rows w.single_rows-rows.ensures.ascending)
-      | else-has_most w ↦ subst (λ (rows : Option (List (ℕ × List ℤ))). IfSome rows (AreOwnRows column flags)) (sym w.rows-is) tt
+      | else-has_many w ↦ subst (λ (rows : Option (List (ℕ × List ℤ))). IfSome rows (AreOwnRows column flags)) (sym w.rows-is) tt
     ]
