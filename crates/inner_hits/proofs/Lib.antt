@@ -18,3 +18,5 @@ pub mod Between
 pub mod Arms
 pub mod Gathering
 pub mod Capped
+pub mod Weighing
+pub mod Refusals

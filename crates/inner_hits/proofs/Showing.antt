@@ -57,10 +57,9 @@ module _ (m : Mapping) (trees : Seq (Seq (Marked Tree))) (def : InnerDef) where
       (are ∙ shown_rows page ∙ ap (map (hit_by m def.source (inner_pages m (live_trees trees) (definitions_of def.owned)))) rows)
       ∙ ap (λ (n : ℕ). record { name = def.name; hits = hits_of (map (hit_by m def.source (inner_pages m (live_trees trees) (definitions_of def.owned))) (paged def.sort None def.from def.size (map (row_at m trees def.sort) found))); total = n })
       (sym (length-map found (row_at m trees def.sort)))
-
-  pub same_steps : (found page : Seq Hit) → map (row_at m trees def.sort) page ≡ paged def.sort None def.from def.size (map (row_at m trees def.sort) found)
-      → joined_among (hits_of (map (shown_as m trees (inner_of def)) page)) ≡ joined_among (page_in m (live_trees trees) (inner_of def) (map (row_at m trees def.sort) found)).hits
-  same_steps found page rows = ap (λ (p : PagePart). joined_among p.hits) (page_shown found page (map (shown_as m trees (inner_of def)) page) rows refl)
+  pub same_hits : (found page : Seq Hit) → map (row_at m trees def.sort) page ≡ paged def.sort None def.from def.size (map (row_at m trees def.sort) found)
+      → hits_of (map (shown_as m trees (inner_of def)) page) ≡ (page_in m (live_trees trees) (inner_of def) (map (row_at m trees def.sort) found)).hits
+  same_hits found page rows = ap (λ (p : PagePart). p.hits) (page_shown found page (map (shown_as m trees (inner_of def)) page) rows refl)
 
   -- a hit by its parts
   pub hit_is : (hit : Hit) (id : Seq ℕ) (levels : Seq Level) (source : Option (Seq ℕ)) (pages : Seq PagePart) → (let o = object_at m trees hit.place hit.doc in

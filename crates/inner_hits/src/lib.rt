@@ -11,6 +11,7 @@ mod content;
 mod filters;
 mod joined;
 mod no_memory;
+mod page_refusal;
 mod pages;
 mod prepared;
 mod root_hits;
@@ -19,6 +20,7 @@ mod trees;
 mod walk;
 
 pub use no_memory::NoMemory;
+pub use page_refusal::PageRefusal;
 pub use pages::{inner, source_in};
 pub use prepared::{PreparedList, prepare};
 pub use root_hits::{ShownTree, shown};

@@ -1,5 +1,5 @@
 //! The pages of inner hits.
-ghost use Rattle.std.specs.Prelude.{◌≡◌, ◌++◌, ◌+◌, ◌<◌, ◌≤◌, ◌∷◌, [], true, false, List, get_or, length, map, Some, None, if◌then◌else◌, IfOk, OnOk};
+ghost use Rattle.std.specs.Prelude.{◌≡◌, ◌++◌, ◌+◌, ◌<◌, ◌≤◌, ◌∷◌, [], true, false, List, get_or, length, map, Some, None, if◌then◌else◌, IfOk, IsErrOf, OnOk};
 ghost use Rattle.flattener.specs.StandsFor.{EntryStandsFor, Marked, ViewStandsFor};
 ghost use Rattle.flattener.specs.Fits.{ViewFits};
 ghost use Rattle.inner_hits.specs.Hits.{AllReadBack, HaveSource, IsAsked, IsOwner, is_below, page_in, row_at, shown_as, some_below};
@@ -20,6 +20,7 @@ ghost use Rattle.query_ast.specs.Resolved.{AreInnerDefinitions, AreSorts, IsInne
 ghost use Rattle.query_ast.specs.declared.inner.InnerOver.TheVariants.{Below as OverBelow, Children as OverChildren, Parents as OverParents};
 ghost use Rattle.mapping.specs.Mapping.{Mapping as Meaning};
 ghost use Rattle.segment.specs.Live.{LiveState};
+ghost use Rattle.reply_text.specs.Weight.{hits_weight, pages_weight};
 ghost use Rattle.tree_json.specs.Reading.{reading, value};
 ghost use Rattle.tree_json.specs.Text.{compact};
 ghost use Rattle.tree_json.specs.Value.{JsonValue};
@@ -31,6 +32,7 @@ ghost use Rattle.view_objects.specs.Hits.{document_object, live_trees, object_at
 use crate::NoMemory;
 use crate::below::{children_of, hits_below, parents_of};
 use crate::content::{located, text_of};
+use crate::page_refusal::PageRefusal;
 use crate::prepared::{PreparedDef, PreparedList};
 use crate::rows::chosen;
 use crate::trees::root_of;
@@ -39,6 +41,7 @@ use mapping::{Mapping, scopes_form_chains};
 use query_ast::{
     InnerDef, InnerHit, InnerHitList, InnerList, InnerOver, InnerPage, InnerPageList, LevelList,
 };
+use reply_text::{take_hit, take_page};
 use segment::Segment;
 use segment_view::View;
 use source_steps::Steps;
@@ -53,6 +56,9 @@ use view_objects::{Hit, documents_are_of_objects};
 /// What was prepared is that of the definitions over this view, and the definitions were resolved in the scope of the object.
 /// `source` is the source of the root of its tree, as it was read. Of a page of joined trees only those that are shown are
 /// read, one step each; contents of nested objects are taken from the source of their root.
+///
+/// `room` is how many bytes a reply has left for them. What they weigh is taken off it, page by page and hit by hit, and where
+/// there isn't as much they are too large.
 pub fn inner<L: Ledger>(
     alloc: Global,
     view: &View,
@@ -64,8 +70,9 @@ pub fn inner<L: Ledger>(
     place: u64,
     doc: u32,
     source: &Json,
+    room: &mut u64,
     steps: &mut Steps<L>,
-) -> Result<InnerPageList, NoMemory>
+) -> Result<InnerPageList, PageRefusal>
     requires fits { ViewFits mapping.now view.now }
     requires scope { scope < length mapping.now.scopes }
     requires resolved { AreInnerDefinitions mapping.now scope (definitions_of definitions.now) }
@@ -76,6 +83,9 @@ pub fn inner<L: Ledger>(
         → pages ≡ inner_pages mapping.now (live_trees trees) (definitions_of definitions.now) (object_at mapping.now trees place doc)) }
     ensures steps { (trees : List (List (Marked Tree))) → IsAsked mapping.now view.now trees scope place doc (seen_as source.now)
         → steps.new ≤ steps.old + joined_in (pages_of (inner_pages mapping.now (live_trees trees) (definitions_of definitions.now) (object_at mapping.now trees place doc))) }
+    ensures room { IfOk result (λ pages. room.old ≡ room.new + pages_weight (pages_of pages)) }
+    ensures too_large { IsErrOf result PageRefusal.TooLarge → (trees : List (List (Marked Tree))) → IsAsked mapping.now view.now trees scope place doc (seen_as source.now)
+        → room.old < pages_weight (pages_of (inner_pages mapping.now (live_trees trees) (definitions_of definitions.now) (object_at mapping.now trees place doc))) }
 {
     Ok(pages_for(
         alloc,
@@ -88,6 +98,7 @@ pub fn inner<L: Ledger>(
         place,
         doc,
         source,
+        room,
         steps,
     )?)
 }
@@ -104,8 +115,9 @@ pub(crate) fn pages_for<L: Ledger>(
     place: u64,
     doc: u32,
     source: &Json,
+    room: &mut u64,
     steps: &mut Steps<L>,
-) -> Result<InnerPageList, NoMemory>
+) -> Result<InnerPageList, PageRefusal>
     requires fits { ViewFits mapping.now view.now }
     requires scope { scope < length mapping.now.scopes }
     requires resolved { AreInnerDefinitions mapping.now scope (definitions_of definitions.now) }
@@ -116,6 +128,9 @@ pub(crate) fn pages_for<L: Ledger>(
         → pages ≡ inner_pages mapping.now (live_trees trees) (definitions_of definitions.now) (object_at mapping.now trees place doc)) }
     ensures steps { (trees : List (List (Marked Tree))) → IsOwner mapping.now view.now trees scope place doc (some_below (definitions_of definitions.now)) (seen_as source.now)
         → steps.new ≤ steps.old + joined_in (pages_of (inner_pages mapping.now (live_trees trees) (definitions_of definitions.now) (object_at mapping.now trees place doc))) }
+    ensures room { IfOk result (λ pages. room.old ≡ room.new + pages_weight (pages_of pages)) }
+    ensures too_large { IsErrOf result PageRefusal.TooLarge → (trees : List (List (Marked Tree))) → IsOwner mapping.now view.now trees scope place doc (some_below (definitions_of definitions.now)) (seen_as source.now)
+        → room.old < pages_weight (pages_of (inner_pages mapping.now (live_trees trees) (definitions_of definitions.now) (object_at mapping.now trees place doc))) }
 {
     let mut pages = Vec::new(alloc);
     add_pages(
@@ -130,6 +145,7 @@ pub(crate) fn pages_for<L: Ledger>(
         doc,
         source,
         &mut pages,
+        room,
         steps,
     )?;
     Ok(InnerPageList::of(pages))
@@ -150,8 +166,9 @@ fn add_pages<L: Ledger>(
     doc: u32,
     source: &Json,
     pages: &mut Vec<InnerPage>,
+    room: &mut u64,
     steps: &mut Steps<L>,
-) -> Result<(), NoMemory>
+) -> Result<(), PageRefusal>
     requires fits { ViewFits mapping.now view.now }
     requires scope { scope < length mapping.now.scopes }
     requires resolved { AreInnerDefinitions mapping.now scope (definitions_of (map inner_of definitions.now)) }
@@ -162,19 +179,23 @@ fn add_pages<L: Ledger>(
         → map page_part pages.new.items ≡ map page_part pages.old.items ++ inner_pages mapping.now (live_trees trees) (definitions_of (map inner_of definitions.now)) (object_at mapping.now trees place doc)) }
     ensures steps { (trees : List (List (Marked Tree))) → IsOwner mapping.now view.now trees scope place doc (some_below (definitions_of (map inner_of definitions.now))) (seen_as source.now)
         → steps.new ≤ steps.old + joined_in (pages_of (inner_pages mapping.now (live_trees trees) (definitions_of (map inner_of definitions.now)) (object_at mapping.now trees place doc))) }
+    ensures room { OnOk result (room.old + pages_weight (pages_of (map page_part pages.old.items)) ≡ room.new + pages_weight (pages_of (map page_part pages.new.items))) }
+    ensures too_large { IsErrOf result PageRefusal.TooLarge → (trees : List (List (Marked Tree))) → IsOwner mapping.now view.now trees scope place doc (some_below (definitions_of (map inner_of definitions.now))) (seen_as source.now)
+        → room.old < pages_weight (pages_of (inner_pages mapping.now (live_trees trees) (definitions_of (map inner_of definitions.now)) (object_at mapping.now trees place doc))) }
 {
     match definitions {
         [] => Ok(()),
         [def, rest @ ..] => match prepared {
             [] => unreachable!(),
             [own, others @ ..] => {
+                take_page(room)?;
                 let page = page(
-                    alloc, view, mapping, ordinals, def, own, scope, place, doc, source, steps,
+                    alloc, view, mapping, ordinals, def, own, scope, place, doc, source, room, steps,
                 )?;
                 pages.push(page)?;
                 add_pages(
                     alloc, view, mapping, ordinals, rest, others, scope, place, doc, source, pages,
-                    steps,
+                    room, steps,
                 )
             }
         },
@@ -195,8 +216,9 @@ fn page<L: Ledger>(
     place: usize,
     doc: u32,
     source: &Json,
+    room: &mut u64,
     steps: &mut Steps<L>,
-) -> Result<InnerPage, NoMemory>
+) -> Result<InnerPage, PageRefusal>
     requires fits { ViewFits mapping.now view.now }
     requires scope { scope < length mapping.now.scopes }
     requires resolved { IsInnerDefinition mapping.now scope (inner_of def.now) }
@@ -207,17 +229,20 @@ fn page<L: Ledger>(
         → page_part page ≡ inner_page mapping.now (live_trees trees) (inner_of def.now) (object_at mapping.now trees place doc)) }
     ensures steps { (trees : List (List (Marked Tree))) → IsOwner mapping.now view.now trees scope place doc (is_below (inner_of def.now)) (seen_as source.now)
         → steps.new ≤ steps.old + joined_among (inner_page mapping.now (live_trees trees) (inner_of def.now) (object_at mapping.now trees place doc)).hits }
+    ensures room { IfOk result (λ page. room.old ≡ room.new + hits_weight (page_part page).hits) }
+    ensures too_large { IsErrOf result PageRefusal.TooLarge → (trees : List (List (Marked Tree))) → IsOwner mapping.now view.now trees scope place doc (is_below (inner_of def.now)) (seen_as source.now)
+        → room.old < hits_weight (inner_page mapping.now (live_trees trees) (inner_of def.now) (object_at mapping.now trees place doc)).hits }
 {
     match def.over {
         InnerOver::Below(path) => Ok(below_page(
-            alloc, view, mapping, ordinals, def, prepared, path, scope, place, doc, source, steps,
+            alloc, view, mapping, ordinals, def, prepared, path, scope, place, doc, source, room, steps,
         )?),
         InnerOver::Children(relation) => Ok(children_page(
-            alloc, view, mapping, ordinals, def, prepared, relation, scope, place, doc, source,
+            alloc, view, mapping, ordinals, def, prepared, relation, scope, place, doc, source, room,
             steps,
         )?),
         InnerOver::Parents(relation) => Ok(parents_page(
-            alloc, view, mapping, ordinals, def, prepared, relation, scope, place, doc, source,
+            alloc, view, mapping, ordinals, def, prepared, relation, scope, place, doc, source, room,
             steps,
         )?),
         InnerOver::Ignored => Ok(empty_page(alloc, def)?),
@@ -239,8 +264,9 @@ fn below_page<L: Ledger>(
     place: usize,
     doc: u32,
     source: &Json,
+    room: &mut u64,
     steps: &mut Steps<L>,
-) -> Result<InnerPage, NoMemory>
+) -> Result<InnerPage, PageRefusal>
     requires fits { ViewFits mapping.now view.now }
     requires scope { scope < length mapping.now.scopes }
     requires over { def.now.over ≡ OverBelow path }
@@ -252,13 +278,16 @@ fn below_page<L: Ledger>(
         → page_part page ≡ inner_page mapping.now (live_trees trees) (inner_of def.now) (object_at mapping.now trees place doc)) }
     ensures steps { (trees : List (List (Marked Tree))) → IsOwner mapping.now view.now trees scope place doc (is_below (inner_of def.now)) (seen_as source.now)
         → steps.new ≤ steps.old + joined_among (inner_page mapping.now (live_trees trees) (inner_of def.now) (object_at mapping.now trees place doc)).hits }
+    ensures room { IfOk result (λ page. room.old ≡ room.new + hits_weight (page_part page).hits) }
+    ensures too_large { IsErrOf result PageRefusal.TooLarge → (trees : List (List (Marked Tree))) → IsOwner mapping.now view.now trees scope place doc (is_below (inner_of def.now)) (seen_as source.now)
+        → room.old < hits_weight (inner_page mapping.now (live_trees trees) (inner_of def.now) (object_at mapping.now trees place doc)).hits }
 {
     scopes_form_chains();
     let _scopes = mapping.scope_count();
     let hits = hits_below(alloc, view, &prepared.hits, scope, place, doc)?;
-    Ok(shown_page(
-        alloc, view, mapping, ordinals, def, prepared, path, hits, source, steps,
-    )?)
+    shown_page(
+        alloc, view, mapping, ordinals, def, prepared, path, hits, source, room, steps,
+    )
 }
 
 /// The page of a definition over the child trees of a relation.
@@ -276,8 +305,9 @@ fn children_page<L: Ledger>(
     place: usize,
     doc: u32,
     source: &Json,
+    room: &mut u64,
     steps: &mut Steps<L>,
-) -> Result<InnerPage, NoMemory>
+) -> Result<InnerPage, PageRefusal>
     requires fits { ViewFits mapping.now view.now }
     requires scope { scope < length mapping.now.scopes }
     requires over { def.now.over ≡ OverChildren relation }
@@ -289,15 +319,18 @@ fn children_page<L: Ledger>(
         → page_part page ≡ inner_page mapping.now (live_trees trees) (inner_of def.now) (object_at mapping.now trees place doc)) }
     ensures steps { (trees : List (List (Marked Tree))) → IsOwner mapping.now view.now trees scope place doc (is_below (inner_of def.now)) (seen_as source.now)
         → steps.new ≤ steps.old + joined_among (inner_page mapping.now (live_trees trees) (inner_of def.now) (object_at mapping.now trees place doc)).hits }
+    ensures room { IfOk result (λ page. room.old ≡ room.new + hits_weight (page_part page).hits) }
+    ensures too_large { IsErrOf result PageRefusal.TooLarge → (trees : List (List (Marked Tree))) → IsOwner mapping.now view.now trees scope place doc (is_below (inner_of def.now)) (seen_as source.now)
+        → room.old < hits_weight (inner_page mapping.now (live_trees trees) (inner_of def.now) (object_at mapping.now trees place doc)).hits }
 {
     if scope != 0 {
         return Ok(empty_page(alloc, def)?);
     }
     let kin = prepared.kin.as_slice();
     let hits = children_of(alloc, view, mapping, ordinals, kin, relation, place, doc)?;
-    Ok(shown_page(
-        alloc, view, mapping, ordinals, def, prepared, 0, hits, source, steps,
-    )?)
+    shown_page(
+        alloc, view, mapping, ordinals, def, prepared, 0, hits, source, room, steps,
+    )
 }
 
 /// The page of a definition over the parent tree of a relation.
@@ -315,8 +348,9 @@ fn parents_page<L: Ledger>(
     place: usize,
     doc: u32,
     source: &Json,
+    room: &mut u64,
     steps: &mut Steps<L>,
-) -> Result<InnerPage, NoMemory>
+) -> Result<InnerPage, PageRefusal>
     requires fits { ViewFits mapping.now view.now }
     requires scope { scope < length mapping.now.scopes }
     requires over { def.now.over ≡ OverParents relation }
@@ -328,15 +362,18 @@ fn parents_page<L: Ledger>(
         → page_part page ≡ inner_page mapping.now (live_trees trees) (inner_of def.now) (object_at mapping.now trees place doc)) }
     ensures steps { (trees : List (List (Marked Tree))) → IsOwner mapping.now view.now trees scope place doc (is_below (inner_of def.now)) (seen_as source.now)
         → steps.new ≤ steps.old + joined_among (inner_page mapping.now (live_trees trees) (inner_of def.now) (object_at mapping.now trees place doc)).hits }
+    ensures room { IfOk result (λ page. room.old ≡ room.new + hits_weight (page_part page).hits) }
+    ensures too_large { IsErrOf result PageRefusal.TooLarge → (trees : List (List (Marked Tree))) → IsOwner mapping.now view.now trees scope place doc (is_below (inner_of def.now)) (seen_as source.now)
+        → room.old < hits_weight (inner_page mapping.now (live_trees trees) (inner_of def.now) (object_at mapping.now trees place doc)).hits }
 {
     if scope != 0 {
         return Ok(empty_page(alloc, def)?);
     }
     let kin = prepared.kin.as_slice();
     let hits = parents_of(alloc, view, mapping, ordinals, kin, relation, place, doc)?;
-    Ok(shown_page(
-        alloc, view, mapping, ordinals, def, prepared, 0, hits, source, steps,
-    )?)
+    shown_page(
+        alloc, view, mapping, ordinals, def, prepared, 0, hits, source, room, steps,
+    )
 }
 
 /// A page without hits.
@@ -369,8 +406,9 @@ fn shown_page<L: Ledger>(
     scope: u32,
     hits: Vec<Hit>,
     source: &Json,
+    room: &mut u64,
     steps: &mut Steps<L>,
-) -> Result<InnerPage, NoMemory>
+) -> Result<InnerPage, PageRefusal>
     requires fits { ViewFits mapping.now view.now }
     requires scope { scope < length mapping.now.scopes }
     requires sorts { AreSorts mapping.now scope def.now.sort }
@@ -384,6 +422,9 @@ fn shown_page<L: Ledger>(
         → page_part page ≡ page_in mapping.now (live_trees trees) (inner_of def.now) (map (row_at mapping.now trees def.now.sort) hits.items)) }
     ensures steps { (trees : List (List (Marked Tree))) → ViewStandsFor mapping.now view.now trees → AllReadBack (live_trees trees) → AreHits mapping.now scope trees hits.items → HaveSource mapping.now trees scope hits.items (seen_as source.now)
         → steps.new ≤ steps.old + joined_among (page_in mapping.now (live_trees trees) (inner_of def.now) (map (row_at mapping.now trees def.now.sort) hits.items)).hits }
+    ensures room { IfOk result (λ page. room.old ≡ room.new + hits_weight (page_part page).hits) }
+    ensures too_large { IsErrOf result PageRefusal.TooLarge → (trees : List (List (Marked Tree))) → ViewStandsFor mapping.now view.now trees → AllReadBack (live_trees trees) → AreHits mapping.now scope trees hits.items → HaveSource mapping.now trees scope hits.items (seen_as source.now)
+        → room.old < hits_weight (page_in mapping.now (live_trees trees) (inner_of def.now) (map (row_at mapping.now trees def.now.sort) hits.items)).hits }
 {
     let found = hits.as_slice();
     let filters = prepared.filters.as_slice();
@@ -392,7 +433,7 @@ fn shown_page<L: Ledger>(
     )?;
     let listed = page.as_slice();
     let shown = shown_hits(
-        alloc, view, mapping, ordinals, def, prepared, scope, listed, source, steps,
+        alloc, view, mapping, ordinals, def, prepared, scope, listed, source, room, steps,
     )?;
     Ok(InnerPage {
         name: copied(alloc, &def.name)?,
@@ -413,8 +454,9 @@ fn shown_hits<L: Ledger>(
     scope: u32,
     hits: &[Hit],
     source: &Json,
+    room: &mut u64,
     steps: &mut Steps<L>,
-) -> Result<Vec<InnerHit>, NoMemory>
+) -> Result<Vec<InnerHit>, PageRefusal>
     requires fits { ViewFits mapping.now view.now }
     requires scope { scope < length mapping.now.scopes }
     requires resolved { AreInnerDefinitions mapping.now scope (definitions_of def.now.owned) }
@@ -425,12 +467,16 @@ fn shown_hits<L: Ledger>(
         → map hit_part shown.items ≡ map (shown_as mapping.now trees (inner_of def.now)) hits.now) }
     ensures steps { (trees : List (List (Marked Tree))) → ViewStandsFor mapping.now view.now trees → AllReadBack (live_trees trees) → AreHits mapping.now scope trees hits.now → HaveSource mapping.now trees scope hits.now (seen_as source.now)
         → steps.new ≤ steps.old + joined_among (hits_of (map (shown_as mapping.now trees (inner_of def.now)) hits.now)) }
+    ensures room { IfOk result (λ shown. room.old ≡ room.new + hits_weight (hits_of (map hit_part shown.items))) }
+    ensures too_large { IsErrOf result PageRefusal.TooLarge → (trees : List (List (Marked Tree))) → ViewStandsFor mapping.now view.now trees → AllReadBack (live_trees trees) → AreHits mapping.now scope trees hits.now → HaveSource mapping.now trees scope hits.now (seen_as source.now)
+        → room.old < hits_weight (hits_of (map (shown_as mapping.now trees (inner_of def.now)) hits.now)) }
 {
     let mut shown = Vec::with_capacity(alloc, hits.len())?;
     'hits: for hit in hits {
         let one = shown_hit(
-            alloc, view, mapping, ordinals, def, prepared, scope, *hit, source, steps,
+            alloc, view, mapping, ordinals, def, prepared, scope, *hit, source, room, steps,
         )?;
+        take_hit(&one.source, room)?;
         shown.push(one)?;
     }
     Ok(shown)
@@ -448,8 +494,9 @@ fn shown_hit<L: Ledger>(
     scope: u32,
     hit: Hit,
     source: &Json,
+    room: &mut u64,
     steps: &mut Steps<L>,
-) -> Result<InnerHit, NoMemory>
+) -> Result<InnerHit, PageRefusal>
     requires fits { ViewFits mapping.now view.now }
     requires scope { scope < length mapping.now.scopes }
     requires resolved { AreInnerDefinitions mapping.now scope (definitions_of def.now.owned) }
@@ -460,12 +507,15 @@ fn shown_hit<L: Ledger>(
         → (0 < scope → seen_as source.now ≡ (tree_of (object_at mapping.now trees hit.place hit.doc)).source) → hit_part shown ≡ shown_as mapping.now trees (inner_of def.now) hit) }
     ensures steps { (trees : List (List (Marked Tree))) → ViewStandsFor mapping.now view.now trees → AllReadBack (live_trees trees) → IsHitAt mapping.now scope trees hit.place hit.doc
         → (0 < scope → seen_as source.now ≡ (tree_of (object_at mapping.now trees hit.place hit.doc)).source) → steps.new ≤ steps.old + joined_among (hits_of (shown_as mapping.now trees (inner_of def.now) hit ∷ [])) }
+    ensures room { IfOk result (λ shown. room.old ≡ room.new + pages_weight (hit_part shown).inner) }
+    ensures too_large { IsErrOf result PageRefusal.TooLarge → (trees : List (List (Marked Tree))) → ViewStandsFor mapping.now view.now trees → AllReadBack (live_trees trees) → IsHitAt mapping.now scope trees hit.place hit.doc
+        → (0 < scope → seen_as source.now ≡ (tree_of (object_at mapping.now trees hit.place hit.doc)).source) → room.old < pages_weight (shown_as mapping.now trees (inner_of def.now) hit).inner }
 {
     if scope == 0 {
-        return Ok(tree_hit(alloc, view, mapping, ordinals, def, prepared, hit, steps)?);
+        return Ok(tree_hit(alloc, view, mapping, ordinals, def, prepared, hit, room, steps)?);
     }
     Ok(nested_hit(
-        alloc, view, mapping, ordinals, def, prepared, scope, hit, source, steps,
+        alloc, view, mapping, ordinals, def, prepared, scope, hit, source, room, steps,
     )?)
 }
 
@@ -481,8 +531,9 @@ fn nested_hit<L: Ledger>(
     scope: u32,
     hit: Hit,
     source: &Json,
+    room: &mut u64,
     steps: &mut Steps<L>,
-) -> Result<InnerHit, NoMemory>
+) -> Result<InnerHit, PageRefusal>
     requires nested { 0 < scope }
     requires fits { ViewFits mapping.now view.now }
     requires scope { scope < length mapping.now.scopes }
@@ -494,6 +545,8 @@ fn nested_hit<L: Ledger>(
         → hit_part shown ≡ shown_as mapping.now trees (inner_of def.now) hit) }
     ensures steps { (trees : List (List (Marked Tree))) → IsAsked mapping.now view.now trees scope hit.place hit.doc (seen_as source.now)
         → steps.new ≤ steps.old + joined_among (hits_of (shown_as mapping.now trees (inner_of def.now) hit ∷ [])) }
+    ensures room { IfOk result (λ shown. room.old ≡ room.new + pages_weight (hit_part shown).inner) }
+    ensures too_large { IsErrOf result PageRefusal.TooLarge → (trees : List (List (Marked Tree))) → IsAsked mapping.now view.now trees scope hit.place hit.doc (seen_as source.now) → room.old < pages_weight (shown_as mapping.now trees (inner_of def.now) hit).inner }
 {
     documents_are_of_objects();
     let place = hit.place as usize;
@@ -513,6 +566,7 @@ fn nested_hit<L: Ledger>(
         hit.doc,
         source,
         &mut pages,
+        room,
         steps,
     )?;
     Ok(InnerHit {
@@ -544,8 +598,9 @@ fn tree_hit<L: Ledger>(
     def: &InnerDef,
     prepared: &PreparedDef,
     hit: Hit,
+    room: &mut u64,
     steps: &mut Steps<L>,
-) -> Result<InnerHit, NoMemory>
+) -> Result<InnerHit, PageRefusal>
     requires fits { ViewFits mapping.now view.now }
     requires resolved { AreInnerDefinitions mapping.now 0 (definitions_of def.now.owned) }
     requires prepared { ArePrepared mapping.now view.now ordinals.now (definitions_of def.now.owned) (definitions_of prepared.now.owned) }
@@ -555,6 +610,8 @@ fn tree_hit<L: Ledger>(
         → hit_part shown ≡ shown_as mapping.now trees (inner_of def.now) hit) }
     ensures steps { (trees : List (List (Marked Tree))) → ViewStandsFor mapping.now view.now trees → AllReadBack (live_trees trees) → IsHitAt mapping.now 0 trees hit.place hit.doc
         → steps.new ≤ steps.old + joined_among (hits_of (shown_as mapping.now trees (inner_of def.now) hit ∷ [])) }
+    ensures room { IfOk result (λ shown. room.old ≡ room.new + pages_weight (hit_part shown).inner) }
+    ensures too_large { IsErrOf result PageRefusal.TooLarge → (trees : List (List (Marked Tree))) → ViewStandsFor mapping.now view.now trees → AllReadBack (live_trees trees) → IsHitAt mapping.now 0 trees hit.place hit.doc → room.old < pages_weight (shown_as mapping.now trees (inner_of def.now) hit).inner }
 {
     documents_are_of_objects();
     let place = hit.place as usize;
@@ -578,6 +635,7 @@ fn tree_hit<L: Ledger>(
         hit.doc,
         &source,
         &mut pages,
+        room,
         steps,
     )?;
     Ok(InnerHit {
@@ -601,6 +659,7 @@ fn bare_hit<L: Ledger>(
     requires doc { hit.doc < segment.now.documents }
     ensures hit { IfOk result (λ shown. (m : Meaning) (bits : LiveState) (trees : List (List (Marked Tree))) → EntryStandsFor m segment.now bits (get_or trees hit.place []) → object_at m trees hit.place hit.doc ≡ root (tree_of (object_at m trees hit.place hit.doc))
         → hit_part shown ≡ shown_as m trees (inner_of def.now) hit) }
+    ensures none { IfOk result (λ shown. shown.inner ≡ []) }
     ensures step { steps.new ≤ steps.old + 1 }
 {
     let text = if_wanted(alloc, segment, hit.doc, def.source, steps)?;

@@ -1,5 +1,5 @@
 //! What is shown of the trees that hit a search.
-ghost use Rattle.std.specs.Prelude.{◌≡◌, ◌+◌, ◌<◌, ◌≤◌, [], true, false, List, Some, None, if◌then◌else◌, IfOk};
+ghost use Rattle.std.specs.Prelude.{◌≡◌, ◌+◌, ◌<◌, ◌≤◌, [], true, false, List, Some, None, if◌then◌else◌, IfOk, IsErrOf};
 ghost use Rattle.flattener.specs.StandsFor.{EntryStandsFor, Marked, ViewStandsFor};
 ghost use Rattle.flattener.specs.Fits.{ViewFits};
 ghost use Rattle.inner_hits.specs.Hits.{AllReadBack};
@@ -14,12 +14,14 @@ ghost use Rattle.query_ast.specs.Pages.{pages_of};
 ghost use Rattle.query_ast.specs.Resolved.{AreInnerDefinitions};
 ghost use Rattle.mapping.specs.Mapping.{Mapping as Meaning};
 ghost use Rattle.segment.specs.Live.{LiveState};
+ghost use Rattle.reply_text.specs.Weight.{pages_weight};
 ghost use Rattle.tree_json.specs.Text.{compact};
 ghost use Rattle.tree_objects.specs.Object.{tree_of};
 ghost use Rattle.tree_objects.specs.Tree.{Tree};
 ghost use Rattle.view_objects.specs.Hits.{document_object, live_trees, object_at};
 
 use crate::NoMemory;
+use crate::page_refusal::PageRefusal;
 use crate::pages::{fetched, if_asked, if_wanted, pages_for, source_for};
 use crate::prepared::PreparedList;
 use join_ordinals::JoinOrdinals;
@@ -43,7 +45,8 @@ pub struct ShownTree {
 /// What is shown of the tree of a root's document. Its stored source is read at most once, and not where neither it nor inner
 /// hits are asked for; it is parsed only where some definition is over a nested path.
 ///
-/// What was prepared is that of the definitions over this view, and the definitions were resolved at the scope of roots.
+/// What was prepared is that of the definitions over this view, and the definitions were resolved at the scope of roots. What the
+/// pages weigh is taken off the room of the reply, and where there isn't as much they are too large.
 pub fn shown<L: Ledger>(
     alloc: Global,
     view: &View,
@@ -54,8 +57,9 @@ pub fn shown<L: Ledger>(
     place: u64,
     doc: u32,
     source: bool,
+    room: &mut u64,
     steps: &mut Steps<L>,
-) -> Result<ShownTree, NoMemory>
+) -> Result<ShownTree, PageRefusal>
     requires fits { ViewFits mapping.now view.now }
     requires resolved { AreInnerDefinitions mapping.now 0 (definitions_of definitions.now) }
     requires prepared { ArePrepared mapping.now view.now ordinals.now (definitions_of definitions.now) (definitions_of prepared.now) }
@@ -66,6 +70,9 @@ pub fn shown<L: Ledger>(
     ensures steps { (trees : List (List (Marked Tree))) → ViewStandsFor mapping.now view.now trees → AllReadBack (live_trees trees) → IsHitAt mapping.now 0 trees place doc
         → steps.new ≤ steps.old + (1 + joined_in (pages_of (inner_pages mapping.now (live_trees trees) (definitions_of definitions.now) (object_at mapping.now trees place doc)))) }
     ensures unread { source ≡ false → definitions.now ≡ [] → steps.new ≡ steps.old }
+    ensures room { IfOk result (λ shown. room.old ≡ room.new + pages_weight (pages_of shown.inner)) }
+    ensures too_large { IsErrOf result PageRefusal.TooLarge → (trees : List (List (Marked Tree))) → ViewStandsFor mapping.now view.now trees → AllReadBack (live_trees trees) → IsHitAt mapping.now 0 trees place doc
+        → room.old < pages_weight (pages_of (inner_pages mapping.now (live_trees trees) (definitions_of definitions.now) (object_at mapping.now trees place doc))) }
 {
     documents_are_of_objects();
     let segment = view.entries()[place as usize].segment();
@@ -86,6 +93,7 @@ pub fn shown<L: Ledger>(
         place,
         doc,
         &whole,
+        room,
         steps,
     )?;
     Ok(ShownTree {

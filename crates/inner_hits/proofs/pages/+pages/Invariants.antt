@@ -4,6 +4,7 @@ use Rattle.query_ast.specs.Definition.{definition_size, definitions_of, definiti
 use Rattle.query_ast.specs.Inner.View.{inner_of}
 use Rattle.query_ast.specs.Pages.{hits_of}
 use Rattle.query_ast.specs.Pages.View.{hit_part}
+use Rattle.reply_text.specs.Weight.{hits_weight}
 use Rattle.tree_json.specs.View.{view}
 use Rattle.tree_objects.specs.Tree.{Tree}
 use Rattle.view_objects.specs.Hits.{live_trees}
@@ -44,6 +45,7 @@ decreases-tree_hit g l = 7 * definition_size (inner_of l.def.now)
 
 abbrev pub invariant-shown_hits-hits : goal.invariant-shown_hits-hits
 invariant-shown_hits-hits g l =
-    (trees : List (List (Marked Tree))) → ViewStandsFor l.mapping l.view trees → AllReadBack (live_trees trees) → AreHits l.mapping l.scope trees l.hits → HaveSource l.mapping trees l.scope l.hits (view l.source)
+    (l.fn.room ≡ l.room + hits_weight (hits_of (map hit_part l.shown.items)))
+    × ((trees : List (List (Marked Tree))) → ViewStandsFor l.mapping l.view trees → AllReadBack (live_trees trees) → AreHits l.mapping l.scope trees l.hits → HaveSource l.mapping trees l.scope l.hits (view l.source)
     → (map hit_part l.shown.items ++ map (shown_as l.mapping trees (inner_of l.def)) (drop l.hit-index l.hits) ≡ map (shown_as l.mapping trees (inner_of l.def)) l.hits)
-    × (l.steps + joined_among (hits_of (map (shown_as l.mapping trees (inner_of l.def)) (drop l.hit-index l.hits))) ≤ l.fn.steps + joined_among (hits_of (map (shown_as l.mapping trees (inner_of l.def)) l.hits)))
+    × (l.steps + joined_among (hits_of (map (shown_as l.mapping trees (inner_of l.def)) (drop l.hit-index l.hits))) ≤ l.fn.steps + joined_among (hits_of (map (shown_as l.mapping trees (inner_of l.def)) l.hits))))
