@@ -1,5 +1,5 @@
 -- Scores that a reply can hold.
-use Rattle.std.proofs.Common.{◌≡◌, ℕ, zero, suc, ◌<◌, List as Seq, [], ◌∷◌, ◌++◌, length, map, filter, get_or, Option, Some, None, refl, sym, subst}
+use Rattle.std.proofs.Common.{◌≡◌, ℕ, ◌<◌, List as Seq, [], ◌∷◌, ◌++◌, length, map, filter, get_or, Option, Some, None}
 use Rattle.std.proofs.lemmas.List.Elements.{All-filter, All-from_recursion, All-get_or, All-nil, All-push, All-same, recursion_from_All}
 use Rattle.std.specs.List.{All, AllByRecursion}
 use Rattle.nested_sort.specs.Listed.{IsCapped}

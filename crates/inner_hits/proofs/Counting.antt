@@ -1,8 +1,8 @@
 -- An object that is found by counting.
-use Rattle.std.proofs.Common.{◌≡◌, ℕ, zero, suc, ◌+◌, ◌<◌, ◌≤◌, List as Seq, [], ◌∷◌, ◌++◌, length, filter, get_or, drop, slice_get, Option, Some, None, refl, sym, ap, subst, ◌∙◌, arith}
+use Rattle.std.proofs.Common.{◌≡◌, ℕ, zero, suc, ◌+◌, ◌<◌, ◌≤◌, List as Seq, [], ◌∷◌, ◌++◌, length, get_or, drop, slice_get, Option, Some, None, refl, sym, ap, subst, ◌∙◌, arith}
 use Rattle.std.proofs.lemmas.List.{drop_all, drop_more, length-append}
 use Rattle.std.proofs.lemmas.List.Elements.{filter-append}
-use Rattle.tree_json.specs.Value.{Elements, no_elements, element, elements_of, JsonValue, Members, is_object, object, member_of}
+use Rattle.tree_json.specs.Value.{Elements, element, elements_of, JsonValue, Members, is_object, object, member_of}
 use Rattle.tree_json.specs.View.{values, view}
 use Rattle.tree_json.specs.declared.value.Json.{Json}
 use Rattle.tree_objects.specs.Object.{items, items_in}

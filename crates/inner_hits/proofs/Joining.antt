@@ -1,18 +1,16 @@
 -- Hits at the scope of roots, and those of them whose trees are joined to a tree.
-use Rattle.std.proofs.Common.{◌≡◌, ℕ, zero, suc, ◌+◌, ◌-◌, ◌<◌, ◌≤◌, ◌==◌, List as Seq, [], ◌∷◌, ◌++◌, length, map, filter, get_or, slice_get, IsSomeAnd, Bool, true, false, cond, if◌then◌else◌, nat_lt, Option, Some, None, is_some, refl, sym, ap, subst, ◌∙◌, arith}
+use Rattle.std.proofs.Common.{◌≡◌, ℕ, zero, suc, ◌+◌, ◌-◌, ◌<◌, ◌≤◌, List as Seq, [], ◌∷◌, length, map, filter, get_or, slice_get, Bool, true, false, if◌then◌else◌, nat_lt, Option, Some, None, is_some, refl, sym, ap, subst, ◌∙◌, arith}
 use Rattle.std.proofs.lemmas.Bool.{false≢true}
 use Rattle.std.proofs.lemmas.Bool.Decides.{nat_tests}
-use Rattle.std.proofs.lemmas.List.{length-map}
 use Rattle.std.proofs.lemmas.List.Elements.{All-from_recursion, recursion_from_All}
-use Rattle.std.specs.List.{All, AllByRecursion, filter_map}
+use Rattle.std.specs.List.{AllByRecursion, filter_map}
 use Rattle.block_bits.specs.Blocks.{documents_of}
 use Rattle.flattener.specs.StandsFor.{EntryStandsFor, Marked, ViewStandsFor}
-use Rattle.join_ordinals.specs.Ordinals.{AreOrdinals, Ordinals}
+use Rattle.join_ordinals.specs.Ordinals.{Ordinals}
 use Rattle.mapping.specs.IsMapping.{IsMapping}
-use Rattle.mapping.specs.Mapping.{Mapping, relation_at}
+use Rattle.mapping.specs.Mapping.{Mapping}
 use Rattle.nested_sort.specs.Listed.{AreDocs, AreHits, IsDocOf, IsHitAt}
 use Rattle.query_ast.specs.Joined.{child_trees, is_child_by, is_parent_by, is_root, parent_trees, roots}
-use Rattle.query_eval.specs.Folds.{scopes_in}
 use Rattle.query_eval.specs.Found.{AreLong}
 use Rattle.query_eval.specs.Meeting.{IsLiveRoot, meet}
 use Rattle.query_eval.specs.Sides.{key_at}
@@ -25,14 +23,13 @@ use Rattle.segment_parts.specs.declared.columns.Columns.{Columns}
 use Rattle.segment_view.specs.Views.{HaveOwnBits}
 use Rattle.tree_joins.specs.Seen.{at_scope, scopes_of, scored, seen}
 use Rattle.tree_joins.proofs.Each.{each_append, each_filter, each_map}
-use Rattle.tree_objects.specs.Object.{Object, root, scope, tree_of}
+use Rattle.tree_objects.specs.Object.{Object, root, tree_of}
 use Rattle.tree_objects.specs.Tree.{Tree}
-use Rattle.view_objects.specs.Hits.{IsChildAt, IsInTree, document_object, hit_object, hits_from, hits_in, hits_of, live_trees, object_at, objects_in}
+use Rattle.view_objects.specs.Hits.{IsInTree, hit_object, hits_from, hits_in, hits_of, live_trees, object_at, objects_in}
 use Rattle.view_objects.specs.declared.hit.Hit.{Hit}
-use Rattle.inner_hits.specs.Kinship.{AreKin, has_key, hit_of, is_key, key_in, key_of_doc, kin_from, owner_hits}
+use Rattle.inner_hits.specs.Kinship.{AreKin, hit_of, is_key, key_in, key_of_doc, owner_hits}
 use Rattle.inner_hits.specs.declared.joined.Kin.{Kin}
 use Rattle.inner_hits.proofs.Kinship.{joined_hits, of_keys}
-use Rattle.inner_hits.proofs.Paging.{by_test}
 use Rattle.inner_hits.proofs.Rooting.{root_flags_are}
 use Rattle.inner_hits.proofs.Scored.{Stands, stand_from}
 use Rattle.inner_hits.proofs.Standing.{SeenAt, Standing, live_root, seen_at, standing}

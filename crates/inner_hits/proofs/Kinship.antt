@@ -1,5 +1,5 @@
 -- The trees that are joined to a tree, by the keys of their roots.
-use Rattle.std.proofs.Common.{◌≡◌, ℕ, zero, suc, ◌+◌, ◌==◌, List as Seq, [], ◌∷◌, ◌++◌, map, filter, Bool, true, false, cond, Option, Some, None, refl, sym, ap, subst, ◌∙◌}
+use Rattle.std.proofs.Common.{◌≡◌, ℕ, ◌==◌, List as Seq, [], ◌∷◌, map, filter, Bool, true, false, cond, Option, Some, None, refl, sym, ap, ◌∙◌}
 use Rattle.std.specs.List.{AllByRecursion, cons_option, filter_map}
 use Rattle.std.specs.Option.{option_map}
 use Rattle.flattener.specs.StandsFor.{Marked}
@@ -11,7 +11,6 @@ use Rattle.tree_objects.specs.Tree.{Tree}
 use Rattle.view_objects.specs.Hits.{hit_object}
 use Rattle.view_objects.specs.declared.hit.Hit.{Hit}
 use Rattle.inner_hits.specs.Kinship.{has_key, hit_of, is_key}
-use Rattle.inner_hits.specs.declared.joined.Kin.{Kin}
 use Rattle.inner_hits.proofs.Paging.{by_test}
 
 -- the hits among the trees that pass are the hits whose trees pass

@@ -1,8 +1,8 @@
 -- The names of a path, joined again, are the path.
-use Rattle.std.proofs.Common.{◌≡◌, ℕ, ◌==◌, Bool, List as Seq, [], ◌∷◌, ◌++◌, refl, sym, ap, ◌∙◌, Option, Some, None}
+use Rattle.std.proofs.Common.{◌≡◌, ℕ, ◌==◌, List as Seq, [], ◌∷◌, refl, sym, ap, ◌∙◌}
 use Rattle.std.specs.List.{join_with_byte}
 use Rattle.std.proofs.lemmas.Bool.{eqb-true}
-use Rattle.mapping_body.specs.Names.{before_name, dot, names_of, split as split_path}
+use Rattle.mapping_body.specs.Names.{before_name, dot, split as split_path}
 use Rattle.flattener.specs.Walked.{names_behind}
 use Rattle.mapping_body.proofs.Walks.{split}
 

@@ -1,5 +1,5 @@
 -- Sequence numbers of the roots of a view.
-use Rattle.std.proofs.Common.{◌≡◌, ℕ, zero, suc, ◌+◌, ◌<◌, ◌≤◌, ◌^◌, ℤ, pos, List as Seq, [], ◌∷◌, ◌++◌, length, map, get_or, slice_get, Some, refl, sym, ap, ◌∙◌, ◌⊎◌, inl, inr, arith}
+use Rattle.std.proofs.Common.{◌≡◌, ℕ, zero, suc, ◌+◌, ◌<◌, ◌≤◌, ◌^◌, pos, List as Seq, [], ◌∷◌, ◌++◌, length, map, get_or, slice_get, Some, refl, sym, ap, ◌∙◌, ◌⊎◌, inl, inr, arith}
 use Rattle.std.proofs.lemmas.Bool.{cases_lt}
 use Rattle.std.proofs.lemmas.List.{length-append}
 use Rattle.std.proofs.lemmas.List.Elements.{recursion_from_All}
@@ -12,7 +12,7 @@ use Rattle.nested_sort.specs.Listed.{no_hit}
 use Rattle.segment.specs.Flat.{FlatDocument, FlatRoot, flat_root}
 use Rattle.segment.specs.Live.{EntryState, LiveState}
 use Rattle.segment_parts.specs.declared.columns.Columns.{Columns}
-use Rattle.stored_sources.specs.Roots.{no_root, root_of}
+use Rattle.stored_sources.specs.Roots.{root_of}
 use Rattle.stored_sources.specs.declared.root.Root.{Root}
 use Rattle.tree_objects.specs.Object.{tree_of}
 use Rattle.tree_objects.specs.Tree.{Tree}

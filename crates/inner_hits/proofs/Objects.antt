@@ -1,5 +1,5 @@
 -- Rows of objects, and the tree that objects below another are of.
-use Rattle.std.proofs.Common.{◌≡◌, ℕ, zero, suc, ◌+◌, List as Seq, [], ◌∷◌, ◌++◌, map, filter, flat_map, get_or, slice_get, Bool, true, false, Option, Some, None, refl, sym, ap, subst, ◌∙◌}
+use Rattle.std.proofs.Common.{◌≡◌, ℕ, zero, suc, ◌+◌, List as Seq, [], ◌∷◌, ◌++◌, map, filter, flat_map, get_or, slice_get, true, Option, Some, None, refl, sym, ap, subst, ◌∙◌}
 use Rattle.std.specs.List.{AllByRecursion, cons_option, filter_map}
 use Rattle.std.specs.Option.{option_map}
 use Rattle.flattener.specs.StandsFor.{Marked}
@@ -10,7 +10,7 @@ use Rattle.query_ast.specs.Rows.{Row, row_if, row_of, rows_of}
 use Rattle.query_ast.specs.declared.sort.Sort.{Sort}
 use Rattle.tree_joins.specs.Seen.{scored}
 use Rattle.tree_json.specs.Value.{JsonValue, is_object}
-use Rattle.tree_objects.specs.Object.{Object, below, below_along, children, content, given, inside, items, numbered, scope, tree_of, way}
+use Rattle.tree_objects.specs.Object.{Object, below, below_along, children, content, given, items, numbered, scope, tree_of, way}
 use Rattle.tree_objects.specs.Tree.{Tree}
 use Rattle.view_objects.specs.Hits.{hit_object, live_in, live_trees, object_at}
 use Rattle.view_objects.specs.declared.hit.Hit.{Hit}

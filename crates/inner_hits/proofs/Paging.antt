@@ -5,7 +5,7 @@ use Rattle.std.proofs.lemmas.List.Elements.{All-from_recursion, Contains-get_or}
 use Rattle.std.proofs.lemmas.List.{drop-map, take-map}
 use Rattle.std.proofs.lemmas.Simd.{map-map}
 use Rattle.flattener.specs.StandsFor.{Marked}
-use Rattle.hit_order.specs.Table.{KeyTable, directions_of, key_at, keys_of_row, number_of_row, place_at, row_at as table_row, table_of}
+use Rattle.hit_order.specs.Table.{KeyTable, directions_of, keys_of_row, number_of_row, place_at, row_at as table_row, table_of}
 use Rattle.hit_order.specs.declared.column.Column.{Column}
 use Rattle.hit_order.specs.declared.column.RowPlace.{RowPlace}
 use Rattle.mapping.specs.Mapping.{Mapping}

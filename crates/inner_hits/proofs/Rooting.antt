@@ -1,5 +1,5 @@
 -- The roots of documents.
-use Rattle.std.proofs.Common.{◌≡◌, ℕ, zero, suc, ◌+◌, ◌<◌, ◌==◌, List as Seq, [], ◌∷◌, length, map, get_or, slice_get, Bool, true, false, Option, Some, None, nat_eq, not, refl, sym, ap, ◌∙◌, arith}
+use Rattle.std.proofs.Common.{◌≡◌, ℕ, zero, suc, ◌+◌, ◌<◌, List as Seq, [], ◌∷◌, length, map, get_or, slice_get, Bool, true, false, Some, nat_eq, not, refl, sym, ap, ◌∙◌, arith}
 use Rattle.std.proofs.lemmas.List.FromFn.{length-map-range_with_len}
 use Rattle.std.proofs.lemmas.Bool.{ne_eqb}
 use Rattle.std.specs.List.{position_or_len, prefix_len}
@@ -9,12 +9,11 @@ use Rattle.flattener.specs.StandsFor.{EntryStandsFor, Marked}
 use Rattle.mapping.specs.Mapping.{Mapping}
 use Rattle.query_eval.specs.Folds.{scopes_in}
 use Rattle.query_eval.proofs.Scopes.{set_is}
-use Rattle.segment.specs.Flat.{FlatRoot, flat_of, flat_root}
+use Rattle.segment.specs.Flat.{FlatRoot, flat_root}
 use Rattle.segment.specs.Live.{IsLiveOver, LiveState, live_docs, root_of}
 use Rattle.segment_parts.specs.Parts.{root_flags}
 use Rattle.segment_parts.specs.declared.columns.Columns.{Columns}
-use Rattle.stored_sources.specs.Roots.{no_root, root_of as stored_root}
-use Rattle.stored_sources.specs.declared.root.Root.{Root}
+use Rattle.stored_sources.specs.Roots.{no_root}
 use Rattle.tree_joins.specs.Seen.{scopes_of}
 use Rattle.tree_objects.specs.Object.{tree_of}
 use Rattle.tree_objects.specs.Tree.{Tree}

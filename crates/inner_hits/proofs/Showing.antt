@@ -1,5 +1,5 @@
 -- Pages and hits as they are shown.
-use Rattle.std.proofs.Common.{◌≡◌, ℕ, zero, suc, ℤ, ◌+◌, ◌<◌, ◌≤◌, List as Seq, [], ◌∷◌, ◌++◌, length, get_or, map, take, drop, Bool, true, false, Option, Some, None, refl, sym, ap, ◌∙◌, arith, append_assoc, if◌then◌else◌}
+use Rattle.std.proofs.Common.{◌≡◌, ℕ, zero, suc, ℤ, ◌+◌, ◌<◌, ◌≤◌, List as Seq, [], ◌∷◌, ◌++◌, length, get_or, map, take, drop, Option, Some, None, refl, sym, ap, ◌∙◌, arith, append_assoc, if◌then◌else◌}
 use Rattle.std.proofs.lemmas.List.{append-nil, drop_all, drop_more, length-map, map-append}
 use Rattle.std.proofs.lemmas.Simd.{map-map}
 use Rattle.std.proofs.lemmas.List.Elements.{All-contains, All-weaker}
@@ -7,14 +7,13 @@ use Rattle.std.specs.List.{All, Contains, filter_map}
 use Rattle.flattener.specs.StandsFor.{Marked}
 use Rattle.mapping.specs.Mapping.{Mapping}
 use Rattle.query_ast.specs.Clause.{Clause}
-use Rattle.query_ast.specs.Definition.{Definition, definition, definitions_of}
+use Rattle.query_ast.specs.Definition.{definitions_of}
 use Rattle.query_ast.specs.Hit.{hit}
-use Rattle.query_ast.specs.Inner.{Inner}
 use Rattle.query_ast.specs.Inner.View.{inner_of}
 use Rattle.query_ast.specs.InnerHits.{hit_by, inner_page, inner_pages, levels_of, objects_over, page_by, source_of}
 use Rattle.query_ast.specs.Joined.{child_trees, parent_trees, roots}
 use Rattle.query_ast.specs.Page.{direction_of, page_of}
-use Rattle.query_ast.specs.Pages.{HitPart, Hits, InnerHead, PagePart, hits_of, no_hits, pages_of, with_hit}
+use Rattle.query_ast.specs.Pages.{HitPart, Hits, PagePart, hits_of, no_hits, pages_of, with_hit}
 use Rattle.query_ast.specs.Rows.{Row, keys_of as row_keys, number_of as row_number, paged, rows_of}
 use Rattle.query_ast.specs.declared.hit.Level.{Level}
 use Rattle.query_ast.specs.Pages.View.{hit_part, page_part}
@@ -32,7 +31,7 @@ use Rattle.tree_objects.specs.Object.{Object, below, content, inside, root, scop
 use Rattle.tree_objects.specs.Tree.{Tree}
 use Rattle.view_objects.specs.Hits.{hit_object, live_trees, object_at}
 use Rattle.view_objects.specs.declared.hit.Hit.{Hit}
-use Rattle.inner_hits.specs.Hits.{page_among, page_in, row_at, shown_as, shown_by}
+use Rattle.inner_hits.specs.Hits.{page_among, page_in, row_at, shown_as}
 use Rattle.inner_hits.specs.Steps.{is_tree, joined_among, joined_in}
 use Rattle.inner_hits.proofs.Objects.{rows_found}
 
@@ -57,6 +56,7 @@ module _ (m : Mapping) (trees : Seq (Seq (Marked Tree))) (def : InnerDef) where
       (are ∙ shown_rows page ∙ ap (map (hit_by m def.source (inner_pages m (live_trees trees) (definitions_of def.owned)))) rows)
       ∙ ap (λ (n : ℕ). record { name = def.name; hits = hits_of (map (hit_by m def.source (inner_pages m (live_trees trees) (definitions_of def.owned))) (paged def.sort None def.from def.size (map (row_at m trees def.sort) found))); total = n })
       (sym (length-map found (row_at m trees def.sort)))
+
   pub same_hits : (found page : Seq Hit) → map (row_at m trees def.sort) page ≡ paged def.sort None def.from def.size (map (row_at m trees def.sort) found)
       → hits_of (map (shown_as m trees (inner_of def)) page) ≡ (page_in m (live_trees trees) (inner_of def) (map (row_at m trees def.sort) found)).hits
   same_hits found page rows = ap (λ (p : PagePart). p.hits) (page_shown found page (map (shown_as m trees (inner_of def)) page) rows refl)

@@ -1,5 +1,5 @@
 -- Hits of a view: their entries, their objects and the roots of these.
-use Rattle.std.proofs.Common.{◌≡◌, ℕ, zero, suc, ◌+◌, ◌<◌, ◌≤◌, ◌==◌, List as Seq, [], ◌∷◌, ◌++◌, length, map, get_or, slice_get, Bool, true, false, cond, Option, Some, None, is_some, refl, sym, ap, subst, ◌∙◌, arith}
+use Rattle.std.proofs.Common.{◌≡◌, ℕ, zero, suc, ◌<◌, ◌==◌, List as Seq, [], ◌∷◌, ◌++◌, length, map, get_or, slice_get, Bool, true, false, cond, Option, Some, None, is_some, refl, sym, ap, subst, ◌∙◌, arith}
 use Rattle.std.proofs.lemmas.Bool.{eqb-true, false≢true}
 use Rattle.std.proofs.lemmas.List.{length-map, map-append}
 use Rattle.block_bits.specs.Blocks.{documents_of}
@@ -17,7 +17,6 @@ use Rattle.mapping.specs.IsMapping.{IsMapping}
 use Rattle.nested_sort.specs.Listed.{IsHitAt}
 use Rattle.inner_hits.specs.Hits.{AllReadBack, ReadsBack}
 use Rattle.inner_hits.proofs.Objects.{kept_tree}
-use Rattle.inner_hits.proofs.Paging.{by_test}
 
 -- ---- the entry at a place
 

@@ -1,5 +1,5 @@
 -- Serves proofs: where an object stands in its tree, and what it holds.
-use Rattle.std.specs.Prelude.{◌≡◌, ℕ, ◌+◌, ◌<◌, List, length, get_or, Option, Some, None}
+use Rattle.std.specs.Prelude.{◌≡◌, ℕ, ◌+◌, ◌<◌, length, get_or, Option, Some, None}
 use Rattle.block_bits.specs.Blocks.{has_scope}
 use Rattle.block_bits.specs.Places.{next_place}
 use Rattle.mapping.specs.Mapping.{Mapping, scope_at}

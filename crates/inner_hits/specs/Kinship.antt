@@ -1,5 +1,5 @@
 -- Hits among roots by the keys with which they take part in a join of trees.
-use Rattle.std.specs.Prelude.{◌≡◌, ℕ, ◌==◌, Bool, false, List, [], ◌∷◌, map, filter, slice_get, Option, Some, None, if◌then◌else◌, nat_lt}
+use Rattle.std.specs.Prelude.{◌≡◌, ℕ, ◌==◌, Bool, false, List, [], map, filter, slice_get, Option, Some, None, if◌then◌else◌, nat_lt}
 use Rattle.std.specs.List.{All, filter_map}
 use Rattle.std.specs.List.Sorted.{IsNonDecreasingBy}
 use Rattle.std.specs.Option.{option_map}
@@ -10,7 +10,6 @@ use Rattle.query_eval.specs.Sides.{key_at}
 use Rattle.query_eval.specs.declared.side.Side.{Side}
 use Rattle.segment.specs.Live.{EntryState, root_of}
 use Rattle.segment_parts.specs.Parts.{root_flags}
-use Rattle.segment_parts.specs.declared.columns.Columns.{Columns}
 use Rattle.view_objects.specs.Hits.{hits_in}
 use Rattle.view_objects.specs.declared.hit.Hit.{Hit}
 use Rattle.inner_hits.specs.declared.joined.Kin.{Kin}

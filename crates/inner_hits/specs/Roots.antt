@@ -1,5 +1,5 @@
 -- Serves proofs: the stored root of a document's tree.
-use Rattle.std.specs.Prelude.{◌≡◌, ℕ, Bool, false, List, slice_get, get_or, Some}
+use Rattle.std.specs.Prelude.{◌≡◌, ℕ, false, List, slice_get, get_or, Some}
 use Rattle.flattener.specs.Block.{root_of_tree}
 use Rattle.flattener.specs.StandsFor.{Marked}
 use Rattle.mapping.specs.Mapping.{Mapping}

@@ -190,7 +190,8 @@ fn add_pages<L: Ledger>(
             [own, others @ ..] => {
                 take_page(room)?;
                 let page = page(
-                    alloc, view, mapping, ordinals, def, own, scope, place, doc, source, room, steps,
+                    alloc, view, mapping, ordinals, def, own, scope, place, doc, source, room,
+                    steps,
                 )?;
                 pages.push(page)?;
                 add_pages(
@@ -235,15 +236,16 @@ fn page<L: Ledger>(
 {
     match def.over {
         InnerOver::Below(path) => Ok(below_page(
-            alloc, view, mapping, ordinals, def, prepared, path, scope, place, doc, source, room, steps,
+            alloc, view, mapping, ordinals, def, prepared, path, scope, place, doc, source, room,
+            steps,
         )?),
         InnerOver::Children(relation) => Ok(children_page(
-            alloc, view, mapping, ordinals, def, prepared, relation, scope, place, doc, source, room,
-            steps,
+            alloc, view, mapping, ordinals, def, prepared, relation, scope, place, doc, source,
+            room, steps,
         )?),
         InnerOver::Parents(relation) => Ok(parents_page(
-            alloc, view, mapping, ordinals, def, prepared, relation, scope, place, doc, source, room,
-            steps,
+            alloc, view, mapping, ordinals, def, prepared, relation, scope, place, doc, source,
+            room, steps,
         )?),
         InnerOver::Ignored => Ok(empty_page(alloc, def)?),
     }
@@ -512,7 +514,9 @@ fn shown_hit<L: Ledger>(
         → (0 < scope → seen_as source.now ≡ (tree_of (object_at mapping.now trees hit.place hit.doc)).source) → room.old < pages_weight (shown_as mapping.now trees (inner_of def.now) hit).inner }
 {
     if scope == 0 {
-        return Ok(tree_hit(alloc, view, mapping, ordinals, def, prepared, hit, room, steps)?);
+        return Ok(tree_hit(
+            alloc, view, mapping, ordinals, def, prepared, hit, room, steps,
+        )?);
     }
     Ok(nested_hit(
         alloc, view, mapping, ordinals, def, prepared, scope, hit, source, room, steps,

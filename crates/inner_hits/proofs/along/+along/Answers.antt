@@ -1,4 +1,4 @@
-use Rattle.std.proofs.Common.{sym, drop, option_map, ◌+◌, ◌≤◌, length, arith, Some}
+use Rattle.std.proofs.Common.{sym, drop, option_map, ◌+◌, arith}
 use Rattle.flattener.specs.Walked.{names_left}
 use Rattle.tree_json.specs.Value.{elements_of, members_of}
 use Rattle.tree_json.specs.View.{values, view}

@@ -1,8 +1,7 @@
-use Rattle.std.proofs.Common.{ℕ, ◌+◌, ◌*◌, drop, option_map, Option}
-use Rattle.tree_json.specs.Value.{JsonValue, value_size, elements_size, elements_of, members_size, members_of}
+use Rattle.std.proofs.Common.{◌+◌, ◌*◌, drop, option_map}
+use Rattle.tree_json.specs.Value.{value_size, elements_size, elements_of, members_size, members_of}
 use Rattle.tree_json.specs.View.{view, values}
 use Rattle.flattener.specs.Walked.{names_left}
-use Rattle.inner_hits.specs.Along.{IsCounted, objects_in}
 use Rattle.inner_hits.proofs.Counting.{GoesOn}
 use Rattle.inner_hits.proofs.along.+along.Given as goal
 

@@ -1,6 +1,5 @@
-use Rattle.std.proofs.Common.{◌≡◌, ℕ, List, Option, filter_map, map, sym, ap, ◌∙◌}
-use Rattle.query_ast.specs.Joined.{roots}
-use Rattle.query_eval.specs.declared.side.Side.TheVariants.{Children, ChildrenOf, Parents}
+use Rattle.std.proofs.Common.{ℕ, List, Option, filter_map, map, sym, ap, ◌∙◌}
+use Rattle.query_eval.specs.declared.side.Side.TheVariants.{Children, Parents}
 use Rattle.tree_joins.specs.Seen.{scored}
 use Rattle.tree_objects.specs.Object.{Object}
 use Rattle.view_objects.specs.Hits.{hit_object, hits_in, live_trees}

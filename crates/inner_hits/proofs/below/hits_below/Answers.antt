@@ -1,6 +1,6 @@
-use Rattle.std.proofs.Common.{◌≡◌, ◌++◌, ℕ, List, [], Option, get_or, ap, ◌∙◌}
+use Rattle.std.proofs.Common.{◌++◌, ℕ, List, [], Option, get_or, ap, ◌∙◌}
 use Rattle.query_eval.specs.Folds.{scopes_in}
-use Rattle.tree_joins.specs.Seen.{at_scope, seen}
+use Rattle.tree_joins.specs.Seen.{at_scope}
 use Rattle.query_eval.specs.Found.{live_trees}
 use Rattle.view_objects.specs.Hits.{hits_between}
 use Rattle.view_objects.specs.declared.hit.Hit.{Hit}

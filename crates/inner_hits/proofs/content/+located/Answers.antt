@@ -1,5 +1,4 @@
-use Rattle.std.proofs.Common.{◌≡◌, ◌<◌, ℕ, length, sym, ap, ◌∙◌, arith}
-use Rattle.tree_objects.specs.Object.{scope, tree_of}
+use Rattle.std.proofs.Common.{◌<◌, length, sym, ap, ◌∙◌, arith}
 use Rattle.tree_objects.specs.Tree.{Tree}
 use Rattle.view_objects.specs.Hits.{document_object, objects_in}
 use Rattle.inner_hits.proofs.Contents.{around_none, child_found, child_there, parent_around, root_located, same_tree}

@@ -1,4 +1,4 @@
-use Rattle.std.proofs.Common.{rules, ltb, arith, ◌≡◌, ◌<◌, ◌≤◌, ◌++◌, List, [], length, drop, filter, get_or, map, ap, ◌∙◌}
+use Rattle.std.proofs.Common.{rules, ltb, arith, ◌++◌, List, drop, filter, get_or, map, ap, ◌∙◌}
 use Rattle.std.proofs.lemmas.List.Sorted.{IsPartitionPoint-from_clause, IsPartitionedBy-ltb}
 use Rattle.view_objects.specs.declared.hit.Hit.{Hit}
 use Rattle.inner_hits.specs.Kinship.{has_key, hit_of, key_of}

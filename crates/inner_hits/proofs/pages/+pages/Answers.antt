@@ -314,24 +314,27 @@ shown_page-returns-in_err-copied-clause-steps g t c = λ trees stands kept are s
     )
 
 pub shown_hits-hits-init : goal.shown_hits-hits-init
-shown_hits-hits-init g t c = (omega (arith, ap (λ (l : List InnerHit). hits_weight (hits_of (map hit_part l))) c.in_ok-shown.ensures.items), λ trees stands kept are source. (
-  ap (λ (l : List InnerHit). map hit_part l ++ map (shown_as c.args.mapping.now trees (inner_of c.args.def.now)) c.args.hits.now) c.in_ok-shown.ensures.items,
-  omega arith,
-))
+shown_hits-hits-init g t c = (
+  omega (arith, ap (λ (l : List InnerHit). hits_weight (hits_of (map hit_part l))) c.in_ok-shown.ensures.items),
+  λ trees stands kept are source. (
+    ap (λ (l : List InnerHit). map hit_part l ++ map (shown_as c.args.mapping.now trees (inner_of c.args.def.now)) c.args.hits.now) c.in_ok-shown.ensures.items,
+    omega arith,
+  ),
+)
 
 pub shown_hits-hits-preserved : goal.shown_hits-hits-preserved
 shown_hits-hits-preserved g t c = (
   omega (arith, c.hits.invariant.0, c.in_ok-one.ensures.room, c.in_ok-take_hit.ensures.taken, pushed_hit c.hits.shown.items c.push.new.self.items c.in_ok-one.one c.in_ok-push.ensures.items),
   λ trees stands kept are source.
-    let m = c.args.mapping.now in
-    let hits = c.args.hits.now in
-    let i = c.hits.hit-index in
-    let f = shown_as m trees (inner_of c.args.def.now) in
-    let prior = c.hits.invariant.1 trees stands kept are source in (
-      shown_more f hits i _ c.hits.shown.items c.push.new.self.items c.in_ok-one.one (drop_more hits i _ c.hits-test.true)
-          (c.in_ok-one.ensures.hit trees stands kept (are i _ c.hits-test.true) (λ some. source some i _ c.hits-test.true)) c.in_ok-push.ensures.items prior.0,
-      steps_more f hits i _ _ _ _ (drop_more hits i _ c.hits-test.true) (c.in_ok-one.ensures.steps trees stands kept (are i _ c.hits-test.true) (λ some. source some i _ c.hits-test.true)) prior.1,
-    ),
+      let m = c.args.mapping.now in
+      let hits = c.args.hits.now in
+      let i = c.hits.hit-index in
+      let f = shown_as m trees (inner_of c.args.def.now) in
+      let prior = c.hits.invariant.1 trees stands kept are source in (
+        shown_more f hits i _ c.hits.shown.items c.push.new.self.items c.in_ok-one.one (drop_more hits i _ c.hits-test.true)
+            (c.in_ok-one.ensures.hit trees stands kept (are i _ c.hits-test.true) (λ some. source some i _ c.hits-test.true)) c.in_ok-push.ensures.items prior.0,
+        steps_more f hits i _ _ _ _ (drop_more hits i _ c.hits-test.true) (c.in_ok-one.ensures.steps trees stands kept (are i _ c.hits-test.true) (λ some. source some i _ c.hits-test.true)) prior.1,
+      ),
 )
 
 pub shown_hits-returns-in_err-one-clause-steps : goal.shown_hits-returns-in_err-one-clause-steps

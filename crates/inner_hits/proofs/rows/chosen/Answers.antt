@@ -1,4 +1,4 @@
-use Rattle.std.proofs.Common.{ℕ, ◌<◌, [], length, map, refl}
+use Rattle.std.proofs.Common.{[], map, refl}
 use Rattle.hit_order.specs.Table.{directions_of, place_at}
 use Rattle.query_ast.specs.Page.{direction_of}
 use Rattle.nested_sort.specs.Listed.{IsDocOf, no_hit}
