@@ -1,20 +1,23 @@
 -- What is given row by row.
-use Rattle.std.proofs.Common.{◌≡◌, ℕ, zero, suc, ◌+◌, ◌<◌, ◌≤◌, List, [], ◌∷◌, ◌++◌, length, get_or, take, Option, Some, None, IfSome, sym, ap, subst, ◌∙◌, arith}
+use Rattle.std.proofs.Common.{◌≡◌, ℕ, zero, suc, ◌+◌, ◌<◌, ◌≤◌, nat_le, false, List, [], ◌∷◌, ◌++◌, length, get_or, slice_get, take, drop, Option, Some, None, IfSome, refl, sym, ap, subst, ◌∙◌, arith}
 use Rattle.std.specs.List.{cons_option, filter_map, sum_by}
 use Rattle.std.specs.Option.{option_map}
-use Rattle.std.proofs.lemmas.List.{append-nil, take_more}
+use Rattle.std.proofs.lemmas.Bool.Decides.{nat_tests}
+use Rattle.std.proofs.lemmas.List.{append-nil, take-append-drop, take_more}
 use Rattle.std.proofs.lemmas.List.Elements.{filter_map-append}
 use Rattle.std.proofs.lemmas.List.Sums.{sum_by-append, sum_by-take-drop}
 use Rattle.flattener.specs.StandsFor.{Marked}
 use Rattle.mapping.specs.Mapping.{Mapping}
 use Rattle.nested_sort.specs.Listed.{IsHitAt}
 use Rattle.query_ast.specs.InnerHits.{source_of}
+use Rattle.query_ast.specs.Pages.{pages_of}
 use Rattle.query_ast.specs.declared.hit.Hit.{Hit}
 use Rattle.query_ast.specs.declared.search.SearchBody.{SearchBody}
 use Rattle.query_ast.specs.declared.sort.KeyRow.{KeyRow}
+use Rattle.reply_text.specs.Weight.{hit_weight, pages_weight, whole_weight}
 use Rattle.segment.specs.Live.{EntryState}
 use Rattle.tree_objects.specs.Tree.{Tree}
-use Rattle.search_page.specs.Hits.{AreRootRows, bare_of, hit_at, row_object, row_pages, shown_at, shown_of}
+use Rattle.search_page.specs.Hits.{AreRootRows, bare_of, hit_at, row_object, row_pages, shown_at, shown_of, weight_or_zero}
 
 module _ {A B : Type 0} (f : A → Option B) (xs : List A) (i : ℕ) (x : A) (low : i < length xs) (is : x ≡ get_or xs i x) where
   -- of one element more
@@ -30,6 +33,26 @@ module _ {A B : Type 0} (f : A → Option B) (xs : List A) (i : ℕ) (x : A) (lo
 
   pub more_none : (had now : List B) → had ≡ filter_map f (take i xs) → f x ≡ None → now ≡ had → now ≡ filter_map f (take (i + 1) xs)
   more_none had now so gives same = same ∙ so ∙ sym (one_more None gives ∙ append-nil (filter_map f (take i xs)))
+
+-- the hits before and that of one more row weigh no more than all
+module _ (f : KeyRow → Option Hit) (rows : List KeyRow) (i : ℕ) (row : KeyRow) (low : i < length rows) (is : row ≡ get_or rows i row) where
+  pub row_passes : (had : List Hit) (room : ℕ) → had ≡ filter_map f (take i rows) → room < weight_or_zero (f row) → room + sum_by whole_weight had < sum_by whole_weight (filter_map f rows)
+  row_passes had room so less =
+      let rest = filter_map f (drop (i + 1) rows) in
+      omega (
+        arith,
+        less,
+        own (f row),
+        ap (sum_by whole_weight) so,
+        ap (sum_by whole_weight) (one_more f rows i row low is (f row) refl),
+        sum_by-append whole_weight (filter_map f (take i rows)) (cons_option (f row) []),
+        sum_by-append whole_weight (filter_map f (take (i + 1) rows)) rest,
+        ap (sum_by whole_weight) (sym (filter_map-append f (take (i + 1) rows) (drop (i + 1) rows)) ∙ ap (filter_map f) (take-append-drop (i + 1) rows)),
+      )
+    where
+      own : (o : Option Hit) → sum_by whole_weight (cons_option o []) ≡ weight_or_zero o
+      own None = refl
+      own (Some hit) = omega arith
 
 -- one more row costs what it may cost
 pub reads_more : {A : Type 0} (cost : A → ℕ) (xs : List A) (i : ℕ) (x : A) → i < length xs → x ≡ get_or xs i x → (first before after : ℕ) → before ≤ first + sum_by cost (take i xs) → after ≤ before + cost x → after ≤ first + sum_by cost (take (i + 1) xs)
@@ -53,6 +76,12 @@ module _ (m : Mapping) (trees : List (List (Marked Tree))) where
   row_within [] i row are low is = absurd (omega (arith, low))
   row_within (r ∷ rows) zero row are low is = subst (λ (r : KeyRow). IsHitAt m 0 trees r.place r.doc) (sym is) are.0
   row_within (r ∷ rows) (suc i) row are low is = row_within rows i row are.1 (omega (arith, low)) is
+
+  -- what a row that is shown weighs
+  pub row_weighs : (view : List EntryState) (found : List (List (Option ℕ))) (body : SearchBody) (row : KeyRow) (entry : EntryState) → slice_get view row.place ≡ Some entry → row.doc < entry.columns.documents
+      → weight_or_zero (shown_at m view found trees body row) ≡ hit_weight (source_of body.source (row_object m trees row)) + pages_weight (pages_of (row_pages m trees body row))
+  unfolding shown_at hit_at
+  row_weighs view found body row entry is low = let there : nat_le entry.columns.documents row.doc ≡ false = grind (arith, nat_tests, low) in rw (is, there) refl
 
   -- what is stored of a row's root, with what is shown of it
   pub whole : (view : List EntryState) (found : List (List (Option ℕ))) (body : SearchBody) (row : KeyRow) (hit : Option Hit) → option_map bare_of hit ≡ hit_at view found row

@@ -8,6 +8,8 @@ use Rattle.block_join.specs.Scores.{filled}
 use Rattle.flattener.specs.StandsFor.{Marked}
 use Rattle.hit_order.specs.declared.column.RowPlace.{RowPlace}
 use Rattle.inner_hits.specs.Steps.{joined_in}
+use Rattle.inner_hits.specs.declared.page_refusal.PageRefusal.{PageRefusal}
+use Rattle.inner_hits.specs.declared.page_refusal.PageRefusal.TheVariants as refused
 use Rattle.mapping.specs.Mapping.{Mapping}
 use Rattle.nested_sort.specs.Listed.{IsHitAt}
 use Rattle.query_ast.specs.Definition.{definitions_of}
@@ -20,6 +22,7 @@ use Rattle.query_ast.specs.declared.sort.Key.TheVariants.{Number}
 use Rattle.query_ast.specs.declared.sort.KeyRow.{KeyRow}
 use Rattle.query_ast.specs.declared.sort.Sort.{Sort}
 use Rattle.query_ast.specs.declared.sort.SortKey.TheVariants.{Score}
+use Rattle.reply_text.specs.Weight.{whole_weight}
 use Rattle.segment.specs.Flat.{FlatDocument, FlatRoot, flat_root, flats_of}
 use Rattle.segment.specs.Live.{EntryState, root_of as block_root}
 use Rattle.segment_parts.specs.Text.{marked_places}
@@ -28,6 +31,8 @@ use Rattle.stored_sources.specs.Roots.{root_of as stored_root}
 use Rattle.tree_objects.specs.Object.{Object}
 use Rattle.tree_objects.specs.Tree.{Tree}
 use Rattle.view_objects.specs.Hits.{live_trees, object_at}
+use Rattle.search_page.specs.declared.found_refusal.FoundRefusal.{FoundRefusal}
+use Rattle.search_page.specs.declared.found_refusal.FoundRefusal.TheVariants.{NoMemory, TooLarge}
 
 -- whether each document is a root's
 abbrev pub root_marks : Columns → List Bool
@@ -84,6 +89,11 @@ AreRootRows m trees rows = AllByRecursion (λ (row : KeyRow). IsHitAt m 0 trees 
 abbrev pub row_reads : Mapping → List (List (Marked Tree)) → SearchBody → KeyRow → ℕ
 row_reads m trees body row = 1 + joined_in (pages_of (row_pages m trees body row))
 
+-- what the hit of a row weighs in a reply
+abbrev pub weight_or_zero : Option Hit → ℕ
+weight_or_zero None = 0
+weight_or_zero (Some hit) = whole_weight hit
+
 -- ---- hits that have one score, by which alone they are ordered
 
 -- where the documents of the entries with scores stand, the first entry at a place
@@ -104,3 +114,9 @@ AreShared score found = AllByRecursion (λ (scores : List (Option ℕ)). scores 
 -- the score alone orders them
 abbrev pub IsByScore : List Sort → Type 0
 IsByScore sorts = (sort : Sort) × (sorts ≡ sort ∷ []) × (sort.key ≡ Score)
+
+-- ---- refusals
+
+abbrev pub refusal_of : PageRefusal → FoundRefusal
+refusal_of refused.TooLarge = TooLarge
+refusal_of refused.NoMemory = NoMemory

@@ -1,5 +1,5 @@
 //! The hits of rows.
-ghost use Rattle.std.specs.Prelude.{◌≡◌, ◌≤◌, ◌+◌, ◌<◌, List, [], None, true, false, length, get_or, IfOk, IfSome};
+ghost use Rattle.std.specs.Prelude.{◌≡◌, ◌≤◌, ◌+◌, ◌<◌, List, [], None, true, false, length, get_or, IfOk, IfSome, IsErrOf};
 ghost use Rattle.std.specs.List.{filter_map, sum_by};
 ghost use Rattle.std.specs.Option.{option_map};
 ghost use Rattle.flattener.specs.Fits.{ViewFits};
@@ -11,18 +11,20 @@ ghost use Rattle.query_ast.specs.Definition.{definitions_of};
 ghost use Rattle.query_ast.specs.InnerHits.{source_of};
 ghost use Rattle.query_ast.specs.Joins.{some_inner_joins};
 ghost use Rattle.query_ast.specs.Resolved.{AreInnerDefinitions};
-ghost use Rattle.search_page.specs.Hits.{AreRootRows, bare_of, hit_at, root_marks, row_object, row_pages, row_reads, score_or_zero, shown_at};
+ghost use Rattle.reply_text.specs.Weight.{whole_weight};
+ghost use Rattle.search_page.specs.Hits.{AreRootRows, bare_of, hit_at, root_marks, row_object, row_pages, row_reads, score_or_zero, shown_at, weight_or_zero};
 ghost use Rattle.search_page.specs.Searched.{AreSearched};
 ghost use Rattle.segment.specs.Live.{root_of as block_root};
 ghost use Rattle.tree_objects.specs.Tree.{Tree};
 
-use crate::NoMemory;
+use crate::found_refusal::FoundRefusal;
 use block_join::{Matches, Scored};
 use hit_order::KeyRows;
 use inner_hits::{PreparedList, shown};
 use join_ordinals::JoinOrdinals;
 use mapping::Mapping;
 use query_ast::{Hit, KeyRow, SearchBody};
+use reply_text::take_hit;
 use segment::{Segment, scopes_are_of_documents};
 use segment_view::View;
 use source_steps::Steps;
@@ -31,7 +33,7 @@ use std::sync::ledger::Ledger;
 use tree_objects::Bytes;
 
 /// The hits of rows that were found at roots, in their order: the stored id and number of each root, its score, its source
-/// where it is asked for, and its inner hits.
+/// where it is asked for, and its inner hits. They are too large where they weigh more than the limit.
 pub(crate) fn hits_of<L: Ledger>(
     alloc: Global,
     view: &View,
@@ -41,8 +43,9 @@ pub(crate) fn hits_of<L: Ledger>(
     prepared: &PreparedList,
     found: &Matches,
     rows: &KeyRows,
+    limit: u64,
     steps: &mut Steps<L>,
-) -> Result<Vec<Hit>, NoMemory>
+) -> Result<Vec<Hit>, FoundRefusal>
     requires fits { ViewFits mapping.now view.now }
     requires resolved { AreInnerDefinitions mapping.now 0 (definitions_of search.now.inner) }
     requires prepared { ArePrepared mapping.now view.now ordinals.now (definitions_of search.now.inner) (definitions_of prepared.now) }
@@ -52,12 +55,16 @@ pub(crate) fn hits_of<L: Ledger>(
     ensures reads { (trees : List (List (Marked Tree))) → AreSearched mapping.now view.now trees → AreRootRows mapping.now trees rows.now.rows
         → steps.new ≤ steps.old + sum_by (row_reads mapping.now trees search.now) rows.now.rows }
     ensures unread { search.now.source ≡ false → search.now.inner ≡ [] → steps.new ≡ steps.old }
+    ensures within { IfOk result (λ hits. sum_by whole_weight hits.items ≤ limit) }
+    ensures too_large { IsErrOf result FoundRefusal.TooLarge → (trees : List (List (Marked Tree))) → AreSearched mapping.now view.now trees → AreRootRows mapping.now trees rows.now.rows
+        → limit < sum_by whole_weight (filter_map (shown_at mapping.now view.now found.now trees search.now) rows.now.rows) }
 {
     let mut hits = Vec::with_capacity(alloc, rows.len())?;
+    let mut room = limit;
     'rows: for at in 0..rows.len() {
         let row = rows.row(alloc, at)?;
         let hit = hit(
-            alloc, view, mapping, ordinals, search, prepared, found, row, steps,
+            alloc, view, mapping, ordinals, search, prepared, found, row, &mut room, steps,
         )?;
         if let Some(hit) = hit {
             hits.push(hit)?;
@@ -77,8 +84,9 @@ fn hit<L: Ledger>(
     prepared: &PreparedList,
     found: &Matches,
     row: KeyRow,
+    room: &mut u64,
     steps: &mut Steps<L>,
-) -> Result<Option<Hit>, NoMemory>
+) -> Result<Option<Hit>, FoundRefusal>
     requires fits { ViewFits mapping.now view.now }
     requires resolved { AreInnerDefinitions mapping.now 0 (definitions_of search.now.inner) }
     requires prepared { ArePrepared mapping.now view.now ordinals.now (definitions_of search.now.inner) (definitions_of prepared.now) }
@@ -89,6 +97,9 @@ fn hit<L: Ledger>(
     ensures reads { (trees : List (List (Marked Tree))) → AreSearched mapping.now view.now trees → IsHitAt mapping.now 0 trees row.place row.doc
         → steps.new ≤ steps.old + row_reads mapping.now trees search.now row }
     ensures unread { search.now.source ≡ false → search.now.inner ≡ [] → steps.new ≡ steps.old }
+    ensures room { IfOk result (λ hit. room.old ≡ room.new + weight_or_zero hit) }
+    ensures too_large { IsErrOf result FoundRefusal.TooLarge → (trees : List (List (Marked Tree))) → AreSearched mapping.now view.now trees → IsHitAt mapping.now 0 trees row.place row.doc
+        → room.old < weight_or_zero (shown_at mapping.now view.now found.now trees search.now row) }
 {
     let KeyRow {
         keys,
@@ -113,8 +124,10 @@ fn hit<L: Ledger>(
         place,
         doc,
         search.source,
+        room,
         steps,
     )?;
+    take_hit(&shown.source, room)?;
     let root = root_of(segment, doc);
     Ok(Some(Hit {
         id: Bytes::of(Vec::from_slice(alloc, segment.root_id(root))?),

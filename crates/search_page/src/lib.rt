@@ -7,10 +7,12 @@
 
 mod filters;
 mod first;
+mod found_refusal;
 mod hits;
 mod no_memory;
 mod ordinals;
 mod pages;
 
-pub use no_memory::NoMemory;
+pub use found_refusal::FoundRefusal;
+use no_memory::NoMemory;
 pub use pages::{SearchResult, found};

@@ -17,6 +17,12 @@ impl<T: Drop> From<AllocFailed<T>> for NoMemory {
     }
 }
 
+impl From<bucket_aggs::NoMemory> for NoMemory {
+    fn from(_: bucket_aggs::NoMemory) -> NoMemory {
+        NoMemory
+    }
+}
+
 impl From<hit_order::NoMemory> for NoMemory {
     fn from(_: hit_order::NoMemory) -> NoMemory {
         NoMemory
@@ -29,32 +35,8 @@ impl From<join_ordinals::NoMemory> for NoMemory {
     }
 }
 
-impl From<nested_sort::NoMemory> for NoMemory {
-    fn from(_: nested_sort::NoMemory) -> NoMemory {
-        NoMemory
-    }
-}
-
 impl From<query_eval::NoMemory> for NoMemory {
     fn from(_: query_eval::NoMemory) -> NoMemory {
-        NoMemory
-    }
-}
-
-impl From<stored_sources::NoMemory> for NoMemory {
-    fn from(_: stored_sources::NoMemory) -> NoMemory {
-        NoMemory
-    }
-}
-
-impl From<bucket_aggs::NoMemory> for NoMemory {
-    fn from(_: bucket_aggs::NoMemory) -> NoMemory {
-        NoMemory
-    }
-}
-
-impl From<inner_hits::NoMemory> for NoMemory {
-    fn from(_: inner_hits::NoMemory) -> NoMemory {
         NoMemory
     }
 }

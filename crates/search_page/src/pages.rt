@@ -1,5 +1,5 @@
 //! What a search finds.
-ghost use Rattle.std.specs.Prelude.{◌≡◌, ◌≤◌, ◌+◌, List, [], false, true, IfOk, IfSome, None};
+ghost use Rattle.std.specs.Prelude.{◌≡◌, ◌≤◌, ◌<◌, ◌+◌, List, [], false, true, IfOk, IfSome, IsErrOf, None};
 ghost use Rattle.flattener.specs.Fits.{ViewFits};
 ghost use Rattle.flattener.specs.StandsFor.{Marked};
 ghost use Rattle.join_ordinals.specs.Ordinals.{AreOrdinals};
@@ -8,6 +8,7 @@ ghost use Rattle.query_ast.specs.Joins.{search_joins};
 ghost use Rattle.query_ast.specs.Resolved.{IsSearch};
 ghost use Rattle.query_ast.specs.Search.{found_buckets, hit_page};
 ghost use Rattle.query_eval.specs.Found.{IsFound};
+ghost use Rattle.reply_text.specs.Weight.{page_weight};
 ghost use Rattle.score_math.specs.declared.score.TheConstants.{SCORE_CAP};
 ghost use Rattle.search_page.specs.Hits.{AreShared, IsByScore};
 ghost use Rattle.search_page.specs.Searched.{AreSearched, page_reads};
@@ -17,6 +18,7 @@ ghost use Rattle.view_objects.specs.Hits.{live_trees};
 use crate::NoMemory;
 use crate::filters::filters_found;
 use crate::first::{first_rows, only_score};
+use crate::found_refusal::FoundRefusal;
 use crate::hits::hits_of;
 use crate::ordinals::make_ordinals;
 use block_join::Matches;
@@ -45,15 +47,17 @@ pub struct SearchResult {
 ///
 /// The search was resolved under the mapping. `ordinals` is None, or holds those of the view: they are made for a search that
 /// joins, and serve the searches behind it as long as the view stands. Sources are read for the hits of the page and the joined
-/// trees among their inner hits alone, and only where they are shown or inner hits are taken from them.
+/// trees among their inner hits alone, and only where they are shown or inner hits are taken from them. A page that weighs more
+/// than the limit, the most bytes of a reply, is too large, and no more of it is made than weighs so much.
 pub fn found<L: Ledger>(
     alloc: Global,
     view: &View,
     mapping: &Mapping,
     search: &SearchBody,
     ordinals: &mut Option<JoinOrdinals>,
+    limit: u64,
     steps: &mut Steps<L>,
-) -> Result<SearchResult, NoMemory>
+) -> Result<SearchResult, FoundRefusal>
     requires fits { ViewFits mapping.now view.now }
     requires resolved { IsSearch mapping.now search.now }
     requires ordinals { IfSome ordinals.old (AreOrdinals view.now) }
@@ -62,16 +66,19 @@ pub fn found<L: Ledger>(
     ensures reads { (trees : List (List (Marked Tree))) → AreSearched mapping.now view.now trees → steps.new ≤ steps.old + page_reads (hit_page mapping.now (live_trees trees) search.now) }
     ensures unread { search.now.source ≡ false → search.now.inner ≡ [] → steps.new ≡ steps.old }
     ensures ordinals { IfSome ordinals.new (AreOrdinals view.now) }
+    ensures within { IfOk result (λ found. page_weight found.page ≤ limit) }
+    ensures too_large { IsErrOf result FoundRefusal.TooLarge → (trees : List (List (Marked Tree))) → AreSearched mapping.now view.now trees → limit < page_weight (hit_page mapping.now (live_trees trees) search.now) }
 {
     make_ordinals(alloc, view, search, ordinals)?;
     match ordinals.as_ref() {
-        Some(known) => found_by(alloc, view, mapping, search, known, steps),
+        Some(known) => found_by(alloc, view, mapping, search, known, limit, steps),
         None => found_by(
             alloc,
             view,
             mapping,
             search,
             &JoinOrdinals::none(alloc),
+            limit,
             steps,
         ),
     }
@@ -84,8 +91,9 @@ fn found_by<L: Ledger>(
     mapping: &Mapping,
     search: &SearchBody,
     ordinals: &JoinOrdinals,
+    limit: u64,
     steps: &mut Steps<L>,
-) -> Result<SearchResult, NoMemory>
+) -> Result<SearchResult, FoundRefusal>
     requires fits { ViewFits mapping.now view.now }
     requires resolved { IsSearch mapping.now search.now }
     requires joined { search_joins search.now ≡ true → AreOrdinals view.now ordinals.now }
@@ -93,11 +101,13 @@ fn found_by<L: Ledger>(
     ensures answers { IfOk result (λ found. (trees : List (List (Marked Tree))) → AreSearched mapping.now view.now trees → found.answers ≡ found_buckets mapping.now (live_trees trees) search.now) }
     ensures reads { (trees : List (List (Marked Tree))) → AreSearched mapping.now view.now trees → steps.new ≤ steps.old + page_reads (hit_page mapping.now (live_trees trees) search.now) }
     ensures unread { search.now.source ≡ false → search.now.inner ≡ [] → steps.new ≡ steps.old }
+    ensures within { IfOk result (λ found. page_weight found.page ≤ limit) }
+    ensures too_large { IsErrOf result FoundRefusal.TooLarge → (trees : List (List (Marked Tree))) → AreSearched mapping.now view.now trees → limit < page_weight (hit_page mapping.now (live_trees trees) search.now) }
 {
     let query = search.query.get();
     let matched = matches(alloc, view, mapping, ordinals, query, 0, steps)?;
     let answers = found_buckets(alloc, view, mapping, ordinals, &matched, search, steps)?;
-    let page = page(alloc, view, mapping, search, ordinals, &matched, steps)?;
+    let page = page(alloc, view, mapping, search, ordinals, &matched, limit, steps)?;
     Ok(SearchResult { page, answers })
 }
 
@@ -112,8 +122,9 @@ fn page<L: Ledger>(
     search: &SearchBody,
     ordinals: &JoinOrdinals,
     matched: &Matches,
+    limit: u64,
     steps: &mut Steps<L>,
-) -> Result<HitPage, NoMemory>
+) -> Result<HitPage, FoundRefusal>
     requires fits { ViewFits mapping.now view.now }
     requires resolved { IsSearch mapping.now search.now }
     requires joined { search_joins search.now ≡ true → AreOrdinals view.now ordinals.now }
@@ -121,15 +132,17 @@ fn page<L: Ledger>(
     ensures page { IfOk result (λ page. (trees : List (List (Marked Tree))) → AreSearched mapping.now view.now trees → page ≡ hit_page mapping.now (live_trees trees) search.now) }
     ensures reads { (trees : List (List (Marked Tree))) → AreSearched mapping.now view.now trees → steps.new ≤ steps.old + page_reads (hit_page mapping.now (live_trees trees) search.now) }
     ensures unread { search.now.source ≡ false → search.now.inner ≡ [] → steps.new ≡ steps.old }
+    ensures within { IfOk result (λ page. page_weight page ≤ limit) }
+    ensures too_large { IsErrOf result FoundRefusal.TooLarge → (trees : List (List (Marked Tree))) → AreSearched mapping.now view.now trees → limit < page_weight (hit_page mapping.now (live_trees trees) search.now) }
 {
     if search.size == 0 {
-        empty_page(alloc, view, mapping, search, matched)
+        Ok(empty_page(alloc, view, mapping, search, matched)?)
     } else {
         match only_score(search, matched) {
             Some(score) => first_page(
-                alloc, view, mapping, search, ordinals, matched, score, steps,
+                alloc, view, mapping, search, ordinals, matched, score, limit, steps,
             ),
-            None => shown_page(alloc, view, mapping, search, ordinals, matched, steps),
+            None => shown_page(alloc, view, mapping, search, ordinals, matched, limit, steps),
         }
     }
 }
@@ -143,8 +156,9 @@ fn first_page<L: Ledger>(
     ordinals: &JoinOrdinals,
     matched: &Matches,
     score: u64,
+    limit: u64,
     steps: &mut Steps<L>,
-) -> Result<HitPage, NoMemory>
+) -> Result<HitPage, FoundRefusal>
     requires fits { ViewFits mapping.now view.now }
     requires resolved { IsSearch mapping.now search.now }
     requires joined { search_joins search.now ≡ true → AreOrdinals view.now ordinals.now }
@@ -156,13 +170,15 @@ fn first_page<L: Ledger>(
     ensures page { IfOk result (λ page. (trees : List (List (Marked Tree))) → AreSearched mapping.now view.now trees → page ≡ hit_page mapping.now (live_trees trees) search.now) }
     ensures reads { (trees : List (List (Marked Tree))) → AreSearched mapping.now view.now trees → steps.new ≤ steps.old + page_reads (hit_page mapping.now (live_trees trees) search.now) }
     ensures unread { search.now.source ≡ false → search.now.inner ≡ [] → steps.new ≡ steps.old }
+    ensures within { IfOk result (λ page. page_weight page ≤ limit) }
+    ensures too_large { IsErrOf result FoundRefusal.TooLarge → (trees : List (List (Marked Tree))) → AreSearched mapping.now view.now trees → limit < page_weight (hit_page mapping.now (live_trees trees) search.now) }
 {
     objects_nest();
     let total = found_count(view, mapping, matched)?;
     let prepared = prepare(alloc, view, mapping, ordinals, &search.inner, 0, steps)?;
     let rows = first_rows(alloc, matched, search.from, search.size, score)?;
     let hits = hits_of(
-        alloc, view, mapping, ordinals, search, &prepared, matched, &rows, steps,
+        alloc, view, mapping, ordinals, search, &prepared, matched, &rows, limit, steps,
     )?;
     Ok(HitPage {
         hits: HitList::of(hits),
@@ -180,7 +196,8 @@ fn empty_page(
 ) -> Result<HitPage, NoMemory>
     requires none { search.now.size ≡ 0 }
     requires matched { IsFound mapping.now view.now 0 search.now.query matched.now }
-    ensures { IfOk result (λ page. (trees : List (List (Marked Tree))) → AreSearched mapping.now view.now trees → page ≡ hit_page mapping.now (live_trees trees) search.now) }
+    ensures none { IfOk result (λ page. page.hits ≡ []) }
+    ensures page { IfOk result (λ page. (trees : List (List (Marked Tree))) → AreSearched mapping.now view.now trees → page ≡ hit_page mapping.now (live_trees trees) search.now) }
 {
     let total = found_count(view, mapping, matched)?;
     let hits = HitList::of(Vec::new(alloc));
@@ -195,8 +212,9 @@ fn shown_page<L: Ledger>(
     search: &SearchBody,
     ordinals: &JoinOrdinals,
     matched: &Matches,
+    limit: u64,
     steps: &mut Steps<L>,
-) -> Result<HitPage, NoMemory>
+) -> Result<HitPage, FoundRefusal>
     requires fits { ViewFits mapping.now view.now }
     requires resolved { IsSearch mapping.now search.now }
     requires joined { search_joins search.now ≡ true → AreOrdinals view.now ordinals.now }
@@ -204,6 +222,8 @@ fn shown_page<L: Ledger>(
     ensures page { IfOk result (λ page. (trees : List (List (Marked Tree))) → AreSearched mapping.now view.now trees → page ≡ hit_page mapping.now (live_trees trees) search.now) }
     ensures reads { (trees : List (List (Marked Tree))) → AreSearched mapping.now view.now trees → steps.new ≤ steps.old + page_reads (hit_page mapping.now (live_trees trees) search.now) }
     ensures unread { search.now.source ≡ false → search.now.inner ≡ [] → steps.new ≡ steps.old }
+    ensures within { IfOk result (λ page. page_weight page ≤ limit) }
+    ensures too_large { IsErrOf result FoundRefusal.TooLarge → (trees : List (List (Marked Tree))) → AreSearched mapping.now view.now trees → limit < page_weight (hit_page mapping.now (live_trees trees) search.now) }
 {
     objects_nest();
     let total = found_count(view, mapping, matched)?;
@@ -225,7 +245,7 @@ fn shown_page<L: Ledger>(
     )?;
     let shown = top(alloc, rows, after, search.from, search.size)?;
     let hits = hits_of(
-        alloc, view, mapping, ordinals, search, &prepared, matched, &shown, steps,
+        alloc, view, mapping, ordinals, search, &prepared, matched, &shown, limit, steps,
     )?;
     Ok(HitPage {
         hits: HitList::of(hits),
