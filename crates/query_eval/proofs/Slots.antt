@@ -1,7 +1,9 @@
--- Tallies in slots: each key with scores has a slot of its own.
-use Rattle.std.proofs.Common.{◌≡◌, ◌≢◌, ℕ, zero, suc, ◌==◌, ◌<◌, ◌≤◌, true, false, List, [], ◌∷◌, ◌++◌, length, replicate, get_or, set, refl, sym, ap, subst, ◌∙◌, inl, inr, arith}
+-- What keys are given by their scores: a mark, or a tally in a slot of its own.
+use Rattle.std.proofs.Common.{◌≡◌, ◌≢◌, ℕ, zero, suc, ◌==◌, ◌<◌, ◌≤◌, Bool, true, false, if◌then◌else◌, Some, None, List, [], ◌∷◌, ◌++◌, length, replicate, get_or, set, refl, sym, ap, subst, ◌∙◌, inl, inr, arith}
 use Rattle.std.proofs.lemmas.Bool.{cases_Bool, eqb-true, eq-eqb, true≢false}
-use Rattle.query_eval.specs.Sides.{AreTold, IsTold, TallyOf, scores_of}
+use Rattle.query_eval.specs.Sides.{AreMarked, AreTold, IsTold, TallyOf, answer_of, scores_of}
+use Rattle.query_eval.specs.declared.answer.Answer.{Answer}
+use Rattle.query_eval.specs.declared.answer.Answer.TheVariants as answer
 use Rattle.query_eval.specs.declared.tally.Tally.{Tally}
 use Rattle.query_eval.proofs.Entries.{nil_append}
 use Rattle.query_eval.proofs.Keys.{scores_append}
@@ -33,10 +35,10 @@ module _ {A : Type 0} where
   before_end (y ∷ xs) x d zero below = refl
   before_end (y ∷ xs) x d (suc k) below = before_end xs x d k (omega (arith, below))
 
-no_slot : (count key : ℕ) → ◌≡◌ {A = ℕ} (get_or (replicate count 0) key 0) 0
-no_slot zero key = refl
-no_slot (suc count) zero = refl
-no_slot (suc count) (suc key) = no_slot count key
+no_slot : {A : Type 0} (x : A) (count key : ℕ) → get_or (replicate count x) key x ≡ x
+no_slot x zero key = refl
+no_slot x (suc count) zero = refl
+no_slot x (suc count) (suc key) = no_slot x count key
 
 -- which default is taken doesn't matter within a list
 pub own_slot : (slots : List ℕ) (key slot : ℕ) → key < length slots → slot ≡ get_or slots key slot → slot ≡ get_or slots key 0
@@ -46,14 +48,14 @@ own_slot (x ∷ slots) (suc key) slot below is = own_slot slots key slot (omega 
 
 pub told_none : (slots : List ℕ) (told : List Tally) (count : ℕ) → slots ≡ replicate count 0 → AreTold [] slots told
 told_none slots told count is = record {
-  each = λ key below. rw (is, no_slot count key) refl;
-  apart = λ one other some same. absurd (omega (arith, some, ap (λ (l : List ℕ). get_or l one 0) is, no_slot count one));
+  each = λ key below. rw (is, no_slot {A = ℕ} 0 count key) refl;
+  apart = λ one other some same. absurd (omega (arith, some, ap (λ (l : List ℕ). get_or l one 0) is, no_slot {A = ℕ} 0 count one));
 }
 
 other_key : (k j : ℕ) → (k == j) ≡ false → k ≢ j
 other_key k j other = λ same. true≢false (sym (eq-eqb k j same) ∙ other)
 
-module _ (pairs : List (ℕ × ℕ)) (slots : List ℕ) (told : List Tally) (key s : ℕ) (t : Tally) (was : AreTold pairs slots told) (below : key < length slots) where
+module _ (pairs : List (ℕ × ℕ)) (key s : ℕ) where
   scores_other : (j : ℕ) → (key == j) ≡ false → scores_of j (pairs ++ (key, s) ∷ []) ≡ scores_of j pairs
   scores_other j other = scores_append j pairs ((key, s) ∷ []) ∙ rw other (nil_append (scores_of j pairs))
 
@@ -62,6 +64,30 @@ module _ (pairs : List (ℕ × ℕ)) (slots : List ℕ) (told : List Tally) (key
       let same : key ≡ j = eqb-true key j here in
       scores_append j pairs ((key, s) ∷ []) ∙ rw here (ap (λ n. scores_of n pairs ++ s ∷ []) (sym same))
 
+-- ---- marks
+
+pub marked_none : (boost : ℕ) (marks : List Bool) (count : ℕ) → marks ≡ replicate count false → AreMarked boost [] marks
+marked_none boost marks count is = λ key below. rw (is, no_slot {A = Bool} false count key) refl
+
+some_boost : (boost s : ℕ) (scores : List ℕ) → Some boost ≡ answer_of (answer.Parent false boost) (scores ++ s ∷ [])
+some_boost boost s [] = refl
+some_boost boost s (t ∷ scores) = refl
+
+pub marked_more : (boost : ℕ) (pairs : List (ℕ × ℕ)) (marks : List Bool) (key s : ℕ) → AreMarked boost pairs marks → key < length marks → AreMarked boost (pairs ++ (key, s) ∷ []) (set marks key true)
+marked_more boost pairs marks key s was below = λ j inside. elim (cases_Bool (key == j)) [
+  | inl here ↦
+      let mark : get_or (set marks key true) j false ≡ true = ap (λ n. get_or (set marks key true) n false) (sym (eqb-true key j here)) ∙ set_own marks key true false below in
+      rw (mark, scores_own pairs key s j here) (some_boost boost s (scores_of key pairs))
+  | inr other ↦ rw (set_other marks key j true false (other_key key j other), scores_other pairs key s j other) (was j (omega (arith, inside, set_long marks key true)))
+]
+
+pub marked_given : (asked : Answer) (boost : ℕ) (pairs : List (ℕ × ℕ)) (marks : List Bool) (key : ℕ) (mark : Bool) → asked ≡ answer.Parent false boost → AreMarked boost pairs marks → key < length marks → mark ≡ get_or marks key false
+    → (if mark then Some boost else None) ≡ answer_of asked (scores_of key pairs)
+marked_given asked boost pairs marks key mark is are below own = rw (is, own) (are key below)
+
+-- ---- tallies
+
+module _ (pairs : List (ℕ × ℕ)) (slots : List ℕ) (told : List Tally) (key s : ℕ) (t : Tally) (was : AreTold pairs slots told) (below : key < length slots) where
   module _ (first : get_or slots key 0 ≡ 0) (within : (j : ℕ) → get_or slots j 0 ≤ length told) (own : TallyOf (s ∷ []) t) where
     abbrev slots_on : List ℕ
     slots_on = set slots key (suc (length told))
@@ -101,10 +127,10 @@ module _ (pairs : List (ℕ × ℕ)) (slots : List ℕ) (told : List Tally) (key
             let at : key ≡ j = eqb-true key j here in
             let slot : get_or slots_on j 0 ≡ suc (length told) = ap (λ n. get_or slots_on n 0) (sym at) ∙ slot_own in
             let all : scores_of j (pairs ++ (key, s) ∷ []) ≡ s ∷ [] =
-            scores_own j here ∙ ap (λ (l : List ℕ). l ++ s ∷ []) (none_yet (get_or slots key 0) first (was.each key below)) in
+            scores_own pairs key s j here ∙ ap (λ (l : List ℕ). l ++ s ∷ []) (none_yet (get_or slots key 0) first (was.each key below)) in
             rw (slot, all) (λ d. subst (TallyOf (s ∷ [])) (sym (at_end told t d)) own)
         | inr other ↦
-            rw (slot_other j other, scores_other j other)
+            rw (slot_other j other, scores_other pairs key s j other)
             (keeps (scores_of j pairs) (get_or slots j 0) (within j) (was.each j (omega (arith, inside, set_long slots key (suc (length told))))))
       ];
       apart = by_keys;
@@ -123,9 +149,9 @@ module _ (pairs : List (ℕ × ℕ)) (slots : List ℕ) (told : List Tally) (key
         | inl here ↦
             let same : key ≡ j = eqb-true key j here in
             let here_slot : get_or slots j 0 ≡ suc slot = ap (λ n. get_or slots n 0) (sym same) ∙ at in
-            rw (here_slot, scores_own j here) (λ d. subst (TallyOf (scores_of key pairs ++ s ∷ [])) (sym (set_own told slot t d within)) own)
+            rw (here_slot, scores_own pairs key s j here) (λ d. subst (TallyOf (scores_of key pairs ++ s ∷ [])) (sym (set_own told slot t d within)) own)
         | inr other ↦
-            rw (scores_other j other) (keeps_other j (scores_of j pairs) (get_or slots j 0) refl (other_key key j other) (was.each j inside))
+            rw (scores_other pairs key s j other) (keeps_other j (scores_of j pairs) (get_or slots j 0) refl (other_key key j other) (was.each j inside))
       ];
       apart = was.apart;
     }

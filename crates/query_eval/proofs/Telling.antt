@@ -10,13 +10,11 @@ use Rattle.block_bits.specs.Blocks.{documents_of}
 use Rattle.segment.specs.Live.{EntryState}
 use Rattle.segment_parts.specs.declared.columns.Columns.{Columns}
 use Rattle.query_eval.specs.Folds.{scopes_in}
-use Rattle.query_eval.specs.Sides.{AreTallies, HaveRelations, HaveTallies, answer_for, answer_of, at_roots, given_by, is_on, key_at, keys_at, of_roots, ordinal_by, pair_if, roots_in, scores_of, told, told_by}
+use Rattle.query_eval.specs.Sides.{HaveRelations, HaveTallies, answer_for, answer_of, at_roots, given_by, is_on, key_at, keys_at, of_roots, ordinal_by, pair_if, roots_in, scores_of, told, told_by}
 use Rattle.query_eval.specs.declared.side.Side.{Side}
 use Rattle.query_eval.specs.declared.side.Side.TheVariants.{Parents, Children, ChildrenOf}
 use Rattle.query_eval.specs.declared.answer.Answer.{Answer}
-use Rattle.query_eval.specs.declared.tally.Tallies.{Tallies}
 use Rattle.query_eval.proofs.Entries.{Scores, map_get, nil_append, take_more, take_whole}
-use Rattle.query_eval.proofs.Joined.{nothing_given}
 
 -- ---- pairs
 
@@ -38,9 +36,6 @@ told_cut (x ∷ keys) [] zero past = refl
 told_cut (x ∷ keys) [] (suc n) past = refl
 told_cut (x ∷ keys) (s ∷ scores) zero past = absurd (omega (arith, past))
 told_cut (x ∷ keys) (s ∷ scores) (suc n) past = ap (λ (l : List (ℕ × ℕ)). pair_if x s ++ l) (told_cut keys scores n (omega (arith, past)))
-
-pub tallies_same : (pairs more : List (ℕ × ℕ)) (ts : Tallies) → more ≡ [] → AreTallies pairs ts → AreTallies (pairs ++ more) ts
-tallies_same pairs more ts none was = subst (λ (l : List (ℕ × ℕ)). AreTallies l ts) (sym (nil_append pairs) ∙ ap (λ (l : List (ℕ × ℕ)). pairs ++ l) (sym none)) was
 
 -- ---- keys
 
@@ -257,9 +252,6 @@ module _ (m : Mapping) (ordinals : Ordinals) (side : Side) (c : Columns) (place 
         by : (on : Bool) → answer_for asked pairs (cond on (Some k) None) ≡ None
         by true = sym none
         by false = refl
-
-    pub given_untold : (k : ℕ) → root < length c.roots → would ≡ Some k → scores_of k pairs ≡ [] → None ≡ given_here
-    given_untold k below is none = given_nothing k below is (sym (ap (answer_of asked) none ∙ nothing_given asked))
 
     pub given_off : (k : ℕ) → root < length c.roots → HaveRelations ordinals side c place → would ≡ Some k → kept_on ≡ false → None ≡ given_here
     given_off k below have is off = sym (given_at below ∙ ap (λ (b : Bool). answer_for asked pairs (cond b would None)) (does_is k have is ∙ off))

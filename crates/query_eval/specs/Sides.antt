@@ -21,6 +21,8 @@ use Rattle.query_eval.specs.declared.answer.Answer.{Answer}
 use Rattle.query_eval.specs.declared.answer.Answer.TheVariants as answer
 use Rattle.query_eval.specs.declared.tally.Tally.{Tally}
 use Rattle.query_eval.specs.declared.tally.Tallies.{Tallies}
+use Rattle.query_eval.specs.declared.key_scores.KeyScores.{KeyScores}
+use Rattle.query_eval.specs.declared.key_scores.KeyScores.TheVariants.{Alike, Tallied}
 
 -- ---- keys
 
@@ -127,6 +129,19 @@ AreTallies pairs tallies = AreTold pairs tallies.slots.items tallies.told.items
 abbrev pub answer_of : Answer → List ℕ → Option ℕ
 answer_of (answer.Children mode least most) found = children_score mode least most found
 answer_of (answer.Parent score boost) found = parent_score score boost found
+
+-- each key is given the boost where it is marked, as it is by its scores
+abbrev pub AreMarked : ℕ → List (ℕ × ℕ) → List Bool → Type 0
+AreMarked boost pairs marks = (key : ℕ) → key < length marks → (if get_or marks key false then Some boost else None) ≡ answer_of (answer.Parent false boost) (scores_of key pairs)
+
+abbrev pub key_count : KeyScores → ℕ
+key_count (Alike boost marks) = length marks
+key_count (Tallied asked tallies) = length tallies.slots.items
+
+-- the scores of these pairs are those of the keys, for this answer
+abbrev pub AreKeyScores : Answer → List (ℕ × ℕ) → KeyScores → Type 0
+AreKeyScores asked pairs (Alike boost marks) = (asked ≡ answer.Parent false boost) × AreMarked boost pairs marks
+AreKeyScores asked pairs (Tallied own tallies) = (asked ≡ own) × AreTallies pairs tallies
 
 abbrev pub answer_for : Answer → List (ℕ × ℕ) → Option ℕ → Option ℕ
 answer_for asked pairs None = None

@@ -9,6 +9,7 @@ mod answer;
 mod counts;
 mod evaluation;
 mod kept;
+mod key_scores;
 mod keyed;
 mod law;
 mod leaves;

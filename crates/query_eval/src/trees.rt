@@ -6,7 +6,8 @@ ghost use Rattle.join_ordinals.specs.Ordinals.{AreOrdinals};
 ghost use Rattle.query_ast.specs.Resolved.{IsChildRelation, IsParentRelation};
 ghost use Rattle.query_eval.specs.Folds.{scopes_in};
 ghost use Rattle.query_eval.specs.Found.{AreLong, IsSeen};
-ghost use Rattle.query_eval.specs.Sides.{AreTallies, HaveRelations, HaveTallies, answer_for, at_roots, by_relation, children_by, given_by, keys_at, of_roots, pair_if, parent_by, told, told_by};
+ghost use Rattle.query_eval.specs.declared.answer.Answer.{Answer};
+ghost use Rattle.query_eval.specs.Sides.{HaveRelations, HaveTallies, AreKeyScores, answer_for, at_roots, by_relation, children_by, given_by, key_count, keys_at, of_roots, pair_if, parent_by, told, told_by};
 ghost use Rattle.score_math.specs.declared.score.TheConstants.{SCORE_CAP};
 ghost use Rattle.segment.specs.Live.{root_of};
 ghost use Rattle.segment_parts.specs.Parts.{root_flags};
@@ -14,11 +15,11 @@ ghost use Rattle.tree_objects.specs.Object.{Object};
 ghost use Rattle.tree_objects.specs.Tree.{Tree};
 
 use crate::NoMemory;
-use crate::answer::{Answer, answer_of};
+use crate::answer::Answer;
+use crate::key_scores::KeyScores;
 use crate::nests::scope_set;
 use crate::ranks::Ranks;
 use crate::side::{Side, is_kept_on, kept_key, ordinal_by};
-use crate::tally::Tallies;
 use block_bits::{BitSet, places_are_nearest};
 use block_join::{Builder, Cursor, Matches, Scored};
 use join_ordinals::JoinOrdinals;
@@ -150,17 +151,17 @@ fn joined(
     ensures long { IfOk result (AreLong entries.now) }
     ensures given { IfOk result (λ made. made ≡ given_by mapping.now joins.now to answer (told_by mapping.now joins.now from 0 entries.now hits.now) 0 entries.now) }
 {
-    let tallies = gathered(alloc, entries, mapping, joins, hits, from)?;
+    let keyed = gathered(alloc, entries, mapping, joins, hits, from, answer)?;
     let mut made = Vec::with_capacity(alloc, entries.len())?;
     'entries: for place in 0..entries.len() {
         let segment = entries[place].segment();
-        let scores = given(alloc, mapping, joins, segment, place, to, &tallies, answer)?;
+        let scores = given(alloc, mapping, joins, segment, place, to, &keyed)?;
         made.push(scores)?;
     }
     Ok(Matches::of(made))
 }
 
-/// The scores of the hits of a side, tallied by their keys.
+/// The scores of the hits of a side by their keys, for an answer.
 fn gathered(
     alloc: Global,
     entries: &[Entry],
@@ -168,19 +169,20 @@ fn gathered(
     joins: &JoinOrdinals,
     hits: &Matches,
     side: Side,
-) -> Result<Tallies, NoMemory>
+    answer: Answer,
+) -> Result<KeyScores, NoMemory>
     requires long { AreLong entries.now hits.now }
     requires ordinals { AreOrdinals entries.now joins.now }
-    ensures long { IfOk result (λ tallies. length tallies.slots.items ≡ joins.now.count) }
-    ensures tallies { IfOk result (AreTallies (told_by mapping.now joins.now side 0 entries.now hits.now)) }
+    ensures long { IfOk result (λ keyed. key_count keyed ≡ joins.now.count) }
+    ensures scores { IfOk result (AreKeyScores answer (told_by mapping.now joins.now side 0 entries.now hits.now)) }
 {
     let hits = hits.as_slice();
-    let mut tallies = Tallies::none(alloc, joins.count())?;
+    let mut keyed = KeyScores::none(alloc, joins.count(), answer)?;
     'entries: for place in 0..entries.len() {
         let segment = entries[place].segment();
         let roots = scope_set(alloc, segment, 0)?;
         tell(
-            &mut tallies,
+            &mut keyed,
             mapping,
             joins,
             segment,
@@ -190,12 +192,12 @@ fn gathered(
             &hits[place],
         )?;
     }
-    Ok(tallies)
+    Ok(keyed)
 }
 
-/// Adds the scores of an entry's roots to the tallies of their keys. It goes from hit to hit, and reads of no other root.
+/// Adds the scores of an entry's roots to those of their keys. It goes from hit to hit, and reads of no other root.
 fn tell(
-    tallies: &mut Tallies,
+    keyed: &mut KeyScores,
     mapping: &Mapping,
     joins: &JoinOrdinals,
     segment: &Segment,
@@ -206,11 +208,11 @@ fn tell(
 ) -> Result<(), NoMemory>
     requires documents { length hits.now ≡ length roots.now }
     requires roots { roots.now ≡ documents_of (scopes_in segment.now) 0 }
-    requires keys { HaveTallies joins.now side place (length tallies.old.slots.items) }
+    requires keys { HaveTallies joins.now side place (key_count keyed.old) }
     requires relations { HaveRelations joins.now side segment.now place }
-    ensures long { length tallies.new.slots.items ≡ length tallies.old.slots.items }
-    ensures tallies { (pairs : List (ℕ × ℕ)) → AreTallies pairs tallies.old
-        → OnOk result (AreTallies (pairs ++ told (keys_at mapping.now joins.now side segment.now place) (of_roots roots.now hits.now)) tallies.new) }
+    ensures long { key_count keyed.new ≡ key_count keyed.old }
+    ensures scores { (asked : Answer) (pairs : List (ℕ × ℕ)) → AreKeyScores asked pairs keyed.old
+        → OnOk result (AreKeyScores asked (pairs ++ told (keys_at mapping.now joins.now side segment.now place) (of_roots roots.now hits.now)) keyed.new) }
 {
     places_are_nearest::<Option<u64>>();
     let _documents = hits.len();
@@ -220,7 +222,7 @@ fn tell(
         let score = take_at(&mut left, doc);
         let rank = ranks.before(doc);
         let key = key_if(mapping, joins, segment, place, roots, doc, rank, side);
-        tell_one(tallies, key, score)?;
+        tell_one(keyed, key, score)?;
     }
     Ok(())
 }
@@ -276,12 +278,12 @@ fn root_at(segment: &Segment, doc: u32, rank: u32) -> u32
     segment.root_of_doc(doc)
 }
 
-/// Adds a score to the tally of its key, where there are both.
-fn tell_one(tallies: &mut Tallies, key: Option<u32>, score: Option<u64>) -> Result<(), NoMemory>
-    requires key { IfSome key (λ key. key < length tallies.old.slots.items) }
+/// Adds a score to those of its key, where there are both.
+fn tell_one(keyed: &mut KeyScores, key: Option<u32>, score: Option<u64>) -> Result<(), NoMemory>
+    requires key { IfSome key (λ key. key < key_count keyed.old) }
     requires capped { IfSome score (λ score. score ≤ SCORE_CAP) }
-    ensures long { length tallies.new.slots.items ≡ length tallies.old.slots.items }
-    ensures tallies { (pairs : List (ℕ × ℕ)) → AreTallies pairs tallies.old → OnOk result (AreTallies (pairs ++ pair_if key score) tallies.new) }
+    ensures long { key_count keyed.new ≡ key_count keyed.old }
+    ensures scores { (asked : Answer) (pairs : List (ℕ × ℕ)) → AreKeyScores asked pairs keyed.old → OnOk result (AreKeyScores asked (pairs ++ pair_if key score) keyed.new) }
 {
     let Some(key) = key else {
         return Ok(());
@@ -289,7 +291,7 @@ fn tell_one(tallies: &mut Tallies, key: Option<u32>, score: Option<u64>) -> Resu
     let Some(score) = score else {
         return Ok(());
     };
-    tallies.add(key, score)?;
+    keyed.add(key, score)?;
     Ok(())
 }
 
@@ -301,12 +303,11 @@ fn given(
     segment: &Segment,
     place: usize,
     side: Side,
-    tallies: &Tallies,
-    answer: Answer,
+    keyed: &KeyScores,
 ) -> Result<Scored, NoMemory>
-    requires keys { HaveTallies joins.now side place (length tallies.now.slots.items) }
+    requires keys { HaveTallies joins.now side place (key_count keyed.now) }
     requires relations { HaveRelations joins.now side segment.now place }
-    ensures scores { (pairs : List (ℕ × ℕ)) → AreTallies pairs tallies.now → IfOk result (λ scores. scores ≡ at_roots (documents_of (scopes_in segment.now) 0) (map (answer_for answer pairs) (keys_at mapping.now joins.now side segment.now place))) }
+    ensures scores { (asked : Answer) (pairs : List (ℕ × ℕ)) → AreKeyScores asked pairs keyed.now → IfOk result (λ scores. scores ≡ at_roots (documents_of (scopes_in segment.now) 0) (map (answer_for asked pairs) (keys_at mapping.now joins.now side segment.now place))) }
     ensures long { IfOk result (λ scores. length scores ≡ segment.now.documents) }
 {
     scopes_are_of_documents(segment);
@@ -314,7 +315,7 @@ fn given(
     let count = segment.roots();
     let mut hits = Builder::empty(alloc, documents)?;
     'roots: for root in 0..count {
-        if let Some(score) = given_to(mapping, joins, segment, place, root, side, tallies, answer) {
+        if let Some(score) = given_to(mapping, joins, segment, place, root, side, keyed) {
             hits.push(segment.root_doc(root), score)?;
         }
     }
@@ -322,7 +323,6 @@ fn given(
 }
 
 /// What a root is given. Its relation is looked at only where its ordinal has scores.
-#[tactic(auto, using(crate::proofs::Telling::given_none, crate::proofs::Telling::given_nothing, crate::proofs::Telling::given_untold, crate::proofs::Telling::given_off, crate::proofs::Telling::given_some))]
 fn given_to(
     mapping: &Mapping,
     joins: &JoinOrdinals,
@@ -330,22 +330,18 @@ fn given_to(
     place: usize,
     root: u32,
     side: Side,
-    tallies: &Tallies,
-    answer: Answer,
+    keyed: &KeyScores,
 ) -> Option<u64>
     requires root { root < length _segment.now.roots }
-    requires keys { HaveTallies joins.now side place (length tallies.now.slots.items) }
+    requires keys { HaveTallies joins.now side place (key_count keyed.now) }
     requires relations { HaveRelations joins.now side _segment.now place }
-    ensures given { (pairs : List (ℕ × ℕ)) → AreTallies pairs tallies.now → result ≡ get_or (map (answer_for answer pairs) (keys_at mapping.now joins.now side _segment.now place)) root None }
+    ensures given { (asked : Answer) (pairs : List (ℕ × ℕ)) → AreKeyScores asked pairs keyed.now → result ≡ get_or (map (answer_for asked pairs) (keys_at mapping.now joins.now side _segment.now place)) root None }
     ensures capped { IfSome result (λ score. score ≤ SCORE_CAP) }
 {
     let Some(ordinal) = ordinal_by(joins, place, root, side) else {
         return None;
     };
-    let Some(tally) = tallies.of(ordinal) else {
-        return None;
-    };
-    let Some(score) = answer_of(tally, answer) else {
+    let Some(score) = keyed.given(ordinal) else {
         return None;
     };
     if is_kept_on(mapping, joins, place, root, side) {

@@ -19,9 +19,9 @@ roots-init c =
     let done : c.in_ok-hits.hits.done ≡ [] = ap (λ (x : Begun). x.done) c.in_ok-hits.ensures in (
       ap (λ (x : Begun). x.len) c.in_ok-hits.ensures ∙ c.docs-documents.ensures.documents,
       λ root doc from at. omega (arith, ap length done),
-      λ pairs was.
+      λ asked pairs was.
           let flags = documents_of (scopes_in c.args.segment.now) 0 in
-          let all = map (answer_for c.args.answer pairs) (keys_at c.args.mapping.now c.args.joins.now c.args.side c.args.segment.now c.args.place) in
+          let all = map (answer_for asked pairs) (keys_at c.args.mapping.now c.args.joins.now c.args.side c.args.segment.now c.args.place) in
           subst (λ (l : Scores). Giving flags all l 0) (sym done) (giving_start flags all),
     )
 
@@ -47,26 +47,26 @@ roots-preserved c =
                   ap (λ (x : Begun). length x.done) w.hits-is,
                   places_ascend 0 flags at root doc after here (ap (λ (l : List ℕ). slice_get l root) (sym places) ∙ there) (omega (arith, later)),
                 ),
-            λ pairs was.
-                subst (λ (l : Scores). Giving flags (map (answer_for c.args.answer pairs) keys) l (at + 1)) (sym (ap (λ (x : Begun). x.done) w.hits-is))
-                (giving_some flags (map (answer_for c.args.answer pairs) keys) old new at doc w.in-Some.score (c.roots.invariant.2 pairs was) here (sym w.in-Some.is ∙ c.given_to.ensures.given pairs was) low w.in_ok-push.ensures.done),
+            λ asked pairs was.
+                subst (λ (l : Scores). Giving flags (map (answer_for asked pairs) keys) l (at + 1)) (sym (ap (λ (x : Begun). x.done) w.hits-is))
+                (giving_some flags (map (answer_for asked pairs) keys) old new at doc w.in-Some.score (c.roots.invariant.2 asked pairs was) here (sym w.in-Some.is ∙ c.given_to.ensures.given asked pairs was) low w.in_ok-push.ensures.done),
           )
       | in_default w ↦ (
         ap (λ (x : Begun). x.len) w.hits-is ∙ c.roots.invariant.0,
         λ root doc later there. omega (arith, ap (λ (x : Begun). length x.done) w.hits-is, c.roots.invariant.1 root doc (omega (arith, later)) there),
-        λ pairs was.
-            subst (λ (l : Scores). Giving flags (map (answer_for c.args.answer pairs) keys) l (at + 1)) (sym (ap (λ (x : Begun). x.done) w.hits-is))
-            (giving_none flags (map (answer_for c.args.answer pairs) keys) old at (c.roots.invariant.2 pairs was) (sym w.in_default.is ∙ c.given_to.ensures.given pairs was)),
+        λ asked pairs was.
+            subst (λ (l : Scores). Giving flags (map (answer_for asked pairs) keys) l (at + 1)) (sym (ap (λ (x : Begun). x.done) w.hits-is))
+            (giving_none flags (map (answer_for asked pairs) keys) old at (c.roots.invariant.2 asked pairs was) (sym w.in_default.is ∙ c.given_to.ensures.given asked pairs was)),
       )
     ]
 
 pub returns-clause-scores : goal.returns-clause-scores
-returns-clause-scores c = λ pairs was.
+returns-clause-scores c = λ asked pairs was.
     let keys = keys_at c.args.mapping.now c.args.joins.now c.args.side c.args.segment.now c.args.place in
-    let all = map (answer_for c.args.answer pairs) keys in
+    let all = map (answer_for asked pairs) keys in
     let count = length c.args.segment.now.roots in
     let past : length all ≤ c.roots.root =
-    omega (arith, c.roots-test.false, c.roots-count.ensures.roots, length-map keys (answer_for c.args.answer pairs), length-map-range_with_len (key_at c.args.mapping.now c.args.joins.now c.args.side c.args.segment.now c.args.place) 0 count) in
+    omega (arith, c.roots-test.false, c.roots-count.ensures.roots, length-map keys (answer_for asked pairs), length-map-range_with_len (key_at c.args.mapping.now c.args.joins.now c.args.side c.args.segment.now c.args.place) 0 count) in
     c.finish.ensures.scores
     ∙ ap (λ n. padded n c.roots.hits.done) (c.roots.invariant.0 ∙ sym (documents_long c.args.segment.now 0))
-    ∙ giving_end (documents_of (scopes_in c.args.segment.now) 0) all c.roots.hits.done c.roots.root (c.roots.invariant.2 pairs was) past
+    ∙ giving_end (documents_of (scopes_in c.args.segment.now) 0) all c.roots.hits.done c.roots.root (c.roots.invariant.2 asked pairs was) past

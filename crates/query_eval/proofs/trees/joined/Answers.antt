@@ -1,6 +1,6 @@
-use Rattle.std.proofs.Common.{◌<◌, length, ap, ◌∙◌, arith}
+use Rattle.std.proofs.Common.{◌<◌, length, sym, ap, subst, ◌∙◌, arith}
 use Rattle.segment_parts.specs.declared.columns.Columns.{Columns}
-use Rattle.query_eval.specs.Sides.{told_by}
+use Rattle.query_eval.specs.Sides.{AreKeyScores, key_count, told_by}
 use Rattle.query_eval.proofs.Entries.{all_long, entry_step}
 use Rattle.query_eval.proofs.Telling.{tell_keys, tell_relations, given_step, given_whole}
 use Rattle.query_eval.proofs.trees.joined.Goals as goal
@@ -11,7 +11,7 @@ given-requires c =
     record {
       keys =
           tell_keys c.args.mapping.now c.args.joins.now c.args.to c.args.entries.now c.entries.place c.index-entries-place.result c.segment-segment.result.now below c.index-entries-place.is c.segment-segment.ensures c.requires.ordinals
-          (length c.in_ok-tallies.tallies.slots.items) c.in_ok-tallies.ensures.long;
+          _ (ap key_count c.entries.invariant.2 ∙ c.in_ok-keyed.ensures.long);
       relations =
           tell_relations c.args.mapping.now c.args.joins.now c.args.to c.args.entries.now c.entries.place c.index-entries-place.result c.segment-segment.result.now below c.index-entries-place.is c.segment-segment.ensures
           c.requires.ordinals;
@@ -25,8 +25,9 @@ entries-preserved c =
           (c.in_ok-scores.ensures.long ∙ ap (λ (x : Columns). x.documents) c.segment-segment.ensures) c.in_ok-push.ensures.items,
       given_step c.args.mapping.now c.args.joins.now c.args.to c.args.entries.now c.entries.place c.index-entries-place.result c.segment-segment.result.now below c.index-entries-place.is c.segment-segment.ensures
           c.args.answer pairs c.entries.made.items c.push.new.self.items c.in_ok-scores.scores c.entries.invariant.1
-          (c.in_ok-scores.ensures.scores pairs c.in_ok-tallies.ensures.tallies)
+          (c.in_ok-scores.ensures.scores c.args.answer pairs (subst (AreKeyScores c.args.answer pairs) (sym c.entries.invariant.2) c.in_ok-keyed.ensures.scores))
           c.in_ok-push.ensures.items,
+      c.entries.invariant.2,
     )
 
 pub returns-clause-long : goal.returns-clause-long

@@ -2,7 +2,7 @@ use Rattle.std.proofs.Common.{◌≡◌, ◌<◌, ◌+◌, ◌++◌, List, [], �
 use Rattle.std.specs.Option.{is_some}
 use Rattle.block_bits.specs.Places.{AllFail, IsFirst, next_place}
 use Rattle.block_join.specs.Scores.{Standing}
-use Rattle.query_eval.specs.Sides.{AreTallies, HaveTallies, at_roots, keys_at, pair_if, told}
+use Rattle.query_eval.specs.Sides.{AreKeyScores, HaveTallies, at_roots, key_count, keys_at, pair_if, told}
 use Rattle.query_eval.proofs.Entries.{Scores, nil_append}
 use Rattle.query_eval.proofs.Hits.{told_all, told_hit, told_roots, told_start}
 use Rattle.query_eval.proofs.trees.tell.Goals as goal
@@ -15,9 +15,9 @@ documents-init c =
       ap (λ (x : Standing). x.scores) c.cursor-left.ensures,
       omega (arith, from),
       refl,
-      λ pairs was.
+      λ asked pairs was.
           let none : told (take c.cursor-left.result.from keys) (take c.cursor-left.result.from hits) ≡ [] = ap (λ n. told (take n keys) (take n hits)) from ∙ told_start keys hits in
-          subst (λ (l : List (ℕ × ℕ)). AreTallies l c.args.tallies.now) (sym (nil_append pairs) ∙ ap (λ (l : List (ℕ × ℕ)). pairs ++ l) (sym none)) was,
+          subst (λ (l : List (ℕ × ℕ)). AreKeyScores asked l c.args.keyed.now) (sym (nil_append pairs) ∙ ap (λ (l : List (ℕ × ℕ)). pairs ++ l) (sym none)) was,
     )
 
 pub take_at-score-requires : goal.take_at-score-requires
@@ -38,7 +38,7 @@ key_if-key-requires c = record {
 
 pub tell_one-requires : goal.tell_one-requires
 tell_one-requires c = record {
-  key = c.key_if-key.ensures.within (length c.documents.tallies.slots.items) (subst (HaveTallies c.args.joins.now c.args.side c.args.place) (sym c.documents.invariant.2) c.requires.keys);
+  key = c.key_if-key.ensures.within (key_count c.documents.keyed) (subst (HaveTallies c.args.joins.now c.args.side c.args.place) (sym c.documents.invariant.2) c.requires.keys);
   capped = c.take_at-score.ensures.capped;
 }
 
@@ -50,7 +50,7 @@ documents-preserved c =
     let doc = c.in-Some.doc in
     let score = c.take_at-score.result in
     let key = c.key_if-key.result in
-    let tallies = c.tell_one.new.tallies in
+    let keyed = c.tell_one.new.keyed in
     let new = c.take_at-score.new.left.from in
     let at : new ≡ doc + 1 = ap (λ (x : Standing). x.from) c.take_at-score.ensures.place in
     let long : length c.documents.left.scores ≡ length hits = ap length c.documents.invariant.0 in
@@ -63,11 +63,11 @@ documents-preserved c =
       ap (λ (x : Standing). x.scores) c.take_at-score.ensures.place ∙ c.documents.invariant.0,
       omega (arith, at, below),
       c.in_ok-tell_one.ensures.long ∙ c.documents.invariant.2,
-      λ pairs was.
-          subst (λ (l : List (ℕ × ℕ)). AreTallies l tallies)
+      λ asked pairs was.
+          subst (λ (l : List (ℕ × ℕ)). AreKeyScores asked l keyed)
           (append_assoc pairs (told (take from keys) (take from hits)) (pair_if key score)
           ∙ ap (λ (l : List (ℕ × ℕ)). pairs ++ l) (sym more))
-          (c.in_ok-tell_one.ensures.tallies (pairs ++ told (take from keys) (take from hits)) (c.documents.invariant.3 pairs was)),
+          (c.in_ok-tell_one.ensures.scores asked (pairs ++ told (take from keys) (take from hits)) (c.documents.invariant.3 asked pairs was)),
     )
 
 pub documents-smaller : goal.documents-smaller
@@ -78,12 +78,12 @@ documents-smaller c =
 pub returns-clause-long : goal.returns-clause-long
 returns-clause-long c = c.documents.invariant.2
 
-pub returns-clause-tallies : goal.returns-clause-tallies
-returns-clause-tallies c = λ pairs was.
+pub returns-clause-scores : goal.returns-clause-scores
+returns-clause-scores c = λ asked pairs was.
     let roots = c.args.roots.now in
     let keys = keys_at c.args.mapping.now c.args.joins.now c.args.side c.args.segment.now c.args.place in
     let hits = c.args.hits.now in
     let from = c.documents.left.from in
     let next : next_place is_some from hits ≡ None = ap (next_place is_some from) (sym c.documents.invariant.0) ∙ sym c.peek.ensures.value ∙ c.in_default.is in
     let fail : AllFail is_some (drop from hits) = (c.places_are_nearest.ensures.no_next is_some from hits).0 next in
-    subst (λ (l : List (ℕ × ℕ)). AreTallies (pairs ++ l) c.documents.tallies) (told_all (at_roots roots keys) hits from c.documents.invariant.1 fail ∙ sym (told_roots roots keys hits)) (c.documents.invariant.3 pairs was)
+    subst (λ (l : List (ℕ × ℕ)). AreKeyScores asked (pairs ++ l) c.documents.keyed) (told_all (at_roots roots keys) hits from c.documents.invariant.1 fail ∙ sym (told_roots roots keys hits)) (c.documents.invariant.3 asked pairs was)
