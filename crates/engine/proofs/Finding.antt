@@ -156,14 +156,13 @@ pub its_bytes : (ends : Ended) (out : List ℕ) → reply_bytes (answered_of (Ok
 its_bytes Accepted out = refl
 its_bytes ended.Refused out = refl
 
-pub found_ends : (limits : Limits) (m : Mapping) (search : SearchBody) (index index' : IndexState) (state : State) (live : List Tree) (given : Reply) (result : Result Ended memory.NoMemory) (out : List ℕ)
+pub found_ends : (limits : Limits) (m : Mapping) (search : SearchBody) (index index' : IndexState) (state : State) (live : List Tree) (result : Result Ended memory.NoMemory) (out : List ℕ)
     → AreFaithful (Some m) index state → index'.next ≡ index.next → layout_kept index' ≡ sealed (layout_kept index)
-    → given ≡ found_by m live search → IfOk result (λ ends. answered_of (Ok ends) ≡ answered_by (within limits given)) → OnOk result (out ≡ reply_text (within limits given))
+    → IfOk result (λ ends. answered_of (Ok ends) ≡ answered_by (within limits (found_by m live search))) → OnOk result (out ≡ reply_text (within limits (found_by m live search)))
     → Ends state (outcome_of state (search_over limits m search (Some live) (sealed_state state))) (answered_of result) out (Some m) index'
-found_ends limits m search index index' state live given (Ok ends) out f next seals is told_so text =
-    told (Some m) index' state (sealed_state state) (answered_of (Ok ends)) (within limits (found_by m live search)) out (sealed_faithful m index index' state f next seals) refl (its_bytes ends out)
-    (told_so ∙ ap (λ (it : Reply). answered_by (within limits it)) is) (text ∙ ap (λ (it : Reply). reply_text (within limits it)) is)
-found_ends limits m search index index' state live given (Err none) out f next seals is told_so text =
+found_ends limits m search index index' state live (Ok ends) out f next seals told_so text =
+    told (Some m) index' state (sealed_state state) (answered_of (Ok ends)) (within limits (found_by m live search)) out (sealed_faithful m index index' state f next seals) refl (its_bytes ends out) told_so text
+found_ends limits m search index index' state live (Err none) out f next seals told_so text =
     lacking_sealed m index' state _ out (sealed_faithful m index index' state f next seals)
 
 -- ---- by what the writing of a body's refusal came to

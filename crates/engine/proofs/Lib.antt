@@ -1,5 +1,5 @@
 -- Blocks stand for trees; replies and want of memory; sealing; writes, and the sources of updates; mapping lines; searches; what
--- holds whatever the state; points in time; merges and rows; and what is asked for.
+-- holds whatever the state; points in time; merges and rows; what is asked for; and the names of inner hits.
 pub mod Standing
 pub mod Answering
 pub mod Sealing
@@ -16,3 +16,4 @@ pub mod Pointing
 pub mod Opening
 pub mod Merging
 pub mod Asking
+pub mod Naming

@@ -1,5 +1,5 @@
 -- How commands end. It serves contracts of private calls alone.
-use Rattle.std.specs.Prelude.{◌≡◌, ◌⊎◌, ◌<◌, ◌≤◌, ◌^◌, ℕ, true, false, List, Result, Ok, Err, IsErr, Some, None, Option, unwrap_or}
+use Rattle.std.specs.Prelude.{◌≡◌, ◌⊎◌, ◌<◌, ◌≤◌, ◌^◌, ℕ, true, false, List, Result, Ok, Err, IsErr, Some, None, Option, length, unwrap_or}
 use Rattle.index_core.specs.Kept.{IndexFits, IndexState, layout_kept}
 use Rattle.index_core.specs.Write.{is_refused, next_after, written}
 use Rattle.index_core.specs.declared.op.WriteOp.{WriteOp}
@@ -13,7 +13,7 @@ use Rattle.mapping.specs.Growth.{HasFurtherBodies}
 use Rattle.mapping.specs.IsMapping.{IsMapping}
 use Rattle.mapping.specs.Mapping.{Mapping}
 use Rattle.point_in_time.specs.Points.{KeptPoints}
-use Rattle.reply_text.specs.Text.{reply_text}
+use Rattle.reply_text.specs.Text.{line_of, reply_text}
 use Rattle.reply_text.specs.declared.refusal.Refusal.{Refusal}
 use Rattle.reply_text.specs.declared.refusal.Refusal.TheVariants.{IndexFull}
 use Rattle.reply_text.specs.declared.reply.Reply.{Reply}
@@ -96,6 +96,11 @@ abbrev pub IsAcceptance : Reply → Result Ended memory.NoMemory → List ℕ �
 IsAcceptance given (Ok Accepted) out = out ≡ reply_text given
 IsAcceptance given (Ok Refused) out = ⊥
 IsAcceptance given (Err none) out = Unit {0}
+
+-- a reply that was made, or none where its line is longer than the limit
+abbrev pub IsHeld : Limits → Reply → Option Reply → Type 0
+IsHeld limits given (Some made) = made ≡ given
+IsHeld limits given None = limits.reply_bytes < length (line_of given)
 
 -- a change was made
 pub record IsMade (op : WriteOp) (index index' : IndexState) : Type 0 where

@@ -35,9 +35,3 @@ impl From<stored_sources::NoMemory> for NoMemory {
         NoMemory
     }
 }
-
-impl From<search_page::NoMemory> for NoMemory {
-    fn from(_error: search_page::NoMemory) -> NoMemory {
-        NoMemory
-    }
-}

@@ -1,12 +1,13 @@
 //! Replies, as they are written.
 
-ghost use Rattle.std.specs.Prelude.{◌≡◌, ◌≤◌, ◌+◌, ◌++◌, [], length, IfOk, OnOk};
+ghost use Rattle.std.specs.Prelude.{◌≡◌, ◌≤◌, ◌+◌, ◌++◌, [], length, IfOk, IfSome, OnOk};
 ghost use Rattle.layout_commands.specs.declared.TheConstants.{LONGEST_LINE};
 ghost use Rattle.machine.specs.Searching.{within};
 ghost use Rattle.reply_text.specs.Text.{line_of, reply_text};
+ghost use Rattle.reply_text.specs.declared.reply.Reply.{Reply as Printed};
 ghost use Rattle.tree_json.specs.Output.{room_of};
 ghost use Rattle.engine.specs.Answers.{answered_by};
-ghost use Rattle.engine.specs.Parts.{IsAcceptance, IsRefusal, answered_of};
+ghost use Rattle.engine.specs.Parts.{IsAcceptance, IsHeld, IsRefusal, answered_of};
 
 use crate::engine::Answered;
 use crate::no_memory::NoMemory;
@@ -96,5 +97,23 @@ pub(crate) fn write_within(
         Ok(()) => Ok(Ended::Accepted),
         Err(TextRefusal::TooLarge) => refuse(Refusal::ReplyTooLarge, out),
         Err(TextRefusal::NoMemory) => Err(NoMemory),
+    }
+}
+
+/// Writes what a search found, or that a reply can't hold it.
+pub(crate) fn write_found(
+    limits: &Limits,
+    found: &Option<Reply>,
+    out: &mut OutText,
+) -> Result<Ended, NoMemory>
+    requires empty { out.old.bytes ≡ [] }
+    requires done { IfSome found.now (λ reply. answered_by reply ≡ Answered.Written) }
+    ensures text { (given : Printed) → IsHeld limits.now given found.now → OnOk result (out.new.bytes ≡ reply_text (within limits.now given)) }
+    ensures told { (given : Printed) → IsHeld limits.now given found.now → IfOk result (λ ended. answered_of (Ok ended) ≡ answered_by (within limits.now given)) }
+    ensures room { room_of out.old ≤ room_of out.new }
+{
+    match found {
+        Some(reply) => write_within(limits, reply, out),
+        None => refuse(Refusal::ReplyTooLarge, out),
     }
 }

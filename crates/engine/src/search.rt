@@ -11,13 +11,14 @@ ghost use Rattle.machine.specs.State.{State, sealed_state};
 ghost use Rattle.point_in_time.specs.Points.{KeptPoints, entries_under};
 ghost use Rattle.query_ast.specs.Resolved.{IsSearch};
 ghost use Rattle.query_ast.specs.Search.{hit_page};
+ghost use Rattle.reply_text.specs.Weight.{ArePagesApart};
 ghost use Rattle.search_form.specs.Form.{is_search_body};
 ghost use Rattle.tree_json.specs.Output.{room_of};
 ghost use Rattle.tree_json.specs.View.{view};
 ghost use Rattle.engine.specs.Answers.{answered_by};
 ghost use Rattle.engine.specs.Faithful.{AreFaithful, EntriesStandFor, PointsStandFor};
 ghost use Rattle.engine.specs.Kept.{AreKeptFor, IsIndexOf, PointsFit};
-ghost use Rattle.engine.specs.Parts.{Ends, IsRefusedAs, Leaves, answered_of};
+ghost use Rattle.engine.specs.Parts.{Ends, IsHeld, IsRefusedAs, Leaves, answered_of};
 ghost use Rattle.engine.specs.Reads.{hits_of, page_reads_of};
 ghost use Rattle.search_page.specs.Searched.{page_reads};
 ghost use Rattle.tree_objects.specs.Tree.{Tree};
@@ -26,7 +27,7 @@ use crate::engine::Answered;
 use crate::entries::entries_stand;
 use crate::no_memory::NoMemory;
 use crate::ordinals::{KeptOrdinals, taken, under};
-use crate::reply::{Ended, refuse, write_within};
+use crate::reply::{Ended, refuse, write_found};
 use index_core::IndexCore;
 use join_ordinals::JoinOrdinals;
 use machine::Limits;
@@ -34,9 +35,9 @@ use mapping::Mapping;
 use point_in_time::PointsInTime;
 use query_ast::SearchBody;
 use query_parser::{SearchRefusal, resolved};
-use reply_text::{Refusal, Reply};
+use reply_text::{Refusal, Reply, reply_weighs_its_page};
 use search_form::ShapeRefusal;
-use search_page::{SearchResult, found};
+use search_page::{FoundRefusal, SearchResult, found};
 use segment_view::View;
 use source_steps::Steps;
 use std::alloc::Global;
@@ -119,6 +120,7 @@ fn search_over<L: Ledger>(
     requires ordinals { AreKeptFor index.old points.now ordinals.old }
     requires points { PointsFit mapping.now points.now }
     requires resolved { IsSearch mapping.now search.now }
+    requires apart { (live : List Tree) → ArePagesApart (hit_page mapping.now live search.now) }
     requires empty { out.old.bytes ≡ [] }
     ensures answers { (state : State) → AreFaithful (Some mapping.now) index.old state → PointsStandFor (Some mapping.now) points.now state.points
         → Ends state (outcome_of state (search_by limits.now mapping.now search.now (sealed_state state))) (answered_of result) out.new.bytes (Some mapping.now) index.new }
@@ -163,6 +165,7 @@ fn search_live<L: Ledger>(
     requires index { IsIndexOf mapping.now index.old }
     requires ordinals { IfSome ordinals.old (AreOrdinals index.old.entries) }
     requires resolved { IsSearch mapping.now search.now }
+    requires apart { (live : List Tree) → ArePagesApart (hit_page mapping.now live search.now) }
     requires empty { out.old.bytes ≡ [] }
     ensures answers { (state : State) → AreFaithful (Some mapping.now) index.old state
         → Ends state (outcome_of state (search_over limits.now mapping.now search.now (Some state.content.live) (sealed_state state))) (answered_of result) out.new.bytes (Some mapping.now) index.new }
@@ -172,8 +175,8 @@ fn search_live<L: Ledger>(
     ensures room { room_of out.old ≤ room_of out.new }
 {
     seal(mapping, index, ordinals)?;
-    let found = found_live(alloc, mapping, index, ordinals, search, steps)?;
-    write_within(limits, &found, out)
+    let found = found_live(alloc, limits, mapping, index, ordinals, search, steps)?;
+    write_found(limits, &found, out)
 }
 
 /// Answers a search over the view of a point in time.
@@ -194,6 +197,7 @@ fn search_view<L: Ledger>(
     requires ordinals { (points : KeptPoints) × (entries_under id points.points ≡ Some view.now) × AreKeptFor index.old points ordinals.old }
     requires view { ViewFits mapping.now view.now }
     requires resolved { IsSearch mapping.now search.now }
+    requires apart { (live : List Tree) → ArePagesApart (hit_page mapping.now live search.now) }
     requires empty { out.old.bytes ≡ [] }
     ensures answers { (state : State) (live : List Tree) → AreFaithful (Some mapping.now) index.old state → EntriesStandFor mapping.now view.now live
         → Ends state (outcome_of state (search_over limits.now mapping.now search.now (Some live) (sealed_state state))) (answered_of result) out.new.bytes (Some mapping.now) index.new }
@@ -204,9 +208,9 @@ fn search_view<L: Ledger>(
 {
     seal(mapping, index, &mut ordinals.live)?;
     let mut own = taken(&mut ordinals.point, id);
-    let found = found_in(alloc, mapping, view, &mut own, search, steps)?;
+    let found = found_in(alloc, limits, mapping, view, &mut own, search, steps)?;
     ordinals.point = under(id, own);
-    write_within(limits, &found, out)
+    write_found(limits, &found, out)
 }
 
 /// Seals the index. Ordinals are let go where that changes the view.
@@ -230,47 +234,70 @@ fn seal(
     Ok(())
 }
 
-/// What a search finds in a sealed index.
+/// What a search finds in a sealed index; None where a reply can't hold it.
 fn found_live<L: Ledger>(
     alloc: Global,
+    limits: &Limits,
     mapping: &Mapping,
     index: &IndexCore,
     ordinals: &mut Option<JoinOrdinals>,
     search: &SearchBody,
     steps: &mut Steps<L>,
-) -> Result<Reply, NoMemory>
+) -> Result<Option<Reply>, NoMemory>
     requires fits { IndexFits mapping.now index.now }
     requires sealed { index.now.buffer ≡ [] }
     requires ordinals { IfSome ordinals.old (AreOrdinals index.now.entries) }
     requires resolved { IsSearch mapping.now search.now }
-    ensures done { IfOk result (λ reply. answered_by reply ≡ Answered.Written) }
-    ensures found { (state : State) → AreFaithful (Some mapping.now) index.now state → IfOk result (λ reply. reply ≡ found_by mapping.now state.content.live search.now) }
+    requires apart { (live : List Tree) → ArePagesApart (hit_page mapping.now live search.now) }
+    ensures done { IfOk result (λ found. IfSome found (λ reply. answered_by reply ≡ Answered.Written)) }
+    ensures found { (state : State) → AreFaithful (Some mapping.now) index.now state → IfOk result (IsHeld limits.now (found_by mapping.now state.content.live search.now)) }
     ensures reads { (state : State) → AreFaithful (Some mapping.now) index.now state → steps.new ≤ steps.old + page_reads (hit_page mapping.now state.content.live search.now) }
     ensures ordinals { IfSome ordinals.new (AreOrdinals index.now.entries) }
 {
-    found_in(alloc, mapping, index.view(), ordinals, search, steps)
+    found_in(
+        alloc,
+        limits,
+        mapping,
+        index.view(),
+        ordinals,
+        search,
+        steps,
+    )
 }
 
-/// What a search finds in a view.
+/// What a search finds in a view; None where a reply can't hold it.
 fn found_in<L: Ledger>(
     alloc: Global,
+    limits: &Limits,
     mapping: &Mapping,
     view: &View,
     ordinals: &mut Option<JoinOrdinals>,
     search: &SearchBody,
     steps: &mut Steps<L>,
-) -> Result<Reply, NoMemory>
+) -> Result<Option<Reply>, NoMemory>
     requires fits { ViewFits mapping.now view.now }
     requires ordinals { IfSome ordinals.old (AreOrdinals view.now) }
     requires resolved { IsSearch mapping.now search.now }
-    ensures done { IfOk result (λ reply. answered_by reply ≡ Answered.Written) }
-    ensures found { (live : List Tree) → EntriesStandFor mapping.now view.now live → IfOk result (λ reply. reply ≡ found_by mapping.now live search.now) }
+    requires apart { (live : List Tree) → ArePagesApart (hit_page mapping.now live search.now) }
+    ensures done { IfOk result (λ found. IfSome found (λ reply. answered_by reply ≡ Answered.Written)) }
+    ensures found { (live : List Tree) → EntriesStandFor mapping.now view.now live → IfOk result (IsHeld limits.now (found_by mapping.now live search.now)) }
     ensures reads { (live : List Tree) → EntriesStandFor mapping.now view.now live → steps.new ≤ steps.old + page_reads (hit_page mapping.now live search.now) }
     ensures ordinals { IfSome ordinals.new (AreOrdinals view.now) }
 {
     let _scopes = mapping.scope_count();
     entries_stand(view.entries());
-    let hits = found(alloc, view, mapping, search, ordinals, steps)?;
-    let SearchResult { page, answers } = hits;
-    Ok(Reply::Found { page, answers })
+    reply_weighs_its_page();
+    match found(
+        alloc,
+        view,
+        mapping,
+        search,
+        ordinals,
+        limits.reply_bytes,
+        steps,
+    ) {
+        Ok(SearchResult { page, answers }) => Ok(Some(Reply::Found { page, answers })),
+        Err(FoundRefusal::TooLarge) => Ok(None),
+        Err(FoundRefusal::NoMemory) => Err(NoMemory),
+    }
 }

@@ -107,7 +107,9 @@ fn found_by<L: Ledger>(
     let query = search.query.get();
     let matched = matches(alloc, view, mapping, ordinals, query, 0, steps)?;
     let answers = found_buckets(alloc, view, mapping, ordinals, &matched, search, steps)?;
-    let page = page(alloc, view, mapping, search, ordinals, &matched, limit, steps)?;
+    let page = page(
+        alloc, view, mapping, search, ordinals, &matched, limit, steps,
+    )?;
     Ok(SearchResult { page, answers })
 }
 
@@ -142,7 +144,9 @@ fn page<L: Ledger>(
             Some(score) => first_page(
                 alloc, view, mapping, search, ordinals, matched, score, limit, steps,
             ),
-            None => shown_page(alloc, view, mapping, search, ordinals, matched, limit, steps),
+            None => shown_page(
+                alloc, view, mapping, search, ordinals, matched, limit, steps,
+            ),
         }
     }
 }

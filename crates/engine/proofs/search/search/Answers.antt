@@ -4,12 +4,15 @@ use Rattle.machine.specs.Answer.{Answer, outcome_of}
 use Rattle.machine.specs.Searching.{search_by, search_step}
 use Rattle.machine.specs.State.{sealed_state}
 use Rattle.query_ast.specs.declared.search.SearchBody.{SearchBody}
+use Rattle.query_ast.specs.Search.{hit_page}
 use Rattle.query_parser.specs.Search.{search_of}
+use Rattle.reply_text.specs.Weight.{ArePagesApart}
 use Rattle.search_walk.specs.Refusal.{first_refusal}
 use Rattle.engine.specs.Parts.{Ends, answered_of}
 use Rattle.search_walk.specs.declared.refusal.SearchRefusal.TheVariants.{UnknownPath, PathOutOfScope, UnknownRelation, BadValue, SortFieldUnmapped, BadSort, DuplicateInnerName, WindowTooLarge, InnerWindowTooLarge, TooManyClauses, QueryTooDeep, TooManyTerms, NoMemory}
 use Rattle.tree_json.specs.Value.{JsonValue}
 use Rattle.engine.proofs.Finding.{FirstIs, body_ends, body_passes}
+use Rattle.engine.proofs.Naming.{found_apart}
 use Rattle.engine.proofs.search.search.Goals as goal
 
 pub returns-in-Ok-resolved-clause-answers : goal.returns-in-Ok-resolved-clause-answers
@@ -41,3 +44,9 @@ returns-in-Err-clause-answers g c = λ state f stand.
     ] refl in
     body_ends c.args.limits.now (view c.args.body.now) c.args.mapping.now c.args.index.now state c.in-Err.why c.refuse_search.result c.refuse_search.new.out.bytes f
     (subst (λ (json : JsonValue). FirstIs (first_refusal c.args.mapping.now json) c.in-Err.why) shape first) c.refuse_search.ensures.refused
+
+pub search_over-requires-clause-apart : goal.search_over-requires-clause-apart
+search_over-requires-clause-apart g c = λ live.
+    let first : first_refusal c.args.mapping.now (view c.args.body.now) ≡ None = ap (first_refusal c.args.mapping.now) (sym c.in-Ok.ensures.shape) ∙ c.in-Ok-resolved.ensures.accepted refl in
+    let found : c.in-Ok-resolved.search ≡ search_of c.args.mapping.now (view c.args.body.now) = c.in-Ok-resolved.ensures.search ∙ ap (search_of c.args.mapping.now) c.in-Ok.ensures.shape in
+    subst (λ (it : SearchBody). ArePagesApart (hit_page c.args.mapping.now live it)) (sym found) (found_apart c.args.mapping.now (view c.args.body.now) live first)

@@ -1,4 +1,5 @@
 use Rattle.std.proofs.Common.{inr, subst, sym}
+use Rattle.machine.specs.Searching.{found_by}
 use Rattle.engine.specs.Kept.{IfPoint}
 use Rattle.engine.specs.Parts.{answered_of}
 use Rattle.engine.proofs.Answering.{left_sealed}
@@ -18,12 +19,14 @@ returns-in_err-found-clause-leaves g c =
 
 pub returns-clause-answers : goal.returns-clause-answers
 returns-clause-answers g c = λ state live f stand.
-    found_ends c.args.limits.now c.args.mapping.now c.args.search.now c.args.index.now c.seal.new.index state live c.in_ok-found.found c.write_within.result c.write_within.new.out.bytes f
-    c.in_ok-seal.ensures.next c.in_ok-seal.ensures.sealed (c.in_ok-found.ensures.found live stand) c.write_within.ensures.told c.write_within.ensures.text
+    let given = found_by c.args.mapping.now live c.args.search.now in
+    let held = c.in_ok-found.ensures.found live stand in
+    found_ends c.args.limits.now c.args.mapping.now c.args.search.now c.args.index.now c.seal.new.index state live c.write_found.result c.write_found.new.out.bytes f
+    c.in_ok-seal.ensures.next c.in_ok-seal.ensures.sealed (c.write_found.ensures.told given held) (c.write_found.ensures.text given held)
 
 pub returns-clause-leaves : goal.returns-clause-leaves
 returns-clause-leaves g c =
-    leaves_sealed (answered_of c.write_within.result) c.args.mapping.now c.args.index.now c.seal.new.index c.requires.index c.in_ok-seal.ensures.fits c.in_ok-seal.ensures.next c.in_ok-seal.ensures.objects
+    leaves_sealed (answered_of c.write_found.result) c.args.mapping.now c.args.index.now c.seal.new.index c.requires.index c.in_ok-seal.ensures.fits c.in_ok-seal.ensures.next c.in_ok-seal.ensures.objects
     (inr c.in_ok-seal.ensures.sealed)
 
 pub found_in-requires-clause-ordinals : goal.found_in-requires-clause-ordinals
