@@ -4,7 +4,8 @@
 The trees are those of the made input, each written once. When they are loaded, each search is sent and its reply awaited, so many times, and the
 least time counts; that of a search for nothing but the number of trees is taken away. Then all segments are merged to one, and the same is
 measured again, and once more in a session that merges neighbours by itself. The objects that a search looks at are
-those of its own count: all offers for the bucket of `nested`. On a machine that does other work the figures are high. Run
+those of its own count: all offers for the bucket of `nested`, and for `reverse_nested` the products around them too, which the time
+for a document counts. On a machine that does other work the figures are high. Run
 `./run --prove examples/shop.ndjson` once before: it builds the program.
 
     python3 bench/buckets.py [TREES [PROGRAM]]       # 100,000 trees
@@ -21,6 +22,7 @@ from made import MAPPING, Draws, product
 TOP = os.path.dirname(os.path.dirname(os.path.abspath(__file__)))
 ALL = '{"search":{"size":0}}'
 OFFERS = '{"search":{"size":0,"aggs":{"offers":{"nested":{"path":"offers"}%s}}}}'
+AROUND = OFFERS % ',"aggs":{"products":{"reverse_nested":{}}}'
 SEARCHES = {
     "nested alone": OFFERS % "",
     "terms, and reverse_nested in each": OFFERS % ',"aggs":{"colors":{"terms":{"field":"offers.color"},"aggs":{"products":{"reverse_nested":{}}}}}',
@@ -62,10 +64,12 @@ def measure(program, state):
     segments = len(json.loads(ask(program, '{"segments":{}}'))["segments"])
     base = least(program, ALL)
     print(f"{state}, in {segments} segments: a search for the number of trees takes {base / 1e6:.2f} ms")
+    around = json.loads(ask(program, AROUND))["aggregations"]["offers"]["products"]["doc_count"]
     for name, line in SEARCHES.items():
         offers = json.loads(ask(program, line))["aggregations"]["offers"]["doc_count"]
         spent = least(program, line) - base
-        print(f"  {name}: {spent / 1e6:.2f} ms over {offers:,} offers, {spent / offers:.1f} ns an offer")
+        looked = offers + (around if "reverse_nested" in line else 0)
+        print(f"  {name}: {spent / 1e6:.2f} ms over {offers:,} offers, {spent / offers:.1f} ns an offer, {spent / looked:.1f} ns a document")
 
 
 def main():
