@@ -21,9 +21,6 @@ use std::alloc::Global;
 use tree_json::Json;
 use tree_objects::{Fault, first_fault};
 
-/// The bytes of a source for each of its documents, by which room is made for them at first.
-const DOCUMENT_BYTES: usize = 24;
-
 /// The most documents for which room is made at first.
 const MOST_ROOM: usize = 16;
 
@@ -51,10 +48,19 @@ pub fn block(
 {
     let text = source_text(alloc, source)?;
     faultless(alloc, mapping, generation, source)?;
-    let room = (text.len() / DOCUMENT_BYTES + 1).min(MOST_ROOM);
+    let room = object_bound(text.as_slice()).min(MOST_ROOM);
     let documents = documents(alloc, mapping, generation, source, room)?;
     let root = root_of(alloc, mapping, generation, source, id, number, text)?;
     Ok(Block { documents, root })
+}
+
+/// How many objects a compact text has at most: a brace opens each of them.
+fn object_bound(text: &[u8]) -> usize {
+    let mut count: usize = 0;
+    'bytes: for byte in text {
+        count = count.wrapping_add(usize::from(*byte == b'{'));
+    }
+    count
 }
 
 /// That a source has no fault, or its first.
