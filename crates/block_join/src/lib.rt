@@ -1,9 +1,10 @@
 //! Scores of documents, joins of blocks and merges: scores of nested documents go up to the documents around them, and down.
 //!
 //! It stands on `block_bits` for the sets, `score_math` for the modes and `source_steps` for the counter. The contracts
-//! that others use are those of `to_parent` and `to_child`, `joined` and `spread` of `specs/Joins.antt` on the list of all
-//! documents, and that of `merged`, two lists put together by a `Rule`. Begin with `Scored`, then read `Cursor` and
-//! `Builder`, with which scores are read and made in order, and `Parts`, the sums that are kept as sets.
+//! that others use are those of `join_up` and `join_down`, and of `to_parent` and `to_child` for `ScopeBits` in the place of
+//! sets: `joined` and `spread` of `specs/Joins.antt` on the list of all documents; and that of `merged`, two lists put together
+//! by a `Rule`. Begin with `Scored`, then read `Cursor` and `Builder`, with which scores are read and made in order, and
+//! `Parts`, the sums that are kept as sets.
 #![tactic(auto)]
 
 mod builder;

@@ -55,7 +55,7 @@ pub fn marked_ups(alloc: Global, segment: &Segment, set: &BitSet, to: u32) -> Re
     }
 }
 
-/// How many live objects of a scope there are. It takes no memory.
+/// How many live objects of a scope there are. It takes no memory: `NoMemory` says that the count has no 64 bits.
 pub fn live_count(entries: &[Entry], scope: u32) -> Result<u64, NoMemory>
     ensures { (m : Meaning) → IfOk result (IsCount m entries.now scope (score_by m (leaf match_all 1))) }
 {
