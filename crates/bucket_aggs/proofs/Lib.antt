@@ -20,6 +20,7 @@ pub mod Searched
 pub mod Told
 pub mod Gathered
 pub mod Sums
+pub mod Wrapped
 pub mod Least
 pub mod Formed
 pub mod Cuts

@@ -62,19 +62,19 @@ lt_is Less h = refl
 lt_is Equal h = absurd (let no : ⊥ = cc in no)
 lt_is Greater h = absurd (let no : ⊥ = cc in no)
 
-below_on : (x z a : ℤ) → below x z ≡ true → below z a ≡ true → below x a ≡ true
+pub below_on : (x z a : ℤ) → below x z ≡ true → below z a ≡ true → below x a ≡ true
 below_on x z a h g = ap is_lt (int_cmp_total.trans x z a (lt_is (int_cmp x z) h) (lt_is (int_cmp z a) g))
 
-not_below : (a : ℤ) → below a a ≡ false
+pub not_below : (a : ℤ) → below a a ≡ false
 not_below a = ap is_lt (tied_itself int_cmp_total a)
 
 -- ---- numbers while they are added
 
-fold_on : {A B : Type 0} (f : A → B → A) (a : A) (xs ys : List B) → fold f a (xs ++ ys) ≡ fold f (fold f a xs) ys
+pub fold_on : {A B : Type 0} (f : A → B → A) (a : A) (xs ys : List B) → fold f a (xs ++ ys) ≡ fold f (fold f a xs) ys
 fold_on f a [] ys = refl
 fold_on f a (x ∷ xs) ys = fold_on f (f a x) xs ys
 
-sum_from : (a : ℤ) (zs : List ℤ) → fold (λ sum z. sum +ℤ z) a zs ≡ a +ℤ sum_of zs
+pub sum_from : (a : ℤ) (zs : List ℤ) → fold (λ sum z. sum +ℤ z) a zs ≡ a +ℤ sum_of zs
 sum_from a [] = omega (arith, ints)
 sum_from a (z ∷ zs) = omega (arith, ints, sum_from (a +ℤ z) zs, sum_from (pos 0 +ℤ z) zs)
 
@@ -119,7 +119,7 @@ under_of a b h = by (int_cmp a b) (int_ranked a b (int_cmp a b) refl) h
     by Equal held h = absurd (false≢true h)
     by Greater held h = absurd (false≢true h)
 
-over_of : (a b : ℤ) → below a b ≡ false → b ≤ℤ a
+pub over_of : (a b : ℤ) → below a b ≡ false → b ≤ℤ a
 over_of a b h = by (int_cmp a b) (int_ranked a b (int_cmp a b) refl) h
   where
     by : (r : Ordering) → MatchOrdering r (a <ℤ b) (a ≡ b) (b <ℤ a) → is_lt r ≡ false → b ≤ℤ a

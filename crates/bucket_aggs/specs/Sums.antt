@@ -1,6 +1,6 @@
 -- What numbers come to: their sum, the least and the greatest.
 use Rattle.std.specs.Prelude.{◌≡◌, ℕ, ◌+◌, ◌-◌, ◌*◌, ◌<◌, ◌^◌, ℤ, pos, negsuc, ◌+ℤ◌, ◌<ℤ◌, ◌≤ℤ◌, FitsSigned, Bool, false, if◌then◌else◌, List, [], length, fold, Option, Some, None}
-use Rattle.std.specs.Int.{w64}
+use Rattle.std.specs.Int.{int_wrap, w64}
 use Rattle.std.specs.List.{AllByRecursion, Contains, flat_map}
 use Rattle.std.specs.Ordering.{int_cmp, is_lt}
 use Rattle.doc_values.specs.Values.{values_of}
@@ -59,6 +59,11 @@ pub record IsAdded (start : Running) (zs : List ℤ) (now : Running) : Type 0 wh
   pub least : now.least ≡ first_from below start.least zs
   pub greatest : now.greatest ≡ first_from above start.greatest zs
   pub fit : AllByRecursion (FitsSigned w64) zs
+
+-- the same, but that the sum wraps at 64 bits
+pub record IsWrapped (start : Running) (zs : List ℤ) (now : Running) : Type 0 where
+  pub added : IsAdded start zs (record { count = now.count; total = sum_of zs; least = now.least; greatest = now.greatest })
+  pub wraps : now.total ≡ int_wrap w64 (sum_of zs)
 
 -- so many numbers of 64 bits may be added: the sum has 128 bits, and the count 64
 pub record HasRoom (more : ℕ) (s : Running) : Type 0 where

@@ -1,6 +1,6 @@
 //! What the values of a field come to over all objects.
 
-ghost use Rattle.std.specs.Prelude.{◌≡◌, ◌<◌, ◌+◌, ◌^◌, ◌++◌, ℕ, ℤ, pos, List, [], ◌∷◌, false, if◌then◌else◌, map, length, slice_get, slice_index, slice_index_or, sum_by, IfNone, IfOk, IfSome, OnOk, Some, None};
+ghost use Rattle.std.specs.Prelude.{◌≡◌, ◌<◌, ◌+◌, ◌^◌, ◌++◌, ℕ, ℤ, pos, List, [], ◌∷◌, true, false, if◌then◌else◌, map, length, slice_get, slice_index, slice_index_or, sum_by, IfNone, IfOk, IfSome, OnOk, Some, None};
 ghost use Rattle.std.specs.List.{All, flat_map};
 ghost use Rattle.std.specs.List.Sorted.{IsStrictlyIncreasing};
 ghost use Rattle.std.specs.Int.{saturate_signed, w64};
@@ -10,7 +10,7 @@ ghost use Rattle.segment.specs.Flat.{flat_of};
 ghost use Rattle.segment_parts.specs.Text.{marked_places};
 ghost use Rattle.bucket_aggs.specs.Columns.{joined};
 ghost use Rattle.bucket_aggs.specs.Counts.{flats_of_view};
-ghost use Rattle.bucket_aggs.specs.Sums.{HasRoom, IsAdded, IsAnew, IsKept, IsSummary, above, anew, below, first_of, keywords_in, no_numbers, numbers_in, values_in};
+ghost use Rattle.bucket_aggs.specs.Sums.{HasRoom, IsAdded, IsAnew, IsKept, IsSummary, IsWrapped, above, anew, below, first_of, keywords_in, no_numbers, numbers_in, values_in};
 ghost use Rattle.bucket_aggs.specs.declared.metrics.Running.{Running};
 
 use crate::NoMemory;
@@ -111,6 +111,18 @@ impl Running {
             greatest: own.greatest,
         };
         Ok(())
+    }
+
+    /// Whether a sum that wrapped at 64 bits is exact: so many numbers, none of them further from 0 than the least or the greatest,
+    /// have a sum of 64 bits.
+    fn is_exact(&self) -> bool
+        ensures { result ≡ true → (start : Running) (zs : List ℤ) → IsAnew start → IsWrapped start zs self.now → IsAdded start zs self.now }
+    {
+        let far = self.least.unsigned_abs().max(self.greatest.unsigned_abs());
+        match self.count.checked_mul(far) {
+            Some(most) => most <= i64::MAX as u64,
+            None => false,
+        }
     }
 
     /// What they come to.
@@ -298,6 +310,51 @@ fn with_column(set: &BitSet, column: &NumberColumn, start: Running) -> Running
 
 /// The same over rows of one value each.
 fn with_single_rows(set: &BitSet, rows: &SingleRows<i64>, start: Running) -> Running
+    requires anew { IsAnew start }
+    requires ascending { IsStrictlyIncreasing (documents rows.now) }
+    requires within { All (λ doc. doc < length set.now) (documents rows.now) }
+    ensures { IsAdded start (flat_map (λ doc. values_of doc rows.now) (marked_places 0 set.now)) result }
+{
+    let sums = with_wrapped_sum(set, rows, start);
+    if sums.is_exact() {
+        return sums;
+    }
+    with_long_sum(set, rows, start)
+}
+
+/// The same, but that the sum wraps at 64 bits.
+///
+/// What is not in the set is counted: a row that is in it then costs a few instructions less.
+fn with_wrapped_sum(set: &BitSet, rows: &SingleRows<i64>, start: Running) -> Running
+    requires anew { IsAnew start }
+    requires ascending { IsStrictlyIncreasing (documents rows.now) }
+    requires within { All (λ doc. doc < length set.now) (documents rows.now) }
+    ensures { IsWrapped start (flat_map (λ doc. values_of doc rows.now) (marked_places 0 set.now)) result }
+{
+    let mut total: i64 = 0;
+    let mut least = start.least;
+    let mut greatest = start.greatest;
+    let mut others: u32 = 0;
+    'rows: for at in 0..rows.len() {
+        let own = rows.row(at);
+        if set.has(own.0) {
+            total = total.wrapping_add(own.1);
+            least = lesser(least, own.1);
+            greatest = greater(greatest, own.1);
+        } else {
+            others += 1;
+        }
+    }
+    Running {
+        count: u64::from(rows.len() - others),
+        total: i128::from(total),
+        least,
+        greatest,
+    }
+}
+
+/// The same, with a sum of 128 bits.
+fn with_long_sum(set: &BitSet, rows: &SingleRows<i64>, start: Running) -> Running
     requires anew { IsAnew start }
     requires ascending { IsStrictlyIncreasing (documents rows.now) }
     requires within { All (λ doc. doc < length set.now) (documents rows.now) }

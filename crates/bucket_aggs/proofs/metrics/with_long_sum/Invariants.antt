@@ -2,7 +2,7 @@ use Rattle.std.proofs.Common.{◌≡◌, ◌++◌, ◌-◌, ◌^◌, ℤ, List, 
 use Rattle.std.specs.List.{flat_map}
 use Rattle.bucket_aggs.specs.Sums.{HasRoom, IsAdded}
 use Rattle.bucket_aggs.proofs.Told.{told}
-use Rattle.bucket_aggs.proofs.metrics.with_single_rows.Given as goal
+use Rattle.bucket_aggs.proofs.metrics.with_long_sum.Given as goal
 
 abbrev pub invariant-rows : goal.invariant-rows
 invariant-rows l =

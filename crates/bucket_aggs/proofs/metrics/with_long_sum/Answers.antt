@@ -7,8 +7,8 @@ use Rattle.bucket_aggs.specs.declared.metrics.Running.{Running}
 use Rattle.bucket_aggs.proofs.Documents.{nothing_behind}
 use Rattle.bucket_aggs.proofs.Sums.{room_less}
 use Rattle.bucket_aggs.proofs.Told.{document_below, rows_told, told, told_end, told_own}
-use Rattle.bucket_aggs.proofs.metrics.with_single_rows.Goals.{then-has, else-has}
-use Rattle.bucket_aggs.proofs.metrics.with_single_rows.Goals as goal
+use Rattle.bucket_aggs.proofs.metrics.with_long_sum.Goals.{then-has, else-has}
+use Rattle.bucket_aggs.proofs.metrics.with_long_sum.Goals as goal
 
 pub has-requires : goal.has-requires
 has-requires c =
