@@ -59,10 +59,10 @@ pub(crate) fn counted_at_once(
     let mut counts = TermCounts {
         own: Vec::new(alloc),
         around: Vec::new(alloc),
-        near: (0, 0),
         shown: documents.min(u64::from(shown)),
         work_left: documents.saturating_mul(WORK_EACH),
     };
+    let places = term_places(alloc, entries, field)?;
     let mut rows = Vec::new(alloc);
     'entries: for at in 0..entries.len() {
         let done = add_at_once(
@@ -72,6 +72,7 @@ pub(crate) fn counted_at_once(
             field,
             objects[at].set(),
             to,
+            places[at],
             &mut counts,
             &mut rows,
             ups,
@@ -83,13 +84,39 @@ pub(crate) fn counted_at_once(
     Ok(Some(merged(alloc, rows)?))
 }
 
+/// Where the terms of a field stand in each segment.
+///
+/// They are looked for in all segments before the first is counted, and in each where they stood in the first: no search waits for the
+/// answer of another, and the processor waits for several of them at once.
+fn term_places(alloc: Global, entries: &[Entry], field: u32) -> Result<Vec<(u64, u64)>, NoMemory>
+    ensures { IfOk result (λ places. length places.items ≡ length entries.now) }
+{
+    let near = match entries {
+        [] => (0, 0),
+        [first, ..] => place_in(first.segment(), field, (0, 0)),
+    };
+    let mut places = Vec::with_capacity(alloc, entries.len())?;
+    'entries: for at in 0..entries.len() {
+        places.push(place_in(entries[at].segment(), field, near))?;
+    }
+    Ok(places)
+}
+
+/// Where the terms of a field stand in a segment, looked for near a place; that place where no document has one.
+fn place_in(segment: &Segment, field: u32, near: (u64, u64)) -> (u64, u64) {
+    let Some(_column) = segment.ordinals(field) else {
+        return near;
+    };
+    let terms = segment.terms();
+    terms_of_field(&terms, field, near)
+}
+
 /// What goes from one segment to the next: memory for how many documents have each term of a field, by ordinal, and how many
-/// documents of a scope are around those; where the terms stood; how many terms are shown; and how much work is left for more.
+/// documents of a scope are around those; how many terms are shown; and how much work is left for more.
 #[derive(Drop)]
 struct TermCounts {
     own: Vec<u64>,
     around: Vec<u64>,
-    near: (u64, u64),
     shown: u64,
     work_left: u64,
 }
@@ -115,7 +142,8 @@ impl TermCounts {
     }
 }
 
-/// Adds the values that the documents of a set show, and the objects around those; false where that is too much work.
+/// Adds the values that the documents of a set show, and the objects around those; false where that is too much work. The terms are
+/// looked for at a place.
 fn add_at_once(
     alloc: Global,
     segment: &Segment,
@@ -123,6 +151,7 @@ fn add_at_once(
     field: u32,
     set: &BitSet,
     to: u32,
+    near: (u64, u64),
     counts: &mut TermCounts,
     rows: &mut Vec<CountRow>,
     ups: &mut Vec<CountRow>,
@@ -140,8 +169,7 @@ fn add_at_once(
     };
     let terms = segment.terms();
     let _ascending = terms.count();
-    let (first, end) = terms_of_field(&terms, field, counts.near);
-    counts.near = (first, end);
+    let (first, end) = terms_of_field(&terms, field, near);
     if !counts.has_room(end - first, column.rows(), set.len()) {
         return Ok(false);
     }
