@@ -124,7 +124,7 @@ pub(crate) fn push_words_of_field(
     ensures { OnOk result (map word_seen into.new.items ≡ map word_seen into.old.items ++ words_of_field field (map (λ t. (t.0.items, t.1)) tokens.items)) }
 {
     sort_tokens(&mut tokens);
-    into.reserve(tokens.len())?;
+    into.reserve_exact(tokens.len())?;
     let mut current = None;
     'tokens: for (word, at) in tokens {
         current = Some(with_token(alloc, field, word, at, current, into)?);

@@ -45,6 +45,7 @@ pub mod ByDocuments
 pub mod Gathered
 pub mod Put
 pub mod Ranked
+pub mod Keyed
 pub mod Fielded
 pub mod Mixed
 pub mod Added

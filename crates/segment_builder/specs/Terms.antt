@@ -1,6 +1,6 @@
 -- The terms of keyword and number fields, from the entries of documents.
 use denote.Ref.{Bor}
-use Rattle.std.specs.Prelude.{◌≡◌, ℕ, ℤ, List, [], ◌∷◌, ◌++◌, map, slice_index_or, Vec, if◌then◌else◌}
+use Rattle.std.specs.Prelude.{◌≡◌, ℕ, ℤ, List, [], ◌∷◌, ◌++◌, map, slice_index_or, FitsSigned, Vec, if◌then◌else◌}
 use Rattle.std.specs.Cmp.Lexicographic.{slice_cmp}
 use Rattle.std.specs.Int.{from_be_bytes, w64}
 use Rattle.std.specs.List.{AllByRecursion, flat_map}
@@ -60,6 +60,10 @@ keyword_entry entry = (entry.0.now.items, (entry.1, []))
 
 abbrev pub key_entry : List ℕ × ℕ → List ℕ × (ℕ × List ℕ)
 key_entry entry = (entry.0, (entry.1, []))
+
+-- the key of some number
+abbrev pub IsKey : List ℕ → Type 0
+IsKey key = (number : ℤ) × FitsSigned w64 number × (number_key number ≡ key)
 
 -- the entries of a field, whatever they are
 abbrev pub field_entries : FieldTerms → List (List ℕ × (ℕ × List ℕ))

@@ -1,12 +1,15 @@
-//! That numbers and positions fit their types, as each does: said for all documents of blocks by reading them.
+//! That numbers and positions fit their types, as each does: said for all documents of blocks by reading them; and that eight
+//! bytes are the key of a number.
 
 ghost use Rattle.std.specs.Prelude.{◌<◌, ◌^◌, FitsSigned};
 ghost use Rattle.std.specs.Int.{w64};
 ghost use Rattle.std.specs.List.{All};
 ghost use Rattle.flattener.specs.Seen.{document_seen};
 ghost use Rattle.segment_builder.specs.Form.{IsFit};
+ghost use Rattle.segment_builder.specs.Terms.{IsKey};
 
 use flattener::{Block, Document, NumberField, Word};
+use term_table::number_of;
 
 /// Says that what the documents of blocks carry fits its types.
 pub(crate) fn blocks_fit(blocks: &[Block])
@@ -72,3 +75,19 @@ fn value_fits(value: &i64)
 fn positions_fit(positions: &[u32])
     ensures { All (λ position. position < 2 ^ 32) positions.now }
 {}
+
+/// Says that the keys of entries are those of numbers.
+pub(crate) fn keys_are_of_numbers(entries: &[([u8; 8], u32)])
+    ensures { All (λ entry. IsKey entry.0) entries.now }
+{
+    'entries: for entry in entries {
+        key_is_of_number(entry);
+    }
+}
+
+/// Says that the key of an entry is that of a number.
+fn key_is_of_number(entry: &([u8; 8], u32))
+    ensures { IsKey entry.now.0 }
+{
+    let _number = number_of(entry.0.as_slice());
+}

@@ -13,10 +13,12 @@ ghost use Rattle.segment_builder.specs.Taken.{AreTermEntries};
 ghost use Rattle.segment_builder.specs.Terms.{entries_seen, field_entries, field_row, field_rows, fields_in, key_entry, keyword_fields, number_fields, rank, row_group, rows_in, word_fields, AddSorted};
 
 use crate::NoMemory;
+use crate::fit::keys_are_of_numbers;
 use crate::terms::{keys_of, keywords_of};
 use flattener::{Keyword, KeywordField, NumberField, Word};
 use part_text::{put_string, put_u32, put_u64};
 use std::alloc::Global;
+use term_table::keys_are_ordered;
 
 /// What is a term in a document: its bytes, and its positions there, of which keywords and numbers have none.
 pub(crate) trait Term {
@@ -152,22 +154,15 @@ fn sort_by_rank<T: Term>(entries: &mut Vec<(T, u32)>) -> Result<(), NoMemory>
     Ok(())
 }
 
-/// Sorts the numbers of a field by their keys; those of one number keep their order.
+/// Sorts the numbers of a field by their keys; those of one number keep their order. Keys are compared as the numbers that their
+/// bytes are, which costs less than to compare the bytes.
 fn sort_numbers(entries: &mut Vec<([u8; 8], u32)>) -> Result<(), NoMemory>
     ensures same { OnOk result ((bytes : List ℕ) → of_key (slice_cmp nat_cmp) bytes (map key_entry entries.new.items) ≡ of_key (slice_cmp nat_cmp) bytes (map key_entry entries.old.items)) }
     ensures rising { OnOk result (AreRising (slice_cmp nat_cmp) (map key_entry entries.new.items)) }
 {
-    sort_by_number(entries)?;
-    sort_by_bytes(entries)?;
-    Ok(())
-}
-
-/// Sorts the numbers of a field by what their keys are as numbers, which costs less than a sort by the bytes of the keys, and
-/// leaves that sort nothing to do but to find them in order.
-fn sort_by_number(entries: &mut Vec<([u8; 8], u32)>) -> Result<(), NoMemory>
-    ensures { OnOk result ((bytes : List ℕ) → of_key (slice_cmp nat_cmp) bytes (map key_entry entries.new.items) ≡ of_key (slice_cmp nat_cmp) bytes (map key_entry entries.old.items)) }
-{
+    keys_are_ordered();
     entries.sort_by_key(|entry| u64::from_be_bytes(entry.0))?;
+    keys_are_of_numbers(entries.as_slice());
     Ok(())
 }
 
