@@ -46,21 +46,12 @@ pub fn block(
     ensures too_long { most_source < length (compact (view source.now)) → IfErr result (λ e. (e ≡ FlattenRefusal.NoMemory) ⊎ (e ≡ FlattenRefusal.SourceTooLong)) }
     ensures refused { IfErr result (λ e. (e ≡ FlattenRefusal.NoMemory) ⊎ (((e ≡ FlattenRefusal.SourceTooLong) × (most_source < length (compact (view source.now)))) ⊎ (block_refusal mapping.now (tree_given id.now number (view source.now) generation) ≡ Some e))) }
 {
-    let text = source_text(alloc, source)?;
+    let mut objects = 0;
+    let text = source_text(alloc, source, &mut objects)?;
     faultless(alloc, mapping, generation, source)?;
-    let room = object_bound(text.as_slice()).min(MOST_ROOM);
-    let documents = documents(alloc, mapping, generation, source, room)?;
+    let documents = documents(alloc, mapping, generation, source, objects.min(MOST_ROOM))?;
     let root = root_of(alloc, mapping, generation, source, id, number, text)?;
     Ok(Block { documents, root })
-}
-
-/// How many objects a compact text has at most: a brace opens each of them.
-fn object_bound(text: &[u8]) -> usize {
-    let mut count: usize = 0;
-    'bytes: for byte in text {
-        count = count.wrapping_add(usize::from(*byte == b'{'));
-    }
-    count
 }
 
 /// That a source has no fault, or its first.

@@ -18,16 +18,21 @@ use tree_json::{Json, JsonText, OutText, print, put_quoted, put_whole, quoted_le
 pub const LONGEST_SOURCE: u64 = 16_777_216;
 
 /// The bytes for which a text has room at first.
-const FIRST_ROOM: u64 = 512;
+const FIRST_ROOM: u64 = 256;
 
-/// The compact text of a source, unless it is too long.
-pub(crate) fn source_text(alloc: Global, source: &Json) -> Result<Vec<u8>, FlattenRefusal>
+/// The compact text of a source, unless it is too long. Its objects are counted in `objects`, which tells how much room its
+/// documents may take and nothing that is proved.
+pub(crate) fn source_text(
+    alloc: Global,
+    source: &Json,
+    objects: &mut usize,
+) -> Result<Vec<u8>, FlattenRefusal>
     ensures text { IfOk result (λ v. v.items ≡ compact (view source.now)) }
     ensures reads_back { IfOk result (λ v. levels (view source.now) ≤ most_levels → reading v.items ≡ is_value (view source.now)) }
     ensures short { IsOk result → length (compact (view source.now)) ≤ most_source }
     ensures refused { IfErr result (λ e. (e ≡ FlattenRefusal.NoMemory) ⊎ ((e ≡ FlattenRefusal.SourceTooLong) × (most_source < length (compact (view source.now))))) }
 {
-    let text = compact_text(alloc, source)?;
+    let text = compact_text(alloc, source, objects)?;
     if text.len() as u64 > LONGEST_SOURCE {
         return Err(FlattenRefusal::SourceTooLong);
     }
@@ -36,20 +41,20 @@ pub(crate) fn source_text(alloc: Global, source: &Json) -> Result<Vec<u8>, Flatt
 
 /// The compact text of a value.
 #[tactic(auto, using(tree_json::proofs::RoundTrip::reads_back))]
-fn compact_text(alloc: Global, value: &Json) -> Result<Vec<u8>, NoMemory>
+fn compact_text(alloc: Global, value: &Json, objects: &mut usize) -> Result<Vec<u8>, NoMemory>
     ensures text { IfOk result (λ v. v.items ≡ compact (view value.now)) }
     ensures reads_back { IfOk result (λ v. levels (view value.now) ≤ most_levels → reading v.items ≡ is_value (view value.now)) }
 {
     let mut text = OutText::empty(alloc);
     text.reserve(FIRST_ROOM)?;
-    push(value, &mut text)?;
+    push(value, &mut text, objects)?;
     Ok(text.into_vec())
 }
 
 /// Adds the compact text of a value.
 #[cycle(texts)]
 #[tactic(auto, using(tree_json::proofs::Sizes::sizes))]
-fn push(value: &Json, into: &mut OutText) -> Result<(), NoMemory>
+fn push(value: &Json, into: &mut OutText, objects: &mut usize) -> Result<(), NoMemory>
     ensures text { OnOk result (into.new.bytes ≡ into.old.bytes ++ compact (view value.now)) }
     ensures sound { OnOk result (IsSound (view value.now)) }
 {
@@ -57,12 +62,13 @@ fn push(value: &Json, into: &mut OutText) -> Result<(), NoMemory>
         Json::Text(text) => push_quoted(text.as_slice(), into),
         Json::List(list) => {
             push_byte(b'[', into)?;
-            push_elements(list.as_slice(), into)?;
+            push_elements(list.as_slice(), into, objects)?;
             push_byte(b']', into)
         }
         Json::Object(object) => {
+            *objects = objects.wrapping_add(1);
             push_byte(b'{', into)?;
-            push_members(object.as_slice(), into)?;
+            push_members(object.as_slice(), into, objects)?;
             push_byte(b'}', into)?;
             Ok(())
         }
@@ -74,7 +80,11 @@ fn push(value: &Json, into: &mut OutText) -> Result<(), NoMemory>
 
 #[cycle(texts)]
 #[tactic(auto, using(tree_json::proofs::Sizes::sizes))]
-fn push_elements(elements: &[Json], into: &mut OutText) -> Result<(), NoMemory>
+fn push_elements(
+    elements: &[Json],
+    into: &mut OutText,
+    objects: &mut usize,
+) -> Result<(), NoMemory>
     ensures text { OnOk result (into.new.bytes ≡ into.old.bytes ++ compact_elements false (elements_of (values elements.now))) }
     ensures sound { OnOk result (AreSound (elements_of (values elements.now))) }
 {
@@ -83,7 +93,7 @@ fn push_elements(elements: &[Json], into: &mut OutText) -> Result<(), NoMemory>
         if later {
             push_byte(b',', into)?;
         }
-        push(element, into)?;
+        push(element, into, objects)?;
         later = true;
     }
     Ok(())
@@ -91,14 +101,18 @@ fn push_elements(elements: &[Json], into: &mut OutText) -> Result<(), NoMemory>
 
 #[cycle(texts)]
 #[tactic(auto, using(tree_json::proofs::Sizes::sizes))]
-fn push_members(members: &[(JsonText, Json)], into: &mut OutText) -> Result<(), NoMemory>
+fn push_members(
+    members: &[(JsonText, Json)],
+    into: &mut OutText,
+    objects: &mut usize,
+) -> Result<(), NoMemory>
     ensures text { OnOk result (into.new.bytes ≡ into.old.bytes ++ compact_members false (members_of (entries members.now))) }
     ensures sound { OnOk result (MembersAreSound (members_of (entries members.now))) }
 {
     let mut later = false;
     'members: for (name, value) in members {
         push_name(later, name.as_slice(), into)?;
-        push(value, into)?;
+        push(value, into, objects)?;
         later = true;
     }
     Ok(())

@@ -17,17 +17,31 @@ const SLOTS: usize = 64;
 #[derive(Drop)]
 pub(crate) struct KnownPlaces {
     places: [usize; 64],
+    /// A new group gets room for so many members, as long as all together get no more than are left.
+    room: usize,
+    left: usize,
 }
 
 impl KnownPlaces {
-    /// None yet.
-    pub(crate) fn new() -> KnownPlaces {
-        KnownPlaces { places: [0; 64] }
+    /// None yet. A new group gets room for `room` members, and all new ones together for `left`.
+    pub(crate) fn new(room: usize, left: usize) -> KnownPlaces {
+        KnownPlaces {
+            places: [0; 64],
+            room,
+            left,
+        }
     }
 
     /// Where the group of a field was found last, if it is still there.
     fn place(&self, field: u32) -> usize {
         self.places[field as usize % SLOTS]
+    }
+
+    /// The room that a new group gets.
+    fn take_room(&mut self) -> usize {
+        let room = self.room.min(self.left);
+        self.left = self.left.saturating_sub(room);
+        room
     }
 
     /// Notes where the group of a field stands.
@@ -45,7 +59,7 @@ pub fn grouped_by_field<P: Drop>(
     ensures { IfOk result (λ groups. AreGroups nat_cmp entries.items (groups_seen groups.items)) }
 {
     let mut groups = Vec::new(alloc);
-    let mut known = KnownPlaces::new();
+    let mut known = KnownPlaces::new(0, 0);
     'entries: for (field, member) in entries {
         put(alloc, field, member, &mut known, &mut groups)?;
     }
@@ -74,7 +88,7 @@ pub(crate) fn put<P: Drop>(
         }
         Err(gap) => {
             known.note(field, gap);
-            let mut members = Vec::new(alloc);
+            let mut members = Vec::with_capacity(alloc, known.take_room())?;
             members.push(member)?;
             groups.insert(gap, (field, members))?;
             Ok(())

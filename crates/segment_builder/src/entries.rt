@@ -31,9 +31,11 @@ pub(crate) fn lists_of<'a>(alloc: Global, blocks: &'a [Block]) -> Result<Lists<'
     requires { length (flats_in (map block_seen blocks.now)) < 2 ^ 32 }
     ensures { IfOk result (AreLists (with_blocks no_entries (map block_seen blocks.now))) }
 {
-    let mut known = KnownPlaces::new();
+    let count = document_count(blocks);
+    // most fields that are there at all are there about once a block
+    let mut known = KnownPlaces::new(blocks.len(), count.saturating_mul(2));
     let mut lists = Lists {
-        scopes: Vec::with_capacity(alloc, document_count(blocks))?,
+        scopes: Vec::with_capacity(alloc, count)?,
         numbers: Vec::new(alloc),
         keywords: Vec::new(alloc),
         words: Vec::new(alloc),

@@ -1,12 +1,15 @@
-//! How many bytes the parts of a segment have, so that there is room for them at once: bytes that grow take up to twice what
-//! they need.
+//! How many bytes the parts of a segment have at most, so that there is room for them at once: bytes that grow are copied, and
+//! take up to twice what they need. What is left over is given back.
 
 use crate::rows::{FieldTerms, Term};
 use crate::terms::{keyword_count, number_count};
 use flattener::{Block, KeywordField, NumberField};
 use segment::Join;
 
-/// The bytes of what comes behind the head.
+/// The bytes of the row of a number in one document: its field, its key behind its length, and a posting behind their number.
+const NUMBER_ROW: usize = 28;
+
+/// The bytes of what comes behind the head, at most.
 pub(crate) fn room_of(
     blocks: &[Block],
     fields: &[(u32, FieldTerms<'_>)],
@@ -39,31 +42,26 @@ fn roots_room(blocks: &[Block]) -> usize {
     room
 }
 
-/// The bytes of the rows of fields behind their number.
+/// The bytes of the rows of fields behind their number, at most.
 fn rows_room(fields: &[(u32, FieldTerms<'_>)]) -> usize {
     let mut room: usize = 8;
     'fields: for (_, own) in fields {
         let rows = match own {
             FieldTerms::Words(entries) => entries_room(entries.as_slice()),
             FieldTerms::Keywords(entries) => entries_room(entries.as_slice()),
-            FieldTerms::Numbers(entries) => entries_room(entries.as_slice()),
+            FieldTerms::Numbers(entries) => entries.len().saturating_mul(NUMBER_ROW),
         };
         room = room.saturating_add(rows);
     }
     room
 }
 
-/// The bytes of the rows of entries whose terms rise.
+/// The bytes of the rows of entries if each had a term of its own: none is compared with another.
 fn entries_room<T: Term>(entries: &[(T, u32)]) -> usize {
     let mut room: usize = 0;
-    let mut last: Option<&[u8]> = None;
     'entries: for (term, _) in entries {
-        let bytes = term.bytes();
-        if last != Some(bytes) {
-            room = room.saturating_add(bytes.len().saturating_add(12));
-            last = Some(bytes);
-        }
-        room = room.saturating_add(term.positions().len().saturating_mul(4).saturating_add(8));
+        room = room.saturating_add(term.bytes().len().saturating_add(20));
+        room = room.saturating_add(term.positions().len().saturating_mul(4));
     }
     room
 }

@@ -20,11 +20,11 @@ returns-in_ok-push-in-Ok-clause-ordered g c =
 pub returns-in_ok-insert-in-Err-clause-gather : goal.returns-in_ok-insert-in-Err-clause-gather
 returns-in_ok-insert-in-Err-clause-gather g c = λ any.
     let gap = rw c.as_slice.ensures.value at c.in-Err.ensures.gap in
-    let one = c.in_ok-push-in-Err.ensures.items ∙ rw c.new-members.ensures.items refl in
+    let one = c.in_ok-push-in-Err.ensures.items ∙ rw c.in_ok-members-in-Err.ensures.items refl in
     rw c.in_ok-insert-in-Err.ensures.items (inserted_in any c.args.field c.args.member _ c.args.groups.now.items c.in-Err.gap one gap.0 gap.2)
 
 pub returns-in_ok-insert-in-Err-clause-ordered : goal.returns-in_ok-insert-in-Err-clause-ordered
 returns-in_ok-insert-in-Err-clause-ordered g c =
     let gap = rw c.as_slice.ensures.value at c.in-Err.ensures.gap in
-    let one = c.in_ok-push-in-Err.ensures.items ∙ rw c.new-members.ensures.items refl in
+    let one = c.in_ok-push-in-Err.ensures.items ∙ rw c.in_ok-members-in-Err.ensures.items refl in
     rw c.in_ok-insert-in-Err.ensures.items (inserted_ordered c.args.field c.args.member _ c.args.groups.now.items c.in-Err.gap one gap.0 gap.1 gap.2 c.requires)
