@@ -80,11 +80,7 @@ fn push(value: &Json, into: &mut OutText, objects: &mut usize) -> Result<(), NoM
 
 #[cycle(texts)]
 #[tactic(auto, using(tree_json::proofs::Sizes::sizes))]
-fn push_elements(
-    elements: &[Json],
-    into: &mut OutText,
-    objects: &mut usize,
-) -> Result<(), NoMemory>
+fn push_elements(elements: &[Json], into: &mut OutText, objects: &mut usize) -> Result<(), NoMemory>
     ensures text { OnOk result (into.new.bytes ≡ into.old.bytes ++ compact_elements false (elements_of (values elements.now))) }
     ensures sound { OnOk result (AreSound (elements_of (values elements.now))) }
 {
