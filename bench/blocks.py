@@ -4,7 +4,7 @@
 It puts a program into a copy of `crates`, which `rt` (on the path) proves and builds, and runs it over made sources:
 products with up to three offers, each of up to two stocks. A round reads each line (`read`), has the kit's `serde_json` read it
 (`serde`), reads it and looks for faults (`faults`), reads it and makes its block (`block`), or does so and makes a segment of each
-256 blocks (`segment`: all three). The five go by turns, five times, and the best of each counts, in processor time. Then the built
+256 blocks (`segment`: all three). The five go by turns, fifteen times, and the best of each counts, in processor time. Then the built
 program is given the same sources, 256 at a time, and each `refresh` behind them, which makes a segment of their blocks, is timed
 from outside (`refresh`); the best of three loads counts. Run `./run --prove examples/shop.ndjson` once before.
 
@@ -256,7 +256,7 @@ fn main(rt: HostRuntime) -> Result<(), Fault> {
     let Ok(mapping) = Mapping::read(rt.alloc(), &fields) else {
         return Err(Fault::Mapping);
     };
-    for _ in 0..5 {
+    for _ in 0..15 {
         let from = spent(&rt)?;
         let sum = round(rt.alloc(), Work::Read, &mapping, text.as_slice());
         report(&rt, "read", from, sum)?;
