@@ -16,7 +16,7 @@ use crate::refusal::{FlattenRefusal, NoMemory, WalkRefusal};
 use crate::source_text::source_text;
 use crate::walk::walk;
 use mapping::Mapping;
-use segment::{Bytes, Root};
+use segment::{Bytes, Id, Root};
 use std::alloc::Global;
 use tree_json::Json;
 use tree_objects::{Fault, first_fault};
@@ -130,7 +130,7 @@ fn root_of(
     ensures text { IfOk result (λ r. r.source ≡ text.items) }
 {
     Ok(Root {
-        id: Bytes::of(id.to_vec(alloc)?),
+        id: Id::of(alloc, id)?,
         number,
         generation,
         join: join_of(alloc, mapping, generation, source)?,

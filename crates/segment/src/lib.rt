@@ -23,4 +23,4 @@ pub use old::renewed;
 pub use refusal::SegmentRefusal;
 pub use segment::Segment;
 pub use segment_parts::{ByField, ColumnList, Columns, NoMemory};
-pub use stored_sources::{Bytes, Join, JoinValue, Root};
+pub use stored_sources::{Bytes, Id, Join, JoinValue, Root};

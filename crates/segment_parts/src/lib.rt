@@ -30,7 +30,7 @@ pub use sentences::{
     MAX_SOURCE_LEN, MAX_TERM_LEN, ends_with_root, has_greatest, have_present, is_id,
 };
 use std::alloc::{AllocError, AllocFailed};
-pub use stored_sources::{Bytes, Join, Root};
+pub use stored_sources::{Bytes, Id, Join, Root};
 pub use written::{put_head_of, segment_bytes};
 
 /// Memory ran out. What the call was to change is as it was.

@@ -18,5 +18,5 @@ mod written;
 
 pub use old::{old_roots_have_one_text, renewed_root};
 pub use part_text::{NoMemory, PlaceList};
-pub use root::{Bytes, Join, JoinValue, Root, RowList, roots_have_one_text};
+pub use root::{Bytes, Id, Join, JoinValue, Root, RowList, roots_have_one_text};
 pub use sources::StoredSources;

@@ -1,13 +1,15 @@
 //! What a segment stores of a root.
 
-ghost use Rattle.std.specs.Prelude.{◌≡◌, ◌++◌, ℕ, List, ◌<◌, ◌^◌, ◌↔◌, length, IsTrue};
+ghost use Rattle.std.specs.Prelude.{◌≡◌, ◌++◌, ℕ, List, ◌<◌, ◌^◌, ◌↔◌, length, IfOk, IsTrue};
 ghost use Rattle.stored_sources.specs.declared.root.Root.{Root};
 ghost use Rattle.stored_sources.specs.Text.{roots_text};
 ghost use Rattle.stored_sources.specs.Stands.{IsJoin, IsRoot, AreRoots};
 
+use smallvec::SmallVec;
+use std::alloc::{AllocError, Global};
 use std::marker::Model;
 
-/// Bytes, as of a source or of an id.
+/// Bytes, as of a source or of a parent's id.
 #[derive(Drop)]
 pub struct Bytes {
     bytes: Vec<u8>,
@@ -45,6 +47,37 @@ impl Bytes {
     }
 }
 
+/// The bytes of a root's id. Those of most ids are few, and take no memory of their own.
+#[derive(Drop)]
+pub struct Id {
+    bytes: SmallVec<u8, 24>,
+}
+
+impl Model for Id {
+    ghost use Rattle.std.specs.Prelude.{ℕ, List};
+
+    ghost Value = { List ℕ };
+
+    ghost view = { λ it. it.bytes.items };
+}
+
+impl Id {
+    /// The id of these bytes.
+    pub fn of(alloc: Global, bytes: &[u8]) -> Result<Id, AllocError>
+        ensures { IfOk result (λ id. id ≡ bytes.now) }
+    {
+        let bytes = SmallVec::from_slice(alloc, bytes)?;
+        Ok(Id { bytes })
+    }
+
+    /// The bytes.
+    pub fn as_slice(&self) -> &[u8]
+        ensures { result.now ≡ self.now }
+    {
+        self.bytes.as_slice()
+    }
+}
+
 /// The join value of a root (Elasticsearch reference, "Join field type"). Relations are numbered from 0 in byte
 /// order of their names.
 #[derive(Drop)]
@@ -71,8 +104,8 @@ pub enum JoinValue<'a> {
 /// A root: its id, its sequence number, the mapping generation it was indexed under, its source and its join value.
 #[derive(Drop)]
 pub struct Root {
-    /// The bytes of its id.
-    pub id: Bytes,
+    /// Its id.
+    pub id: Id,
     /// Its sequence number.
     pub number: u64,
     /// The generation of the mapping it was indexed under.

@@ -19,14 +19,14 @@ fn own(alloc: Global, bytes: &[u8]) -> Result<Bytes, Fail> {
 fn roots(rt: &impl Abort, alloc: Global) -> Result<RowList, Fail> {
     let mut list = Vec::new(alloc);
     list.push(Root {
-        id: own(alloc, b"1")?,
+        id: Id::of(alloc, b"1")?,
         number: 7,
         generation: 1,
         source: own(alloc, b"{}")?,
         join: Join::Named(0),
     })?;
     list.push(Root {
-        id: own(alloc, b"22")?,
+        id: Id::of(alloc, b"22")?,
         number: 8,
         generation: 3,
         source: own(alloc, b"[]")?,
