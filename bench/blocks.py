@@ -4,9 +4,10 @@
 It puts a program into a copy of `crates`, which `rt` (on the path) proves and builds, and runs it over made sources:
 products with up to three offers, each of up to two stocks. A round reads each line (`read`), has the kit's `serde_json` read it
 (`serde`), reads it and looks for faults (`faults`), reads it and makes its block (`block`), or does so and makes a segment of each
-256 blocks (`segment`: all three). The five go by turns, fifteen times, and the best of each counts, in processor time. Then the built
+256 blocks (`segment`: all three). The five go by turns over each piece of 5,120 lines, in processor time; for each piece the best of
+fifteen rounds counts, so that what else the machine does in one of them tells little, and the pieces are added. Then the built
 program is given the same sources, 256 at a time, and each `refresh` behind them, which makes a segment of their blocks, is timed
-from outside (`refresh`); the best of three loads counts. Run `./run --prove examples/shop.ndjson` once before.
+from outside (`refresh`); for each the best of three loads counts. Run `./run --prove examples/shop.ndjson` once before.
 
     python3 bench/blocks.py [TREES [WORK [PROGRAM]]]      # 100,000 trees; the copy is made in the folder WORK
 """
@@ -239,10 +240,44 @@ fn spent<R: CpuClock>(rt: &R) -> Result<u64, Fault> {
     Ok(now.as_secs().wrapping_mul(1_000_000).wrapping_add(now.subsec_micros() as u64))
 }
 
-fn report(rt: &HostRuntime, name: &str, from: u64, sum: u64) -> Result<(), Fault> {
+fn report(rt: &HostRuntime, name: &str, piece: u32, from: u64, sum: u64) -> Result<(), Fault> {
     let spent = spent(rt)?.wrapping_sub(from);
-    println!(rt; "{name} {spent} {sum}")?;
+    println!(rt; "{name} {piece} {spent} {sum}")?;
     Ok(())
+}
+
+/// Times each work on a piece of the lines.
+fn timed(rt: &HostRuntime, mapping: &Mapping, piece: u32, text: &[u8]) -> Result<(), Fault> {
+    let from = spent(rt)?;
+    let sum = round(rt.alloc(), Work::Read, mapping, text);
+    report(rt, "read", piece, from, sum)?;
+    let from = spent(rt)?;
+    let sum = round(rt.alloc(), Work::Serde, mapping, text);
+    report(rt, "serde", piece, from, sum)?;
+    let from = spent(rt)?;
+    let sum = round(rt.alloc(), Work::Faults, mapping, text);
+    report(rt, "faults", piece, from, sum)?;
+    let from = spent(rt)?;
+    let sum = round(rt.alloc(), Work::Block, mapping, text);
+    report(rt, "block", piece, from, sum)?;
+    let from = spent(rt)?;
+    let sum = segments(rt.alloc(), mapping, text);
+    report(rt, "segment", piece, from, sum)?;
+    Ok(())
+}
+
+/// Where the first 5,120 lines end.
+fn piece_end(text: &[u8]) -> usize {
+    let mut lines = 0u32;
+    for at in 0..text.len() {
+        if text[at] == b'\n' {
+            lines = lines.wrapping_add(1);
+            if lines == 5_120 {
+                return at + 1;
+            }
+        }
+    }
+    text.len()
 }
 
 fn main(rt: HostRuntime) -> Result<(), Fault> {
@@ -257,21 +292,15 @@ fn main(rt: HostRuntime) -> Result<(), Fault> {
         return Err(Fault::Mapping);
     };
     for _ in 0..15 {
-        let from = spent(&rt)?;
-        let sum = round(rt.alloc(), Work::Read, &mapping, text.as_slice());
-        report(&rt, "read", from, sum)?;
-        let from = spent(&rt)?;
-        let sum = round(rt.alloc(), Work::Serde, &mapping, text.as_slice());
-        report(&rt, "serde", from, sum)?;
-        let from = spent(&rt)?;
-        let sum = round(rt.alloc(), Work::Faults, &mapping, text.as_slice());
-        report(&rt, "faults", from, sum)?;
-        let from = spent(&rt)?;
-        let sum = round(rt.alloc(), Work::Block, &mapping, text.as_slice());
-        report(&rt, "block", from, sum)?;
-        let from = spent(&rt)?;
-        let sum = segments(rt.alloc(), &mapping, text.as_slice());
-        report(&rt, "segment", from, sum)?;
+        let mut rest = text.as_slice();
+        for piece in 0..u32::MAX {
+            if rest.is_empty() {
+                break;
+            }
+            let (front, back) = rest.split_at(piece_end(rest).min(rest.len()));
+            timed(&rt, &mapping, piece, front)?;
+            rest = back;
+        }
     }
     Ok(())
 }
@@ -320,7 +349,7 @@ def built(work):
 
 
 def seals(program, count):
-    """The milliseconds that the program takes for the segments of so many sources."""
+    """The milliseconds that the program takes for each segment of so many sources."""
     with tempfile.TemporaryDirectory() as folder:
         words = [program, "serve", os.path.join(folder, "store")]
         session = subprocess.Popen(words, stdin=subprocess.PIPE, stdout=subprocess.PIPE)
@@ -331,18 +360,18 @@ def seals(program, count):
             return [session.stdout.readline() for _ in range(replies)]
 
         ask(MAPPING + "\n", 1)
-        spent, batch = 0.0, []
+        spent, batch = [], []
         for number, source in enumerate(sources(count)):
             batch.append('{"index":{"_id":"%d"}}\n%s' % (number, source))
             if len(batch) == 256:
                 ask("".join(batch), 256)
                 start = time.perf_counter()
                 ask('{"refresh":{}}\n', 1)
-                spent += time.perf_counter() - start
+                spent.append((time.perf_counter() - start) * 1000)
                 batch = []
         session.stdin.close()
         session.wait()
-    return spent * 1000
+    return spent
 
 
 def main():
@@ -355,17 +384,19 @@ def main():
         out.writelines(sources(trees))
     with open(lines) as given:
         said = subprocess.run([program], stdin=given, stdout=subprocess.PIPE, check=True, text=True).stdout
-    best = {}
+    pieces = {}
     for line in said.splitlines():
-        name, spent, total = line.split()
-        best[name] = min(best.get(name, (10**12, 0)), (int(spent), int(total)))
+        name, piece, spent, total = line.split()
+        own = pieces.setdefault(name, {})
+        own[piece] = min(own.get(piece, (10**12, 0)), (int(spent), int(total)))
+    best = {name: [sum(it) for it in zip(*own.values())] for name, own in pieces.items()}
     read, serde = best["read"][0], best["serde"][0]
     for name, (spent, total) in best.items():
         print("%-7s %8.1f ms  %5.2f times reading  %5.2f times serde  %d" % (name, spent / 1000, spent / read, spent / serde, total))
     spent, total = best["segment"]
     print("documents read, made and put into segments: %d a second" % (total * 1_000_000 // spent))
     own = sys.argv[3] if len(sys.argv) > 3 else os.path.join(HERE, "crates/nestsearch/out/nestsearch")
-    refresh = min(seals(own, trees) for _ in range(3))
+    refresh = sum(map(min, zip(*(seals(own, trees) for _ in range(3)))))
     print("refresh %8.1f ms  %5.2f times reading  %5.2f times serde" % (refresh, refresh * 1000 / read, refresh * 1000 / serde))
 
 

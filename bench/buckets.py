@@ -1,9 +1,9 @@
 #!/usr/bin/env python3
 """How long the built program takes for buckets and metrics over nested objects, for each object that they look at.
 
-The trees are those of the made input, each written once. When they are loaded, each search is sent and its reply awaited, so many times, and the
-least time counts; that of a search for nothing but the number of trees is taken away. Then all segments are merged to one, and the same is
-measured again, and once more in a session that merges neighbours by itself. The objects that a search looks at are
+The trees are those of the made input, each written once. When they are loaded, the searches go by turns: each is sent and its reply awaited,
+ten times in each of thirty turns, and the least time counts; that of a search for nothing but the number of trees is taken away. Then all
+segments are merged to one, and the same is measured again, and once more in a session that merges neighbours by itself. The objects that a search looks at are
 those of its own count: all offers for the bucket of `nested`, and for `reverse_nested` the products around them too, which the time
 for a document counts. On a machine that does other work the figures are high. Run
 `./run --prove examples/shop.ndjson` once before: it builds the program.
@@ -30,7 +30,8 @@ SEARCHES = {
     "min, max, sum and value_count": OFFERS
     % ',"aggs":{"a":{"min":{"field":"offers.price"}},"b":{"max":{"field":"offers.price"}},"c":{"sum":{"field":"offers.price"}},"d":{"value_count":{"field":"offers.price"}}}',
 }
-TIMES = 30
+TURNS = 30
+TIMES = 10
 
 
 def ask(program, line):
@@ -39,14 +40,16 @@ def ask(program, line):
     return program.stdout.readline()
 
 
-def least(program, line):
-    """The least of so many times, in nanoseconds."""
-    times = []
-    for _ in range(TIMES):
-        start = time.perf_counter_ns()
-        ask(program, line)
-        times.append(time.perf_counter_ns() - start)
-    return min(times)
+def least(program, lines):
+    """The least time of each of some lines in so many turns, in nanoseconds."""
+    times = [[] for _ in lines]
+    for _ in range(TURNS):
+        for line, own in zip(lines, times):
+            for _ in range(TIMES):
+                start = time.perf_counter_ns()
+                ask(program, line)
+                own.append(time.perf_counter_ns() - start)
+    return [min(own) for own in times]
 
 
 def loaded(path, work, count, first):
@@ -62,12 +65,12 @@ def loaded(path, work, count, first):
 
 def measure(program, state):
     segments = len(json.loads(ask(program, '{"segments":{}}'))["segments"])
-    base = least(program, ALL)
+    base, *others = least(program, [ALL, *SEARCHES.values()])
     print(f"{state}, in {segments} segments: a search for the number of trees takes {base / 1e6:.2f} ms")
     around = json.loads(ask(program, AROUND))["aggregations"]["offers"]["products"]["doc_count"]
-    for name, line in SEARCHES.items():
+    for (name, line), own in zip(SEARCHES.items(), others):
         offers = json.loads(ask(program, line))["aggregations"]["offers"]["doc_count"]
-        spent = least(program, line) - base
+        spent = own - base
         looked = offers + (around if "reverse_nested" in line else 0)
         print(f"  {name}: {spent / 1e6:.2f} ms over {offers:,} offers, {spent / offers:.1f} ns an offer, {spent / looked:.1f} ns a document")
 
