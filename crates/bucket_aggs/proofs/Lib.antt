@@ -31,3 +31,4 @@ pub mod Faceted
 pub mod Ranged
 pub mod Parents
 pub mod Evaluating
+pub mod Lent

@@ -1,5 +1,6 @@
 -- The documents of a view with scores, entry by entry.
 use Rattle.std.proofs.Common.{◌≡◌, ℕ, zero, suc, ◌+◌, ◌<◌, ◌≤◌, Bool, List, [], ◌∷◌, ◌++◌, length, map, drop, get_or, sum_by, Option, is_some, refl, sym, ap, subst, ◌∙◌, arith}
+use Rattle.std.proofs.lemmas.List.{get_or_default}
 use Rattle.std.proofs.lemmas.List.Sums.{sum_by-append}
 use Rattle.mapping_body.specs.declared.kind.Kind.{Kind}
 use Rattle.query_eval.specs.Found.{AreLong}
@@ -32,6 +33,13 @@ flats_from at view scores = flats_of_view (drop at view) (drop at scores)
 -- the documents of an entry
 abbrev pub own_flats : Columns → List Bool → List FlatDocument
 own_flats columns flags = map (flat_of columns) (marked_places 0 flags)
+
+-- the scores of an entry
+abbrev pub scores_at : ℕ → List Scores → Scores
+scores_at at scores = get_or scores at []
+
+pub there_at : (at : ℕ) (view : View) (scores : List Scores) → AreLong view scores → at < length view → scores_at at scores ≡ get_or scores at (scores_at at scores)
+there_at at view scores long low = get_or_default scores at [] (scores_at at scores) (omega (arith, low, long_view view scores long))
 
 pub flats_step : (at : ℕ) (view : View) (scores : List Scores) (e : EntryState) (s : Scores) (columns : Columns) (flags : List Bool) → AreLong view scores → at < length view → e ≡ get_or view at e → s ≡ get_or scores at s → columns ≡ e.columns → flags ≡ map is_some s
     → flats_from at view scores ≡ own_flats columns flags ++ flats_from (at + 1) view scores

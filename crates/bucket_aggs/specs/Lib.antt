@@ -5,6 +5,7 @@ pub mod Given
 pub mod Once
 pub mod Known
 pub mod Parents
+pub mod Held
 pub mod Counts
 pub mod Columns
 pub mod Sums

@@ -11,7 +11,7 @@ ghost use Rattle.tree_objects.specs.Object.{Object};
 ghost use Rattle.tree_objects.specs.Tree.{Tree};
 
 use crate::NoMemory;
-use block_join::Matches;
+use crate::sets::Objects;
 use join_ordinals::JoinOrdinals;
 use mapping::Mapping;
 use query_eval::{KeyedRoots, children_led, parents_led, with_children, with_parent_by};
@@ -20,15 +20,15 @@ use segment_view::Entry;
 use std::alloc::Global;
 
 /// The roots of the child trees of roots by a relation. Where all such children stand by their keys, no others are looked at.
-pub(crate) fn children_across(
+pub(crate) fn children_across<'a>(
     alloc: Global,
     entries: &[Entry],
     mapping: &Mapping,
     ordinals: &JoinOrdinals,
     relation: u32,
     roots: Option<&KeyedRoots>,
-    objects: &Matches,
-) -> Result<Matches, NoMemory>
+    objects: &Objects<'_>,
+) -> Result<Objects<'a>, NoMemory>
     requires relation { IsChildRelation mapping.now relation }
     requires roots { IfSome roots (λ roots. AreChildRoots mapping.now ordinals.now relation entries.now roots.now) }
     requires joined { AreOrdinals entries.now ordinals.now }
@@ -36,25 +36,31 @@ pub(crate) fn children_across(
     ensures long { IfOk result (AreLong entries.now) }
     ensures seen { (given : List Tree → Object → Option ℕ) → IsSeen mapping.now entries.now 0 given objects.now → IfOk result (IsSeen mapping.now entries.now 0 (by_relation mapping.now relation given)) }
 {
+    let kept = objects.hits(alloc)?;
+    let own = kept.as_ref();
     match roots {
-        Some(roots) => Ok(children_led(
-            alloc, entries, mapping, ordinals, objects, relation, roots,
-        )?),
-        None => Ok(with_parent_by(alloc, entries, mapping, ordinals, objects, relation)?),
+        Some(roots) => {
+            let those = children_led(alloc, entries, mapping, ordinals, own, relation, roots)?;
+            Ok(Objects::made(those))
+        }
+        None => {
+            let those = with_parent_by(alloc, entries, mapping, ordinals, own, relation)?;
+            Ok(Objects::made(those))
+        }
     }
 }
 
 /// The roots of the parent trees of roots, each once; the relation is the children's. Where all such parents stand by their
 /// keys, no others are looked at.
-pub(crate) fn parents_across(
+pub(crate) fn parents_across<'a>(
     alloc: Global,
     entries: &[Entry],
     mapping: &Mapping,
     ordinals: &JoinOrdinals,
     relation: u32,
     roots: Option<&KeyedRoots>,
-    objects: &Matches,
-) -> Result<Matches, NoMemory>
+    objects: &Objects<'_>,
+) -> Result<Objects<'a>, NoMemory>
     requires relation { IsChildRelation mapping.now relation }
     requires roots { IfSome roots (λ roots. AreParentRoots mapping.now ordinals.now relation entries.now roots.now) }
     requires joined { AreOrdinals entries.now ordinals.now }
@@ -62,20 +68,26 @@ pub(crate) fn parents_across(
     ensures long { IfOk result (AreLong entries.now) }
     ensures seen { (given : List Tree → Object → Option ℕ) → IsSeen mapping.now entries.now 0 given objects.now → IfOk result (AreParents mapping.now entries.now relation given) }
 {
+    let kept = objects.hits(alloc)?;
+    let own = kept.as_ref();
     match roots {
-        Some(roots) => Ok(parents_led(
-            alloc, entries, mapping, ordinals, objects, relation, roots,
-        )?),
-        None => Ok(with_children(
-            alloc,
-            entries,
-            mapping,
-            ordinals,
-            objects,
-            relation,
-            ScoreMode::Max,
-            1,
-            None,
-        )?),
+        Some(roots) => {
+            let those = parents_led(alloc, entries, mapping, ordinals, own, relation, roots)?;
+            Ok(Objects::made(those))
+        }
+        None => {
+            let those = with_children(
+                alloc,
+                entries,
+                mapping,
+                ordinals,
+                own,
+                relation,
+                ScoreMode::Max,
+                1,
+                None,
+            )?;
+            Ok(Objects::made(those))
+        }
     }
 }

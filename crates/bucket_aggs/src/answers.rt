@@ -26,10 +26,13 @@ use crate::across::{children_across, parents_across};
 use crate::facets::facets;
 use crate::metric_answers::{count, greatest, least, sum};
 use crate::metrics::FieldSummary;
-use crate::objects::{alike, count_of, filtered, have_one_score, inside_of};
+use crate::objects::{
+    alike, around_count, around_of, count_of, filtered, have_one_score, inside_of,
+};
 use crate::once::{Evaluated, Known, evaluate, known_hits, known_roots, opened, parted};
 use crate::posted::TermSet;
 use crate::rows::{CountRow, copied, ordered, sum_of_counts};
+use crate::sets::Objects;
 use crate::showing::showing;
 use crate::terms::counted;
 use block_join::Matches;
@@ -38,8 +41,7 @@ use mapping::Mapping;
 use query_ast::{
     AggDef, AggForm, AggList, AggReplies, AggReply, AggValue, Bucket, BucketList, Query, QueryBox,
 };
-use query_eval::{KeyedRoots, kept_hits, up_count, ups};
-use score_math::ScoreMode;
+use query_eval::{KeyedRoots, kept_hits};
 use segment_view::{Entry, View};
 use source_steps::Steps;
 use std::alloc::Global;
@@ -75,6 +77,7 @@ pub fn buckets<L: Ledger>(
 {
     let entries = view.entries();
     if have_one_score(hits) {
+        let objects = Objects::of(hits);
         let replies = replies(
             alloc,
             entries,
@@ -83,11 +86,12 @@ pub fn buckets<L: Ledger>(
             aggs.as_slice(),
             None,
             scope,
-            hits,
+            &objects,
         )?;
         return Ok(AggReplies::of(replies));
     }
-    let objects = alike(alloc, entries, mapping, ordinals, scope, hits)?;
+    let ones = alike(alloc, entries, mapping, ordinals, scope, hits)?;
+    let objects = Objects::of(&ones);
     let replies = replies(
         alloc,
         entries,
@@ -111,7 +115,7 @@ fn replies(
     aggs: &[AggDef],
     once: Option<&[Evaluated]>,
     scope: u32,
-    objects: &Matches,
+    objects: &Objects<'_>,
 ) -> Result<Vec<AggReply>, NoMemory>
     requires resolved { AreAggDefinitions mapping.now scope (definitions_of (map agg_of aggs.now)) }
     requires joined { some_agg_joins (definitions_of (map agg_of aggs.now)) ≡ true → AreOrdinals entries.now ordinals.now }
@@ -137,7 +141,7 @@ fn further(
     aggs: &[AggDef],
     once: Option<&[Evaluated]>,
     scope: u32,
-    objects: &Matches,
+    objects: &Objects<'_>,
     mut made: Vec<AggReply>,
     kept: &mut Option<FieldSummary>,
 ) -> Result<Vec<AggReply>, NoMemory>
@@ -173,7 +177,7 @@ fn reply(
     def: &AggDef,
     known: Option<&Evaluated>,
     scope: u32,
-    objects: &Matches,
+    objects: &Objects<'_>,
     kept: &mut Option<FieldSummary>,
 ) -> Result<AggReply, NoMemory>
     requires resolved { IsAggDefinition mapping.now scope (agg_of def.now) }
@@ -207,7 +211,7 @@ fn value(
     inner: &AggList,
     once: Option<&[Evaluated]>,
     scope: u32,
-    objects: &Matches,
+    objects: &Objects<'_>,
     kept: &mut Option<FieldSummary>,
 ) -> Result<AggValue, NoMemory>
     requires form { IsForm mapping.now scope form.now (definitions_of inner.now) }
@@ -290,7 +294,7 @@ fn hitting(
     inner: &AggList,
     once: Option<&[Evaluated]>,
     scope: u32,
-    objects: &Matches,
+    objects: &Objects<'_>,
 ) -> Result<AggValue, NoMemory>
     requires query { IsResolved mapping.now scope query.now }
     requires joins { joins query.now ≡ true → AreOrdinals entries.now ordinals.now }
@@ -327,7 +331,7 @@ fn inside(
     inner: &AggList,
     once: Option<&[Evaluated]>,
     scope: u32,
-    objects: &Matches,
+    objects: &Objects<'_>,
 ) -> Result<AggValue, NoMemory>
     requires path { IsAbove mapping.now scope path }
     requires inner { AreAggDefinitions mapping.now path (definitions_of inner.now) }
@@ -336,7 +340,7 @@ fn inside(
     requires long { AreLong entries.now objects.now }
     ensures { (given : List Tree → Object → Option ℕ) → IsSeen mapping.now entries.now scope given objects.now → IfOk result (λ value. IsAnswer mapping.now entries.now scope (value_by mapping.now (AggForm.Nested path) (definitions_of inner.now)) given (value_of value)) }
 {
-    let those = inside_of(alloc, entries, mapping, ordinals, scope, path, objects)?;
+    let those = inside_of(alloc, entries, mapping, scope, path, objects)?;
     Ok(single(alloc, entries, mapping, ordinals, inner, once, path, &those)?)
 }
 
@@ -351,7 +355,7 @@ fn around(
     inner: &AggList,
     once: Option<&[Evaluated]>,
     scope: u32,
-    objects: &Matches,
+    objects: &Objects<'_>,
 ) -> Result<AggValue, NoMemory>
     requires path { IsAbove mapping.now path scope }
     requires inner { AreAggDefinitions mapping.now path (definitions_of inner.now) }
@@ -366,7 +370,7 @@ fn around(
     objects_nest();
     objects_are_parted();
     let _scopes = mapping.scope_count();
-    let those = ups(alloc, entries, objects, path, ScoreMode::Max)?;
+    let those = around_of(alloc, entries, objects, path)?;
     Ok(single(alloc, entries, mapping, ordinals, inner, once, path, &those)?)
 }
 
@@ -377,7 +381,7 @@ fn around_alone(
     mapping: &Mapping,
     path: u32,
     scope: u32,
-    objects: &Matches,
+    objects: &Objects<'_>,
 ) -> Result<AggValue, NoMemory>
     requires path { IsAbove mapping.now path scope }
     requires long { AreLong entries.now objects.now }
@@ -386,7 +390,7 @@ fn around_alone(
     objects_nest();
     objects_are_parted();
     let _scopes = mapping.scope_count();
-    let count = up_count(alloc, entries, objects, path)?;
+    let count = around_count(alloc, entries, objects, path)?;
     Ok(AggValue::Single {
         count,
         inner: AggReplies::of(Vec::new(alloc)),
@@ -405,7 +409,7 @@ fn children(
     inner: &AggList,
     once: Option<&[Evaluated]>,
     scope: u32,
-    objects: &Matches,
+    objects: &Objects<'_>,
 ) -> Result<AggValue, NoMemory>
     requires root { scope ≡ 0 }
     requires relation { IsChildRelation mapping.now relation }
@@ -434,7 +438,7 @@ fn parents(
     inner: &AggList,
     once: Option<&[Evaluated]>,
     scope: u32,
-    objects: &Matches,
+    objects: &Objects<'_>,
 ) -> Result<AggValue, NoMemory>
     requires root { scope ≡ 0 }
     requires relation { IsChildRelation mapping.now relation }
@@ -461,7 +465,7 @@ fn single(
     inner: &AggList,
     once: Option<&[Evaluated]>,
     scope: u32,
-    objects: &Matches,
+    objects: &Objects<'_>,
 ) -> Result<AggValue, NoMemory>
     requires resolved { AreAggDefinitions mapping.now scope (definitions_of inner.now) }
     requires joined { some_agg_joins (definitions_of inner.now) ≡ true → AreOrdinals entries.now ordinals.now }
@@ -500,7 +504,7 @@ fn terms(
     inner: &AggList,
     once: Option<&[Evaluated]>,
     scope: u32,
-    objects: &Matches,
+    objects: &Objects<'_>,
 ) -> Result<AggValue, NoMemory>
     requires field { IsUse (λ u. u.sorted) mapping.now field }
     requires resolved { AreAggDefinitions mapping.now scope (definitions_of inner.now) }
@@ -533,7 +537,7 @@ fn field_terms(
     inner: &AggList,
     once: Option<&[Evaluated]>,
     scope: u32,
-    objects: &Matches,
+    objects: &Objects<'_>,
 ) -> Result<AggValue, NoMemory>
     requires field { IsUse (λ u. u.sorted) mapping.now (Some field) }
     requires resolved { AreAggDefinitions mapping.now scope (definitions_of inner.now) }
@@ -578,7 +582,7 @@ fn mapped_terms(
     inner: &AggList,
     once: Option<&[Evaluated]>,
     scope: u32,
-    objects: &Matches,
+    objects: &Objects<'_>,
 ) -> Result<AggValue, NoMemory>
     requires field { IsUse (λ u. u.sorted) mapping.now (Some field) }
     requires resolved { AreAggDefinitions mapping.now scope (definitions_of inner.now) }
@@ -625,7 +629,7 @@ fn ready_shown(
     inner: &AggList,
     once: Option<&[Evaluated]>,
     scope: u32,
-    objects: &Matches,
+    objects: &Objects<'_>,
     found: &[TermSet],
 ) -> Result<Vec<Bucket>, NoMemory>
     requires field { IsUse (λ u. u.sorted) mapping.now (Some field) }
@@ -662,7 +666,7 @@ fn shown(
     inner: &AggList,
     once: Option<&[Evaluated]>,
     scope: u32,
-    objects: &Matches,
+    objects: &Objects<'_>,
     found: &[TermSet],
 ) -> Result<Vec<Bucket>, NoMemory>
     requires field { IsUse (λ u. u.sorted) mapping.now (Some field) }
@@ -696,7 +700,7 @@ fn bucket(
     inner: &AggList,
     once: Option<&[Evaluated]>,
     scope: u32,
-    objects: &Matches,
+    objects: &Objects<'_>,
     found: &[TermSet],
 ) -> Result<Bucket, NoMemory>
     requires field { IsUse (λ u. u.sorted) mapping.now (Some field) }
@@ -738,16 +742,16 @@ fn bucket(
 }
 
 /// Of the objects those that show a value of a field.
-fn of_value(
+fn of_value<'a>(
     alloc: Global,
     entries: &[Entry],
     mapping: &Mapping,
     field: u32,
     key: &FieldValue,
     scope: u32,
-    objects: &Matches,
+    objects: &Objects<'_>,
     found: &[TermSet],
-) -> Result<Matches, NoMemory>
+) -> Result<Objects<'a>, NoMemory>
     requires field { IsUse (λ u. u.sorted) mapping.now (Some field) }
     requires key { IsValueOf (kind_at mapping.now field) key.now }
     requires long { AreLong entries.now objects.now }
@@ -756,10 +760,13 @@ fn of_value(
     ensures those { (given : List Tree → Object → Option ℕ) → IsSeen mapping.now entries.now scope given objects.now → IfOk result (AreOfValue mapping.now entries.now scope field key.now given) }
 {
     documents_show_values();
+    let kept = objects.hits(alloc)?;
+    let own = kept.as_ref();
     match key {
         FieldValue::Written(text) => {
             let kind = mapping.kind(field);
-            Ok(showing(alloc, entries, kind, field, text.as_slice(), objects, found)?)
+            let those = showing(alloc, entries, kind, field, text.as_slice(), own, found)?;
+            Ok(Objects::made(those))
         }
         FieldValue::Number(number) => {
             let query = Query::Term {
@@ -767,7 +774,8 @@ fn of_value(
                 value: FieldValue::Number(*number),
                 boost: 1,
             };
-            Ok(kept_hits(alloc, entries, mapping, &query, scope, objects)?)
+            let those = kept_hits(alloc, entries, mapping, &query, scope, own)?;
+            Ok(Objects::made(those))
         }
     }
 }

@@ -20,9 +20,9 @@ use crate::objects::count_of;
 use crate::posted::mark_term;
 use crate::ranges::terms_of_field;
 use crate::rows::{CountRow, compared, merged};
+use crate::sets::Objects;
 use crate::terms::put_terms;
 use block_bits::BitSet;
-use block_join::Matches;
 use doc_values::OrdinalColumn;
 use mapping::Kind;
 use query_eval::marked_ups;
@@ -44,7 +44,7 @@ pub(crate) fn counted_at_once(
     kind: Kind,
     field: u32,
     shown: u32,
-    objects: &Matches,
+    objects: &Objects<'_>,
     to: u32,
     ups: &mut Vec<CountRow>,
 ) -> Result<Option<Vec<CountRow>>, NoMemory>
@@ -55,7 +55,6 @@ pub(crate) fn counted_at_once(
     ensures ups { (v : Value) → IfOk result (λ counted. IsSome counted → weight v ups.new.items ≡ view_ups to kind field entries.now objects.now v) }
 {
     let documents = count_of(objects)?;
-    let objects = objects.as_slice();
     let mut counts = TermCounts {
         own: Vec::new(alloc),
         around: Vec::new(alloc),
@@ -70,7 +69,7 @@ pub(crate) fn counted_at_once(
             entries[at].segment(),
             kind,
             field,
-            objects[at].set(),
+            objects.set(at),
             to,
             places[at],
             &mut counts,

@@ -15,7 +15,7 @@ use crate::NoMemory;
 use crate::at_once::{count_of_key, counted_at_once};
 use crate::columns::is_text;
 use crate::rows::{CountRow, copied, merged, ordered, sum_of_counts};
-use block_join::Matches;
+use crate::sets::Objects;
 use mapping::Mapping;
 use query_ast::{AggForm, AggList, AggReplies, AggReply, AggValue, Bucket, BucketList};
 use query_eval::ups_are_counted;
@@ -56,7 +56,7 @@ pub(crate) fn facets(
     descending: bool,
     inner: &AggList,
     scope: u32,
-    objects: &Matches,
+    objects: &Objects<'_>,
 ) -> Result<Option<AggValue>, NoMemory>
     requires field { IsUse (λ u. u.sorted) mapping.now (Some field) }
     requires resolved { AreAggDefinitions mapping.now scope (definitions_of inner.now) }

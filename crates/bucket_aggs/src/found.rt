@@ -15,6 +15,7 @@ ghost use Rattle.tree_objects.specs.Tree.{IsLiveList, Tree};
 use crate::NoMemory;
 use crate::answers::buckets;
 use crate::objects::count_of;
+use crate::sets::Objects;
 use block_join::Matches;
 use join_ordinals::JoinOrdinals;
 use mapping::Mapping;
@@ -56,5 +57,6 @@ pub fn found_count(_view: &View, mapping: &Mapping, hits: &Matches) -> Result<u6
 {
     hits_are_objects();
     let _scopes = mapping.scope_count();
-    Ok(count_of(hits)?)
+    let objects = Objects::of(hits);
+    Ok(count_of(&objects)?)
 }

@@ -20,6 +20,7 @@ mod once;
 mod posted;
 mod ranges;
 mod rows;
+mod sets;
 mod showing;
 mod terms;
 

@@ -11,7 +11,7 @@ ghost use Rattle.bucket_aggs.specs.Sums.{IsKept};
 
 use crate::NoMemory;
 use crate::metrics::{FieldSummary, summed, value_count};
-use block_join::Matches;
+use crate::sets::Objects;
 use mapping::Mapping;
 use segment_view::Entry;
 use std::alloc::Global;
@@ -22,7 +22,7 @@ pub(crate) fn least(
     alloc: Global,
     entries: &[Entry],
     field: Option<u32>,
-    objects: &Matches,
+    objects: &Objects<'_>,
     kept: &mut Option<FieldSummary>,
 ) -> Result<Option<i64>, NoMemory>
     requires long { AreLong entries.now objects.now }
@@ -45,7 +45,7 @@ pub(crate) fn greatest(
     alloc: Global,
     entries: &[Entry],
     field: Option<u32>,
-    objects: &Matches,
+    objects: &Objects<'_>,
     kept: &mut Option<FieldSummary>,
 ) -> Result<Option<i64>, NoMemory>
     requires long { AreLong entries.now objects.now }
@@ -68,7 +68,7 @@ pub(crate) fn sum(
     alloc: Global,
     entries: &[Entry],
     field: Option<u32>,
-    objects: &Matches,
+    objects: &Objects<'_>,
     kept: &mut Option<FieldSummary>,
 ) -> Result<i64, NoMemory>
     requires long { AreLong entries.now objects.now }
@@ -92,7 +92,7 @@ pub(crate) fn count(
     entries: &[Entry],
     mapping: &Mapping,
     field: Option<u32>,
-    objects: &Matches,
+    objects: &Objects<'_>,
     kept: &mut Option<FieldSummary>,
 ) -> Result<i64, NoMemory>
     requires field { IsUse (λ u. u.sorted) mapping.now field }

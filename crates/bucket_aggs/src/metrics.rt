@@ -15,8 +15,8 @@ ghost use Rattle.bucket_aggs.specs.declared.metrics.Running.{Running};
 
 use crate::NoMemory;
 use crate::columns::{has_many, is_in, is_text, single_rows};
+use crate::sets::Objects;
 use block_bits::BitSet;
-use block_join::Matches;
 use doc_values::{Column, ColumnValue, NumberColumn, SingleRows, Values};
 use mapping::Kind;
 use segment::{Segment, values_are_of_documents};
@@ -179,7 +179,7 @@ pub(crate) fn summed(
     alloc: Global,
     entries: &[Entry],
     field: u32,
-    objects: &Matches,
+    objects: &Objects<'_>,
     kept: &mut Option<FieldSummary>,
 ) -> Result<Summary, NoMemory>
     requires long { AreLong entries.now objects.now }
@@ -202,7 +202,7 @@ fn sum_all(
     alloc: Global,
     entries: &[Entry],
     field: u32,
-    objects: &Matches,
+    objects: &Objects<'_>,
 ) -> Result<Summary, NoMemory>
     requires { AreLong entries.now objects.now }
     ensures { IfOk result (IsSummary (flat_map (numbers_in field) (flats_of_view entries.now objects.now))) }
@@ -223,15 +223,14 @@ fn own_numbers<'a>(
     alloc: Global,
     entries: &'a [Entry],
     field: u32,
-    objects: &'a Matches,
+    objects: &'a Objects<'_>,
 ) -> Result<Vec<OwnNumbers<'a>>, NoMemory>
     requires { AreLong entries.now objects.now }
     ensures { IfOk result (λ all. joined all.items ≡ flat_map (numbers_in field) (flats_of_view entries.now objects.now)) }
 {
-    let objects = objects.as_slice();
     let mut all = Vec::with_capacity(alloc, entries.len())?;
     'entries: for at in 0..entries.len() {
-        if let Some(own) = OwnNumbers::of(entries[at].segment(), field, objects[at].set()) {
+        if let Some(own) = OwnNumbers::of(entries[at].segment(), field, objects.set(at)) {
             all.push(own)?;
         }
     }
@@ -435,7 +434,7 @@ pub(crate) fn value_count(
     entries: &[Entry],
     kind: Kind,
     field: u32,
-    objects: &Matches,
+    objects: &Objects<'_>,
     kept: &mut Option<FieldSummary>,
 ) -> Result<u64, NoMemory>
     requires long { AreLong entries.now objects.now }
@@ -451,14 +450,13 @@ pub(crate) fn value_count(
 }
 
 /// How many keywords of a field all objects have.
-fn keyword_count(entries: &[Entry], field: u32, objects: &Matches) -> Result<u64, NoMemory>
+fn keyword_count(entries: &[Entry], field: u32, objects: &Objects<'_>) -> Result<u64, NoMemory>
     requires { AreLong entries.now objects.now }
     ensures { IfOk result (λ count. count ≡ sum_by (keywords_in field) (flats_of_view entries.now objects.now)) }
 {
-    let objects = objects.as_slice();
     let mut count: u64 = 0;
     'entries: for at in 0..entries.len() {
-        let own = own_count(entries[at].segment(), field, objects[at].set())?;
+        let own = own_count(entries[at].segment(), field, objects.set(at))?;
         let Some(more) = count.checked_add(own) else {
             return Err(NoMemory);
         };

@@ -20,8 +20,8 @@ use crate::distinct::distinct_values;
 use crate::posted::{TermSet, posting_counts, posting_sets};
 use crate::ranges::terms_of_field;
 use crate::rows::{CountRow, add, add_text, merged};
+use crate::sets::Objects;
 use block_bits::BitSet;
-use block_join::Matches;
 use doc_values::OrdinalColumn;
 use mapping::Kind;
 use segment::{Segment, values_are_of_documents};
@@ -37,7 +37,7 @@ pub(crate) fn counted(
     entries: &[Entry],
     kind: Kind,
     field: u32,
-    objects: &Matches,
+    objects: &Objects<'_>,
     keep: bool,
     found: &mut Vec<TermSet>,
 ) -> Result<Vec<CountRow>, NoMemory>
@@ -46,7 +46,6 @@ pub(crate) fn counted(
     ensures counts { IfOk result (λ rows. AreCounts kind field (flats_of_view entries.now objects.now) rows.items) }
     ensures found { OnOk result (AreKnown entries.now objects.now found.new.items) }
 {
-    let objects = objects.as_slice();
     let mut rows = Vec::new(alloc);
     let mut near = (0, 0);
     'entries: for at in 0..entries.len() {
@@ -55,7 +54,7 @@ pub(crate) fn counted(
             entries[at].segment(),
             kind,
             field,
-            objects[at].set(),
+            objects.set(at),
             at,
             keep,
             &mut near,

@@ -27,3 +27,4 @@ pub mod Running
 pub mod Taking
 pub mod Picking
 pub mod Narrowing
+pub mod Lent

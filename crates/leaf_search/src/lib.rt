@@ -8,6 +8,7 @@
 mod apart;
 mod conjunction;
 mod distinct;
+mod document_set;
 mod exists;
 mod ids;
 mod key;
@@ -27,6 +28,7 @@ mod shifts;
 mod terms;
 mod words;
 
+pub use document_set::DocumentSet;
 pub use leaves::leaf;
 pub use no_memory::NoMemory;
-pub use on_roots::live_documents;
+pub use on_roots::{all_documents, live_documents};

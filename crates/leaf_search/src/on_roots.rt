@@ -5,10 +5,12 @@ ghost use Rattle.mapping.specs.Mapping.{Mapping as Meaning};
 ghost use Rattle.query_ast.specs.Clause.{match_all, match_none, ids, parent_id};
 ghost use Rattle.segment.specs.Live.{IsLiveOver};
 ghost use Rattle.leaf_search.specs.Found.{Counts, Finds};
+ghost use Rattle.leaf_search.specs.Lent.{set_of};
 
 use crate::NoMemory;
+use crate::document_set::DocumentSet;
 use crate::roots::RootTest;
-use crate::scoped::{live_count, live_set};
+use crate::scoped::{lent_set, live_count, live_set};
 use crate::sets::{id_set, root_set};
 use block_bits::BitSet;
 use mapping::Bytes;
@@ -28,6 +30,24 @@ pub(crate) fn all(
 {
     values_are_of_documents(segment);
     Ok(live_set(alloc, segment, live, scope)?)
+}
+
+/// The live documents of a scope, as `leaf` finds them by `match_all`. Where all documents of the scope are live the segment
+/// lends its own set of them, and no memory is taken. `live` is of the segment.
+pub fn all_documents<'a>(
+    alloc: Global,
+    segment: &'a Segment,
+    live: &LiveBits,
+    scope: u32,
+) -> Result<DocumentSet<'a>, NoMemory>
+    requires { IsLiveOver segment.now live.now }
+    ensures { (m : Meaning) → IfOk result (λ set. Finds m segment.now live.now scope match_all (set_of set)) }
+{
+    values_are_of_documents(segment);
+    match lent_set(segment, live, scope) {
+        Some(set) => Ok(DocumentSet::Lent(set)),
+        None => Ok(DocumentSet::Made(live_set(alloc, segment, live, scope)?)),
+    }
 }
 
 /// How many live documents of a scope there are: as many as `leaf` finds by `match_all`.

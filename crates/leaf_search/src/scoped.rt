@@ -1,6 +1,6 @@
 //! Sets cut to the live documents of a scope.
 
-ghost use Rattle.std.specs.Prelude.{◌≡◌, length, replicate, count_by, true, IfOk};
+ghost use Rattle.std.specs.Prelude.{◌≡◌, length, replicate, count_by, true, IfOk, IfSome};
 ghost use Rattle.block_bits.specs.Flags.{is_marked};
 ghost use Rattle.segment.specs.Flat.{flats_of};
 ghost use Rattle.segment.specs.Live.{IsLiveOver};
@@ -46,6 +46,25 @@ pub(crate) fn live_set(
     } else {
         Ok(BitSet::empty(alloc, documents)?)
     }
+}
+
+/// The live documents of a scope, lent by the segment, where all documents of the scope are live. None where one is dead, or
+/// where the segment has no such scope.
+pub(crate) fn lent_set<'a>(segment: &'a Segment, live: &LiveBits, scope: u32) -> Option<&'a BitSet>
+    requires { IsLiveOver segment.now live.now }
+    ensures { IfSome result (λ set. set.now ≡ cut scope (replicate segment.now.documents true) live.now.docs (flats_of segment.now)) }
+{
+    scopes_are_of_documents(segment);
+    let _documents = segment.docs();
+    let scopes = segment.scopes().as_slice();
+    if scope as usize >= scopes.len() {
+        return None;
+    }
+    let own = &scopes[scope as usize];
+    if live.documents().count_both(own) < own.count() {
+        return None;
+    }
+    Some(own)
 }
 
 /// How many live documents of a scope there are, without a set of them.

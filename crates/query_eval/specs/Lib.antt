@@ -1,6 +1,7 @@
 -- To believe: what a query finds in a view, how much that is, and which roots are joined by their keys (`key_at` in `Sides`, and `Meeting`).
 pub mod Found
 pub mod Counted
+pub mod Lent
 pub mod Meeting
 -- Of these `paired_by`, `below_by`, `around_by`, `children_by` and `by_relation` are to be believed with it: what the calls
 -- beside `matches` give. The rest serves proofs alone: scores that are put together clause by clause, and the documents of

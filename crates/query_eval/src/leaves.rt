@@ -1,20 +1,22 @@
 //! Leaves over all entries of a view.
 
-ghost use Rattle.std.specs.Prelude.{◌≡◌, ◌≤◌, List, Some, length, IsSome, IfOk};
+ghost use Rattle.std.specs.Prelude.{◌≡◌, ◌≤◌, List, Some, length, map, IsSome, IfOk};
 ghost use Rattle.flattener.specs.StandsFor.{EntryStandsFor, Marked};
 ghost use Rattle.leaf_search.specs.Found.{leaf_of};
-ghost use Rattle.query_ast.specs.Clause.{Leaf};
+ghost use Rattle.mapping.specs.Mapping.{Mapping as Meaning};
+ghost use Rattle.query_ast.specs.Clause.{Leaf, leaf as leaf_clause, match_all};
 ghost use Rattle.query_ast.specs.Clause.View.{clause_of};
 ghost use Rattle.query_ast.specs.Resolved.{IsLeaf};
 ghost use Rattle.query_eval.specs.Folds.{leaf_score, whatever};
-ghost use Rattle.query_eval.specs.Found.{AreLong, IsSeen};
+ghost use Rattle.query_eval.specs.Found.{AreLong, IsFound, IsSeen};
+ghost use Rattle.query_eval.specs.Lent.{lent_scores};
 ghost use Rattle.score_math.specs.declared.score.TheConstants.{SCORE_CAP};
 ghost use Rattle.tree_joins.specs.Seen.{at_scope, seen};
 ghost use Rattle.tree_objects.specs.Tree.{Tree};
 
 use crate::NoMemory;
 use block_join::{Matches, Scored};
-use leaf_search::leaf;
+use leaf_search::{DocumentSet, all_documents, leaf};
 use mapping::Mapping;
 use query_ast::Query;
 use segment_view::Entry;
@@ -60,4 +62,22 @@ fn leaf_scores(
     let live = entry.live();
     let set = leaf(alloc, mapping, entry.segment(), live, query, scope)?;
     Ok(Scored::same(set, score))
+}
+
+/// All live objects of a scope, as `found` has them for `match_all`, each with the score 1: a set of documents for each entry.
+/// Segments lend their own sets where all documents of the scope are live.
+pub fn all_objects<'a>(
+    alloc: Global,
+    entries: &'a [Entry],
+    scope: u32,
+) -> Result<Vec<DocumentSet<'a>>, NoMemory>
+    ensures { (m : Meaning) → IfOk result (λ sets. IsFound m entries.now scope (leaf_clause match_all 1) (map lent_scores sets.items)) }
+{
+    let mut sets = Vec::with_capacity(alloc, entries.len())?;
+    'entries: for at in 0..entries.len() {
+        let entry = &entries[at];
+        let set = all_documents(alloc, entry.segment(), entry.live(), scope)?;
+        sets.push(set)?;
+    }
+    Ok(sets)
 }

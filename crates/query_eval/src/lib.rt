@@ -27,6 +27,8 @@ pub use evaluation::{found, matches};
 pub use kept::kept as kept_hits;
 pub use keyed::{KeyedRoot, KeyedRoots, children_led, parents_led};
 pub use law::{keys_join_trees, ups_are_counted};
+pub use leaf_search::DocumentSet;
+pub use leaves::all_objects;
 pub use merges::merges as merged_hits;
 pub use nests::{downs, ups};
 pub use no_memory::NoMemory;

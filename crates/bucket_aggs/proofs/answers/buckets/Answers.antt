@@ -17,7 +17,8 @@ returns-clause-replies g c = λ given is.
     let parts : List ReplyPart = map reply_part c.in_ok-replies-2.replies.items in
     let answered : AreReplies m c.entries-entries.result.now n (definitions_of c.args.aggs.now) (as_ones m given) parts =
     subst (λ (defs : List (Definition Agg)). AreReplies m c.entries-entries.result.now n (definitions_of defs) (as_ones m given) parts) c.as_slice-2.ensures
-    (c.in_ok-replies-2.ensures (as_ones m given) (c.in_ok-objects.ensures.seen given lent)) in
+    (c.in_ok-replies-2.ensures (as_ones m given)
+    (subst (IsSeen m c.entries-entries.result.now n (as_ones m given)) (sym c.of-objects-2.ensures) (c.in_ok-ones.ensures.seen given lent))) in
     answer_of_ones m c.args.view.now n (replies_by m (definitions_of c.args.aggs.now)) given c.of-2.result
     (subst (λ (all : List ReplyPart). AreReplies m c.args.view.now n (definitions_of c.args.aggs.now) (as_ones m given) all) (sym c.of-2.ensures)
     (subst (λ (view : List EntryState). AreReplies m view n (definitions_of c.args.aggs.now) (as_ones m given) parts) c.entries-entries.ensures.entries answered))
@@ -30,6 +31,6 @@ returns-then-have_one_score-clause-replies g c = λ given is.
     let parts : List ReplyPart = map reply_part c.in_ok-replies.replies.items in
     let answered : AreReplies m c.entries-entries.result.now n (definitions_of c.args.aggs.now) given parts =
     subst (λ (defs : List (Definition Agg)). AreReplies m c.entries-entries.result.now n (definitions_of defs) given parts) c.as_slice.ensures
-    (c.in_ok-replies.ensures given lent) in
+    (c.in_ok-replies.ensures given (subst (IsSeen m c.entries-entries.result.now n given) (sym c.of-objects.ensures) lent)) in
     subst (λ (all : List ReplyPart). AreReplies m c.args.view.now n (definitions_of c.args.aggs.now) given all) (sym c.of.ensures)
     (subst (λ (view : List EntryState). AreReplies m view n (definitions_of c.args.aggs.now) given parts) c.entries-entries.ensures.entries answered)

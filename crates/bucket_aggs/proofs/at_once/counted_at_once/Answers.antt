@@ -4,18 +4,18 @@ use Rattle.bucket_aggs.specs.Counts.{weight}
 use Rattle.bucket_aggs.specs.declared.rows.CountRow.{CountRow}
 use Rattle.bucket_aggs.proofs.Around.{ups_end, ups_step}
 use Rattle.bucket_aggs.proofs.Cuts.{entry_long}
-use Rattle.bucket_aggs.proofs.Viewed.{Scores, counting_end, counting_start, counting_step, flats_from, flats_step, long_view, own_flats}
+use Rattle.bucket_aggs.proofs.Viewed.{counting_end, counting_start, counting_step, flats_from, flats_step, long_view, own_flats, scores_at, there_at}
 use Rattle.bucket_aggs.proofs.at_once.counted_at_once.Goals as goal
 
-pub bounds-objects-at : goal.bounds-objects-at
-bounds-objects-at c = omega (arith, c.entries-test.true, long_view c.args.entries.now c.args.objects.now c.requires.long, ap (λ (l : List Scores). length l) c.as_slice-objects.ensures)
+pub set-requires : goal.set-requires
+set-requires c = omega (arith, c.entries-test.true, long_view c.args.entries.now c.args.objects.now c.requires.long)
 
 pub add_at_once-requires-clause-long : goal.add_at_once-requires-clause-long
 add_at_once-requires-clause-long c =
-    let s = c.index-objects-at.result in
+    let s = scores_at c.entries.at c.args.objects.now in
     ap length c.set.ensures ∙ length-map s is_some
     ∙ entry_long c.entries.at c.args.entries.now c.args.objects.now c.index-entries-at.result s c.segment.result.now c.requires.long c.entries-test.true c.index-entries-at.is
-    (c.index-objects-at.is ∙ ap (λ (l : List Scores). get_or l c.entries.at s) c.as_slice-objects.ensures) c.segment.ensures
+    (there_at c.entries.at c.args.entries.now c.args.objects.now c.requires.long c.entries-test.true) c.segment.ensures
 
 pub entries-init : goal.entries-init
 entries-init c = (
@@ -28,8 +28,8 @@ entries-preserved c =
     let view = c.args.entries.now in
     let scores = c.args.objects.now in
     let e = c.index-entries-at.result in
-    let s = c.index-objects-at.result in
-    let there : s ≡ get_or scores c.entries.at s = c.index-objects-at.is ∙ ap (λ (l : List Scores). get_or l c.entries.at s) c.as_slice-objects.ensures in
+    let s = scores_at c.entries.at c.args.objects.now in
+    let there : s ≡ get_or scores c.entries.at s = there_at c.entries.at c.args.entries.now c.args.objects.now c.requires.long c.entries-test.true in
     let step : flats_from c.entries.at view scores ≡ own_flats c.segment.result.now c.set.result.now ++ flats_from (c.entries.at + 1) view scores =
     flats_step c.entries.at view scores e s c.segment.result.now c.set.result.now c.requires.long c.entries-test.true c.index-entries-at.is
     there c.segment.ensures c.set.ensures in (

@@ -6,5 +6,5 @@ use Rattle.bucket_aggs.proofs.at_once.counted_at_once.Given as goal
 
 abbrev pub invariant-entries : goal.invariant-entries
 invariant-entries l =
-    Counting l.kind l.field l.at l.entries l.fn.objects l.rows.items
-    × ((v : FieldValue) → weight v l.ups.items + view_ups l.to l.kind l.field (drop l.at l.entries) (drop l.at l.fn.objects) v ≡ view_ups l.to l.kind l.field l.entries l.fn.objects v)
+    Counting l.kind l.field l.at l.entries l.objects l.rows.items
+    × ((v : FieldValue) → weight v l.ups.items + view_ups l.to l.kind l.field (drop l.at l.entries) (drop l.at l.objects) v ≡ view_ups l.to l.kind l.field l.entries l.objects v)

@@ -1,5 +1,7 @@
-use Rattle.std.proofs.lemmas.Bool.{false≢true}
+use Rattle.std.proofs.Common.{sym, subst}
+use Rattle.query_ast.specs.Clause.{leaf, match_all}
+use Rattle.query_eval.specs.Found.{IsFound}
 use Rattle.bucket_aggs.proofs.objects.every.Goals as goal
 
-pub found-requires-clause-joined : goal.found-requires-clause-joined
-found-requires-clause-joined c = λ is. absurd (false≢true is)
+pub returns : goal.returns
+returns c = λ m. subst (IsFound m c.args.entries.now c.args.scope (leaf match_all 1)) (sym c.of_sets.ensures) (c.in_ok-sets.ensures m)

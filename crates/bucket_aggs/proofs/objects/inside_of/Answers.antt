@@ -12,10 +12,13 @@ returns-in_ok-every-clause-inside c = λ given is.
       tree = λ tree. c.objects_are_parted.ensures.tree m tree known;
       places = λ tree i j o less low. c.objects_nest.ensures.places m tree i j o known less low;
     } in
-    inside_all m c.args.entries.now c.args.scope c.args.path given c.in_ok-every.field-0 laws c.requires.path (c.in_ok-are_all.ensures m given is c.if-branch.true) c.in_ok-every.ensures
+    inside_all m c.args.entries.now c.args.scope c.args.path given c.in_ok-every.field-0 laws c.requires.path (c.in_ok-are_all.ensures m given is c.if-branch.true) (c.in_ok-every.ensures m)
 
-pub returns-in_ok-downs-clause-inside : goal.returns-in_ok-downs-clause-inside
-returns-in_ok-downs-clause-inside c = λ given is.
+pub returns-in_ok-every-clause-long : goal.returns-in_ok-every-clause-long
+returns-in_ok-every-clause-long c = (c.in_ok-every.ensures c.args.mapping.now).long
+
+pub returns-in_ok-below-clause-inside : goal.returns-in_ok-below-clause-inside
+returns-in_ok-below-clause-inside c = λ given is.
     let m = c.args.mapping.now in
     let known = c.scope_count-scopes.ensures.is_mapping in
     let laws : Laws m = record {
@@ -24,4 +27,4 @@ returns-in_ok-downs-clause-inside c = λ given is.
       tree = λ tree. c.objects_are_parted.ensures.tree m tree known;
       places = λ tree i j o less low. c.objects_nest.ensures.places m tree i j o known less low;
     } in
-    inside_some m c.args.entries.now c.args.scope c.args.path given c.in_ok-downs.field-0 laws c.requires.path (c.in_ok-downs.ensures.seen m given c.requires.path is)
+    inside_some m c.args.entries.now c.args.scope c.args.path given c.in_ok-below.field-0 laws c.requires.path (c.in_ok-below.ensures.seen m given c.requires.path is)
