@@ -23,7 +23,7 @@ ghost use Rattle.bucket_aggs.specs.Sums.{IsKept};
 
 use crate::NoMemory;
 use crate::across::{children_across, parents_across};
-use crate::facets::facets;
+use crate::facets::{facets, lone_way_up};
 use crate::metric_answers::{count, greatest, least, sum};
 use crate::metrics::FieldSummary;
 use crate::objects::{
@@ -320,7 +320,7 @@ fn hitting(
     )?)
 }
 
-/// `nested`: the objects of a path inside them.
+/// `nested`: the objects of a path inside them. What stands inside may ask for their hits several times: they are made once then.
 #[cycle(answers)]
 fn inside(
     alloc: Global,
@@ -340,8 +340,26 @@ fn inside(
     requires long { AreLong entries.now objects.now }
     ensures { (given : List Tree → Object → Option ℕ) → IsSeen mapping.now entries.now scope given objects.now → IfOk result (λ value. IsAnswer mapping.now entries.now scope (value_by mapping.now (AggForm.Nested path) (definitions_of inner.now)) given (value_of value)) }
 {
-    let those = inside_of(alloc, entries, mapping, scope, path, objects)?;
+    let as_hits = inner.as_slice().iter().any(asks_for_hits);
+    let those = inside_of(alloc, entries, mapping, scope, path, objects, as_hits)?;
     Ok(single(alloc, entries, mapping, ordinals, inner, once, path, &those)?)
+}
+
+/// Whether a definition asks for the hits of the objects that it looks at, and not for their documents alone.
+fn asks_for_hits(def: &AggDef) -> bool {
+    match &def.form {
+        AggForm::Filter(_) | AggForm::ReverseNested(_) => true,
+        AggForm::Terms { .. } => {
+            !def.inner.as_slice().is_empty() && lone_way_up(&def.inner).is_none()
+        }
+        AggForm::Nested(_)
+        | AggForm::Children(_)
+        | AggForm::Parent(_)
+        | AggForm::Min(_)
+        | AggForm::Max(_)
+        | AggForm::Sum(_)
+        | AggForm::ValueCount(_) => false,
+    }
 }
 
 /// `reverse_nested`: the objects of a path around them, each once.

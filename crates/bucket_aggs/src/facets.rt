@@ -27,7 +27,7 @@ use view_objects::documents_show_values;
 
 /// The name and the path of the only one of some definitions, if it is a `reverse_nested` with nothing inside.
 #[tactic(auto, using(crate::proofs::Faceted::lone_way))]
-fn lone_way_up(inner: &AggList) -> Option<(&Bytes, u32)>
+pub(crate) fn lone_way_up(inner: &AggList) -> Option<(&Bytes, u32)>
     ensures { IfSome result (λ both. inner.now ≡ definition (record { name = both.0.now; form = AggForm.ReverseNested both.1 }) no_definitions ∷ []) }
 {
     match inner.as_slice() {

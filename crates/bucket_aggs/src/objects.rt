@@ -65,8 +65,31 @@ fn are_all(entries: &[Entry], scope: u32, objects: &Objects<'_>) -> Result<bool,
     Ok(count == all)
 }
 
-/// The objects of a path inside these. Inside all live objects of a scope these are all of the path: segments lend their sets.
+/// The objects of a path inside these. They are made to hits where that is asked, so that no later call makes them once more.
 pub(crate) fn inside_of<'a>(
+    alloc: Global,
+    entries: &'a [Entry],
+    mapping: &Mapping,
+    scope: u32,
+    path: u32,
+    objects: &Objects<'_>,
+    as_hits: bool,
+) -> Result<Objects<'a>, NoMemory>
+    requires path { IsAbove mapping.now scope path }
+    requires long { AreLong entries.now objects.now }
+    ensures long { IfOk result (AreLong entries.now) }
+    ensures inside { (given : List Tree → Object → Option ℕ) → IsSeen mapping.now entries.now scope given objects.now → IfOk result (AreInside mapping.now entries.now scope path given) }
+{
+    let those = lent_inside(alloc, entries, mapping, scope, path, objects)?;
+    if as_hits {
+        Ok(those.into_hits(alloc)?)
+    } else {
+        Ok(those)
+    }
+}
+
+/// The objects of a path inside these. Inside all live objects of a scope these are all of the path: segments lend their sets.
+fn lent_inside<'a>(
     alloc: Global,
     entries: &'a [Entry],
     mapping: &Mapping,

@@ -89,6 +89,17 @@ impl<'a> Objects<'a> {
         }
     }
 
+    /// The same, kept as hits: sets that are lent are copied.
+    pub(crate) fn into_hits(self, alloc: Global) -> Result<Objects<'a>, NoMemory>
+        ensures { IfOk result (λ objects. objects ≡ self.entry) }
+    {
+        match self.held {
+            Held::Found(hits) => Ok(Objects::of(hits)),
+            Held::Made(hits) => Ok(Objects::made(hits)),
+            Held::Sets(sets) => Ok(Objects::made(copied(alloc, sets.as_slice())?)),
+        }
+    }
+
     /// The same as hits: sets that are lent are copied.
     pub(crate) fn hits(&self, alloc: Global) -> Result<Hits<'_>, NoMemory>
         ensures { IfOk result (λ hits. hits_of hits ≡ self.now) }

@@ -1,6 +1,6 @@
 use Rattle.bucket_aggs.proofs.Formed.{inside_all, inside_some}
 use Rattle.bucket_aggs.proofs.Handed.{Laws}
-use Rattle.bucket_aggs.proofs.objects.inside_of.Goals as goal
+use Rattle.bucket_aggs.proofs.objects.lent_inside.Goals as goal
 
 pub returns-in_ok-every-clause-inside : goal.returns-in_ok-every-clause-inside
 returns-in_ok-every-clause-inside c = λ given is.
