@@ -325,7 +325,8 @@ fn with_single_rows(set: &BitSet, rows: &SingleRows<i64>, start: Running) -> Run
 ///
 /// What is not in the set is counted: a row that is in it then costs a few instructions less. It is a function of its own in the
 /// program too, so that its numbers stay in registers, and a row that is not in the set goes its own way, so that those that are go
-/// round in one short loop: the compiler makes that of the way on which the variable that is declared first stays as it is.
+/// round in one short loop. Which of the two ways the compiler makes that of goes by the order of the variables: with `others` second it
+/// is this one.
 #[inline(never)]
 fn with_wrapped_sum(set: &BitSet, rows: &SingleRows<i64>, start: Running) -> Running
     requires anew { IsAnew start }
@@ -333,8 +334,8 @@ fn with_wrapped_sum(set: &BitSet, rows: &SingleRows<i64>, start: Running) -> Run
     requires within { All (λ doc. doc < length set.now) (documents rows.now) }
     ensures { IsWrapped start (flat_map (λ doc. values_of doc rows.now) (marked_places 0 set.now)) result }
 {
-    let mut others: u32 = 0;
     let mut total: i64 = 0;
+    let mut others: u32 = 0;
     let mut least = start.least;
     let mut greatest = start.greatest;
     'rows: for at in 0..rows.len() {
