@@ -38,13 +38,12 @@ def spent(program, work, fields, count):
         out.writelines(lines(count))
     with open(given) as source:
         session = subprocess.Popen([program, "serve", os.path.join(work, "store")], stdin=source, stdout=subprocess.PIPE)
-        last = None
-        for last in session.stdout:
-            pass
+        replies = session.stdout.read().splitlines()
         _, status, used = os.wait4(session.pid, 0)
     session.returncode = status
-    if status or json.loads(last).get("result") != "created":
-        sys.exit("not all documents were taken: %s" % last)
+    said = [json.loads(it).get("result") for it in replies]
+    if status or said != ["mapped"] + ["created"] * count:
+        sys.exit("not all lines were taken: status %d, %d replies" % (status, len(replies)))
     return used.ru_utime + used.ru_stime
 
 
