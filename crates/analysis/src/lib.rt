@@ -8,8 +8,6 @@
 mod analyzer;
 mod law;
 mod no_memory;
-#[cfg(test)]
-mod tests;
 mod token_list;
 
 pub use analyzer::{has_short_tokens, push_words, tokens};

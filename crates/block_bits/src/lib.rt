@@ -12,8 +12,6 @@ mod laws;
 mod lists;
 mod partition;
 mod scope_bits;
-#[cfg(test)]
-mod tests;
 mod walk;
 mod words;
 

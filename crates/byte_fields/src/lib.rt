@@ -10,6 +10,3 @@ mod take;
 
 pub use put::{NoMemory, put_bytes, put_u8, put_u32, put_u64};
 pub use take::{take_bytes, take_u8, take_u32, take_u64};
-
-#[cfg(test)]
-mod tests;

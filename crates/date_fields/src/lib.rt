@@ -6,7 +6,5 @@
 #![tactic(auto)]
 
 mod date_text;
-#[cfg(test)]
-mod tests;
 
 pub use date_text::millis;

@@ -12,8 +12,6 @@ mod placing;
 mod rows;
 mod search;
 mod single;
-#[cfg(test)]
-mod tests;
 mod value;
 mod values;
 mod walk;

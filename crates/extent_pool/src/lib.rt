@@ -12,6 +12,3 @@ mod taken;
 
 pub use extent::{Extent, ExtentList, UNIT};
 pub use pool::{ExtentPool, PoolRefusal, TakeRefusal};
-
-#[cfg(test)]
-mod tests;

@@ -20,3 +20,5 @@ pub mod Weights
 pub mod Lightness
 pub mod Unshown
 pub mod Filled
+pub mod Named
+pub mod Marking

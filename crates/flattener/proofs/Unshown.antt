@@ -1,5 +1,5 @@
 -- A field that the objects of a scope don't show adds nothing to their documents.
-use Rattle.std.proofs.Common.{◌≡◌, ℕ, zero, suc, ◌<◌, ◌==◌, ◌||◌, ◌&&◌, true, false, Bool, List, [], refl, sym, ap, if◌then◌else◌, Option, arith}
+use Rattle.std.proofs.Common.{◌≡◌, ℕ, zero, suc, ◌+◌, ◌<◌, ◌≤◌, ◌==◌, ◌||◌, ◌&&◌, true, false, Bool, List, [], refl, sym, ap, if◌then◌else◌, Option, arith, length, subst}
 use Rattle.std.proofs.lemmas.Bool.Decides.{nat_tests}
 use Rattle.std.specs.List.{filter_map}
 use Rattle.std.specs.Ordering.{int_cmp}
@@ -9,10 +9,10 @@ use Rattle.segment.specs.Flat.{FlatDocument}
 use Rattle.tree_json.specs.Value.{JsonValue}
 use Rattle.tree_objects.specs.Values.{convert}
 use Rattle.tree_objects.specs.declared.field_value.FieldValue.{FieldValue}
-use Rattle.flattener.specs.Adds.{Adds}
+use Rattle.flattener.specs.Adds.{Adds, IsBegun}
 use Rattle.flattener.specs.Flat.{ascending, bytes_cmp, has_numbers, is_keyword, is_text, numbers_in, texts_in, tokens, words_of_field}
 use Rattle.flattener.specs.Walked.{kept, keywords_of, numbers_of, shown_items, texts_of, valued, words_of}
-use Rattle.flattener.proofs.Documents.{nothing_more}
+use Rattle.flattener.proofs.Documents.{begun_next, nothing_more}
 
 neither : {A : Type 0} (here knows shown : Bool) (own all : List A) → (here || shown) ≡ false → (if here then own else (if knows && shown then all else [])) ≡ []
 neither true knows shown own all none = absurd (cc (none))
@@ -57,6 +57,17 @@ nothing_adds m g f s v d e =
 
 pub unshown_adds : (m : Mapping) (g f s : ℕ) (v : JsonValue) (d : FlatDocument) → ((home_of m f == s) || included m f s) ≡ false → Adds m g s v f d d
 unshown_adds m g f s v d none = nothing_adds m g f s v d (nothing_shown m g f s v none)
+
+-- so a document has what the fields before the next one add that is shown
+pub begun_over : (m : Mapping) (g s : ℕ) (v : JsonValue) (d : FlatDocument) (at count : ℕ) → at + count ≤ length m.fields → ((f : ℕ) → at ≤ f → f < at + count → shown_items m g f s v ≡ [])
+    → IsBegun m g s v at d → IsBegun m g s v (at + count) d
+begun_over m g s v d at zero h none begun = subst (λ (n : ℕ). IsBegun m g s v n d) (omega arith) begun
+begun_over m g s v d at (suc count) h none begun =
+    let next : (at + 1) + count ≡ at + suc count = omega arith in
+    let own : shown_items m g at s v ≡ [] = none at (omega arith) (omega arith) in
+    subst (λ (n : ℕ). IsBegun m g s v n d) next
+    (begun_over m g s v d (at + 1) count (omega (arith, h)) (λ f low high. none f (omega (arith, low)) (omega (arith, high)))
+    (begun_next m g s v at d d (omega (arith, h)) begun (nothing_adds m g at s v d own)))
 
 -- ---- where a field can be included
 

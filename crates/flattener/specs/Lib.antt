@@ -8,4 +8,5 @@ pub mod Seen
 -- What serves proofs alone.
 pub mod Walked
 pub mod Adds
+pub mod Named
 pub mod Placing

@@ -1,5 +1,5 @@
 //! The document of an object, field by field.
-ghost use Rattle.std.specs.Prelude.{◌≡◌, ◌++◌, ◌<◌, ◌≤◌, ◌^◌, [], IsTrue, length, map, nat_lt, IfOk, OnOk};
+ghost use Rattle.std.specs.Prelude.{◌≡◌, ℕ, false, slice_index_or, ◌++◌, ◌<◌, ◌≤◌, ◌^◌, [], IsTrue, length, map, nat_lt, IfOk, OnOk};
 ghost use Rattle.std.specs.List.{filter_map};
 ghost use Rattle.std.specs.Ordering.{int_cmp};
 ghost use Rattle.tree_json.specs.Text.{compact};
@@ -15,11 +15,13 @@ ghost use Rattle.flattener.specs.Walked.{flat_at, kept, shown_items, valued};
 
 use crate::document::{Document, KeywordField, NumberField};
 use crate::gather::MaybeSeveral;
+use crate::marked::mark_below;
 use crate::refusal::NoMemory;
 use crate::shown::{find_shown, is_shown, shown_alone};
 use crate::texts::{has_text, push_words_of_field, tokens};
 use crate::values::{keywords, numbers};
-use mapping::{Kind, Mapping};
+use block_bits::BitSet;
+use mapping::{Kind, Mapping, names_lead_to_fields};
 use smallvec::SmallVec;
 use std::alloc::Global;
 use tree_json::Json;
@@ -37,9 +39,34 @@ pub(crate) fn begun(alloc: Global, scope: u32) -> Document
     }
 }
 
+/// A mapping with no more fields is gone over field by field for each object: to look for each name of a source takes longer.
+const FEW_FIELDS: u32 = 64;
+
 /// Fills the document of an object of a scope, which is begun, where it stands. `found` is for items.
-#[tactic(auto, using(crate::proofs::Documents::documents))]
 pub(crate) fn fill<'a>(
+    alloc: Global,
+    mapping: &Mapping,
+    generation: u32,
+    scope: u32,
+    content: &'a Json,
+    found: &mut Vec<&'a Json>,
+    into: &mut Document,
+) -> Result<(), NoMemory>
+    requires begun { document_seen into.old ≡ begun scope }
+    requires scope { scope < length mapping.now.scopes }
+    requires light { length (compact (view content.now)) ≤ most_source }
+    ensures { OnOk result (document_seen into.new ≡ flat_at mapping.now generation scope (view content.now)) }
+{
+    if mapping.field_count() > FEW_FIELDS {
+        fill_named(alloc, mapping, generation, scope, content, found, into)
+    } else {
+        fill_all(alloc, mapping, generation, scope, content, found, into)
+    }
+}
+
+/// The same, field by field.
+#[tactic(auto, using(crate::proofs::Documents::documents))]
+fn fill_all<'a>(
     alloc: Global,
     mapping: &Mapping,
     generation: u32,
@@ -60,6 +87,64 @@ pub(crate) fn fill<'a>(
             alloc, mapping, generation, scope, content, field, found, into,
         )?;
         field += 1;
+    }
+    Ok(())
+}
+
+/// The same over the fields that names of the source lead to: no other field shows anything.
+fn fill_named<'a>(
+    alloc: Global,
+    mapping: &Mapping,
+    generation: u32,
+    scope: u32,
+    content: &'a Json,
+    found: &mut Vec<&'a Json>,
+    into: &mut Document,
+) -> Result<(), NoMemory>
+    requires begun { document_seen into.old ≡ begun scope }
+    requires scope { scope < length mapping.now.scopes }
+    requires light { length (compact (view content.now)) ≤ most_source }
+    ensures { OnOk result (document_seen into.new ≡ flat_at mapping.now generation scope (view content.now)) }
+{
+    names_lead_to_fields();
+    let _scopes = mapping.scope_count();
+    let _generations = mapping.generation();
+    let mut named = BitSet::empty(alloc, mapping.field_count())?;
+    mark_below(
+        mapping,
+        generation,
+        mapping.scope_path(scope),
+        content,
+        &mut named,
+    );
+    fill_marked(
+        alloc, mapping, generation, scope, content, &named, found, into,
+    )
+}
+
+/// The same over the fields of a set, where no other shows anything.
+fn fill_marked<'a>(
+    alloc: Global,
+    mapping: &Mapping,
+    generation: u32,
+    scope: u32,
+    content: &'a Json,
+    named: &BitSet,
+    found: &mut Vec<&'a Json>,
+    into: &mut Document,
+) -> Result<(), NoMemory>
+    requires begun { document_seen into.old ≡ begun scope }
+    requires scope { scope < length mapping.now.scopes }
+    requires light { length (compact (view content.now)) ≤ most_source }
+    requires long { length named.now ≡ length mapping.now.fields }
+    requires others { (f : ℕ) → f < length mapping.now.fields → slice_index_or named.now f false ≡ false → shown_items mapping.now generation f scope (view content.now) ≡ [] }
+    ensures { OnOk result (document_seen into.new ≡ flat_at mapping.now generation scope (view content.now)) }
+{
+    let mut fields = named.walk();
+    'fields: while let Some(field) = fields.next() {
+        add_if_shown(
+            alloc, mapping, generation, scope, content, field, found, into,
+        )?;
     }
     Ok(())
 }

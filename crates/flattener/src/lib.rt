@@ -12,6 +12,7 @@ mod flatten;
 mod gather;
 mod join;
 mod law;
+mod marked;
 mod names;
 mod refusal;
 mod shown;

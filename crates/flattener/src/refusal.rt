@@ -29,6 +29,12 @@ impl From<tree_json::NoMemory> for NoMemory {
     }
 }
 
+impl From<block_bits::NoMemory> for NoMemory {
+    fn from(_: block_bits::NoMemory) -> NoMemory {
+        NoMemory
+    }
+}
+
 impl From<mapping::NoMemory> for NoMemory {
     fn from(_: mapping::NoMemory) -> NoMemory {
         NoMemory

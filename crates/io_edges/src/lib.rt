@@ -11,8 +11,6 @@ mod edges;
 mod mem_disk;
 mod mem_sink;
 mod mem_source;
-#[cfg(test)]
-mod tests;
 mod word;
 
 pub use calls::CallList;

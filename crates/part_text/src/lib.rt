@@ -9,8 +9,6 @@ mod front;
 mod no_memory;
 mod place_list;
 mod put;
-#[cfg(test)]
-mod tests;
 mod walk;
 
 pub use front::{first_i64, first_u32, first_u64};

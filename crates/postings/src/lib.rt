@@ -10,8 +10,6 @@ mod entry;
 mod search;
 mod skips;
 mod table;
-#[cfg(test)]
-mod tests;
 
 pub use cursor::Cursor;
 pub use skips::SkipLists;

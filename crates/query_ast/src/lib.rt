@@ -16,8 +16,6 @@ mod no_memory;
 mod query;
 mod search;
 mod sort;
-#[cfg(test)]
-mod tests;
 
 pub use agg::{AggDef, AggForm, AggList};
 pub use bucket::{AggReplies, AggReply, AggValue, Bucket, BucketList};

@@ -9,6 +9,3 @@ mod score;
 
 pub use integer::{clamp64, floor_mean};
 pub use score::{SCORE_CAP, ScoreMode, cap_add, combine};
-
-#[cfg(test)]
-mod tests;

@@ -6,9 +6,6 @@
 //! form of segments before mappings grew.
 #![tactic(auto)]
 
-#[cfg(test)]
-mod tests;
-
 ghost use Rattle.std.specs.Prelude.{◌≡◌, IfOk, IsErrOf};
 ghost use Rattle.segment.specs.Encoding.{IsEncoding};
 ghost use Rattle.segment.specs.Old.{IsOldEncoding};

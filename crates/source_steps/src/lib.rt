@@ -49,24 +49,3 @@ impl<L: Ledger> Steps<L> {
         self.book.add(&mut self.share, 1);
     }
 }
-
-#[cfg(test)]
-mod tests {
-    use super::*;
-    use std::marker::Brand;
-
-    fn ticked<L: Ledger>(blank: Blank) -> usize
-        requires name { L.name ≡ blank.name }
-        requires parts { L.parts ≡ blank.parts }
-        requires some { 0 < blank.parts }
-    {
-        let mut steps = Steps::<L>::start(blank);
-        steps.tick();
-        size_of_val(&steps)
-    }
-
-    #[test]
-    fn takes_no_bytes(rt: HostRuntime) {
-        assert_eq!(rt; ticked::<Brand>(Blank::new(1)), 0);
-    }
-}

@@ -11,8 +11,6 @@ mod old;
 mod placing;
 mod root;
 mod sources;
-#[cfg(test)]
-mod tests;
 mod walk;
 mod written;
 

@@ -12,8 +12,6 @@ mod order;
 mod placing;
 mod rows;
 mod table;
-#[cfg(test)]
-mod tests;
 mod walk;
 mod written;
 

@@ -3,7 +3,7 @@ use Rattle.std.proofs.lemmas.Bool.Decides.{nat_tests}
 use Rattle.tree_json.specs.View.{view}
 use Rattle.flattener.specs.Seen.{document_seen}
 use Rattle.flattener.proofs.Documents.{begun_next}
-use Rattle.flattener.proofs.fields.fill.Goals as goal
+use Rattle.flattener.proofs.fields.fill_all.Goals as goal
 
 pub fields-preserved : goal.fields-preserved
 fields-preserved c =
