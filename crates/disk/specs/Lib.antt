@@ -5,3 +5,5 @@ pub mod Memory
 pub mod Stops
 pub mod Torn
 pub mod Moments
+pub mod Record
+pub mod Choices

@@ -5,6 +5,18 @@
 //! such a disk in memory, with a record of its calls, from which a test takes each image. Begin reading at `specs/Stops.antt`.
 #![tactic(auto)]
 
+mod bytes;
+mod call_counter;
+mod choice;
 mod device;
+mod disk_call;
+mod file_bytes;
+mod mem_disk;
+mod pending;
+mod recorded_file;
 
+pub use bytes::Bytes;
+pub use choice::{Choice, PieceChoice};
 pub use device::Disk;
+pub use mem_disk::MemDisk;
+pub use pending::{Pending, PendingList};
