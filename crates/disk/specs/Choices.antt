@@ -18,7 +18,7 @@ is_sync (Write at bytes done) = false
 is_sync (Cut len done) = false
 is_sync Sync = true
 
-abbrev settled_step : Bool → ℕ → ℕ
+abbrev pub settled_step : Bool → ℕ → ℕ
 settled_step sync zero = cond sync 1 0
 settled_step sync (suc count) = suc (suc count)
 

@@ -7,3 +7,4 @@ pub mod Torn
 pub mod Moments
 pub mod Record
 pub mod Choices
+pub mod Replay

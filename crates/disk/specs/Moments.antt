@@ -9,9 +9,9 @@ passes_on first then one other = record {
   later = omega (arith, first.later, then.later);
   only = λ moment image before left.
       ⊎_elim
-        (λ was. ⊎_elim (λ it. inl it) (λ is. inr (one image is)) (first.only moment image before was))
-        (λ is. inr (other image is))
-        (then.only moment image (omega (arith, before, first.later)) left);
+      (λ was. ⊎_elim (λ it. inl it) (λ is. inr (one image is)) (first.only moment image before was))
+      (λ is. inr (other image is))
+      (then.only moment image (omega (arith, before, first.later)) left);
 }
 
 -- the same, where less is asked

@@ -1,5 +1,5 @@
 -- The record of a disk in memory: the calls on it in order, and what they make of its content and of its images.
-use Rattle.std.specs.Prelude.{◌≡◌, ℕ, ◌+◌, ◌==◌, ◌<◌, ◌≤◌, min, cond, Bool, true, false, IsTrue, ◌⊎◌, List, [], ◌∷◌, ◌++◌, length, take, Option, None, Some, Result, OnOk, OnErr}
+use Rattle.std.specs.Prelude.{◌≡◌, ℕ, ◌+◌, ◌==◌, ◌≤◌, min, cond, Bool, true, false, IsTrue, ◌⊎◌, List, [], ◌∷◌, ◌++◌, length, take, Option, None, Some, Result, OnOk, OnErr}
 use Rattle.io_edges.specs.Calls.{is_listed, one_more}
 use Rattle.io_edges.specs.Faults.{greatest_count}
 use Rattle.disk.specs.Memory.{written}

@@ -49,7 +49,7 @@ torn_keeps_before at n place [] old new torn apart stands = refl
 torn_keeps_before at n place (byte ∷ bytes) old new torn apart stands =
     let inside : place + length (byte ∷ bytes) ≤ length old = bytes_inside place (byte ∷ bytes) old (omega arith) stands in
     same_before place (length (byte ∷ bytes)) (place + length (byte ∷ bytes)) old new (omega arith)
-        (torn_front at n (place + length (byte ∷ bytes)) old new torn apart inside)
+    (torn_front at n (place + length (byte ∷ bytes)) old new torn apart inside)
     ∙ stands
 
 -- bytes that stand behind the range stand on
@@ -92,12 +92,14 @@ written_is at (byte ∷ bytes) file some =
 
 pub length-written : (at : ℕ) (bytes file : List ℕ) → 0 < length bytes → length (written at bytes file) ≡ max (length file) (at + length bytes)
 length-written at bytes file some =
-    omega (arith,
+    omega (
+      arith,
       ap length (written_is at bytes file some),
       length-append (lengthened at file) (bytes ++ drop (at + length bytes) file),
       length-lengthened at file,
       length-append bytes (drop (at + length bytes) file),
-      length-drop (at + length bytes) file)
+      length-drop (at + length bytes) file,
+    )
 
 -- the bytes that were written stand there
 pub stands_written : (at : ℕ) (bytes file : List ℕ) → take (length bytes) (drop at (written at bytes file)) ≡ bytes
@@ -105,14 +107,14 @@ stands_written at [] file = refl
 stands_written at (byte ∷ bytes) file =
     ap (λ (it : List ℕ). take (length (byte ∷ bytes)) (drop at it)) (written_is at (byte ∷ bytes) file (omega arith))
     ∙ ap (take (length (byte ∷ bytes)))
-        (drop_at (lengthened at file) ((byte ∷ bytes) ++ drop (at + length (byte ∷ bytes)) file) at (length-lengthened at file))
+    (drop_at (lengthened at file) ((byte ∷ bytes) ++ drop (at + length (byte ∷ bytes)) file) at (length-lengthened at file))
     ∙ take_at (byte ∷ bytes) (drop (at + length (byte ∷ bytes)) file) (length (byte ∷ bytes)) refl
 
 back_of_written : (at : ℕ) (bytes file : List ℕ) → 0 < length bytes → drop (at + length bytes) (written at bytes file) ≡ drop (at + length bytes) file
 back_of_written at bytes file some =
     let front : length (lengthened at file ++ bytes) ≡ at + length bytes = omega (arith, length-append (lengthened at file) bytes, length-lengthened at file) in
     ap (drop (at + length bytes))
-      (written_is at bytes file some ∙ sym (append_assoc (lengthened at file) bytes (drop (at + length bytes) file)))
+    (written_is at bytes file some ∙ sym (append_assoc (lengthened at file) bytes (drop (at + length bytes) file)))
     ∙ drop_at (lengthened at file ++ bytes) (drop (at + length bytes) file) (at + length bytes) front
 
 -- what a done write leaves is one of the things that a torn one may leave
@@ -123,7 +125,7 @@ torn_written at (byte ∷ bytes) file =
     record {
       before =
           take_at (take at file) (replicate (at - length file) 0 ++ ((byte ∷ bytes) ++ drop (at + length (byte ∷ bytes)) file))
-            (min at (length file)) (length-take at file);
+          (min at (length file)) (length-take at file);
       after = back_of_written at (byte ∷ bytes) file (omega arith);
       no_shorter = omega (arith, long);
       no_longer = omega (arith, long);
@@ -142,9 +144,9 @@ written_same at (byte ∷ bytes) file stands =
     let none : at - length file ≡ 0 = omega arith in
     ap (λ (gap : ℕ). take at file ++ (replicate gap 0 ++ ((byte ∷ bytes) ++ drop (at + length (byte ∷ bytes)) file))) none
     ∙ ap (λ (it : List ℕ). take at file ++ it)
-        (ap (λ (it : List ℕ). it ++ drop (at + length (byte ∷ bytes)) file) (sym stands)
-        ∙ ap (λ (it : List ℕ). take (length (byte ∷ bytes)) (drop at file) ++ it) (sym (drop-drop (length (byte ∷ bytes)) at file))
-        ∙ take-append-drop (length (byte ∷ bytes)) (drop at file))
+    (ap (λ (it : List ℕ). it ++ drop (at + length (byte ∷ bytes)) file) (sym stands)
+    ∙ ap (λ (it : List ℕ). take (length (byte ∷ bytes)) (drop at file) ++ it) (sym (drop-drop (length (byte ∷ bytes)) at file))
+    ∙ take-append-drop (length (byte ∷ bytes)) (drop at file))
     ∙ take-append-drop at file
 
 -- where the range of a torn write came to hold the bytes that were to be written, the write is done
@@ -156,9 +158,9 @@ torn_done at (byte ∷ bytes) old new some torn inside stands =
     sym (take-append-drop at new)
     ∙ ap (λ (it : List ℕ). it ++ drop at new) (torn_front at (length (byte ∷ bytes)) at old new torn (omega arith) inside)
     ∙ ap (λ (it : List ℕ). take at old ++ it)
-        (sym (take-append-drop (length (byte ∷ bytes)) (drop at new))
-        ∙ ap (λ (it : List ℕ). it ++ drop (length (byte ∷ bytes)) (drop at new)) stands
-        ∙ ap (λ (it : List ℕ). (byte ∷ bytes) ++ it) (drop-drop (length (byte ∷ bytes)) at new ∙ torn.after))
+    (sym (take-append-drop (length (byte ∷ bytes)) (drop at new))
+    ∙ ap (λ (it : List ℕ). it ++ drop (length (byte ∷ bytes)) (drop at new)) stands
+    ∙ ap (λ (it : List ℕ). (byte ∷ bytes) ++ it) (drop-drop (length (byte ∷ bytes)) at new ∙ torn.after))
     ∙ ap (λ (gap : ℕ). take at old ++ (replicate gap 0 ++ ((byte ∷ bytes) ++ drop (at + length (byte ∷ bytes)) old))) (sym none)
 
 -- a torn byte that reads as this one is the file with this one put there
@@ -166,7 +168,7 @@ pub torn_byte : (at byte : ℕ) (old new : List ℕ) → Torn at 1 old new → a
     → new ≡ written at (byte ∷ []) old
 torn_byte at byte old new torn inside reads =
     torn_done at (byte ∷ []) old new (omega arith) torn (omega arith)
-      (ap (take 1) (drop_more new at 0 (omega (arith, torn.no_shorter))) ∙ ap (λ (it : ℕ). it ∷ []) reads)
+    (ap (take 1) (drop_more new at 0 (omega (arith, torn.no_shorter))) ∙ ap (λ (it : ℕ). it ∷ []) reads)
 
 -- ---- a cut
 

@@ -1,7 +1,7 @@
 //! Which of the things that a stop may leave one is to see.
 
 ghost use Rattle.std.specs.Prelude.{◌≡◌, IfOk, OnOk};
-ghost use Rattle.disk.specs.Choices.{fits, fits_one, write_chosen, chosen_step, choices_behind};
+ghost use Rattle.disk.specs.Choices.{fits, fits_one, chosen, write_chosen, chosen_step, choices_behind};
 
 use crate::bytes::Bytes;
 use crate::disk_call::DiskCall;
@@ -86,8 +86,23 @@ impl Choice {
     }
 }
 
+// Does to the file what is chosen of each call. NoMemory: the file is some other one.
+pub(crate) fn choose_all(
+    choices: &[Choice],
+    calls: &[DiskCall],
+    file: &mut Vec<u8>,
+) -> Result<(), NoMemory>
+    ensures { OnOk result (file.new.items ≡ chosen choices.now calls.now file.old.items) }
+{
+    let mut behind = choices;
+    'calls: for call in calls {
+        behind = choose(behind, call, file)?;
+    }
+    Ok(())
+}
+
 // Does to the file what is chosen of a call, and answers the choices for the calls behind it.
-pub(crate) fn choose<'a>(
+fn choose<'a>(
     choices: &'a [Choice],
     call: &DiskCall,
     file: &mut Vec<u8>,

@@ -1,13 +1,14 @@
 //! What a disk in memory keeps of a call.
 
-ghost use Rattle.std.specs.Prelude.{◌≡◌, OnOk, OnErr};
-ghost use Rattle.disk.specs.Record.{content_step};
-ghost use Rattle.disk.specs.Choices.{pending_at};
+ghost use Rattle.std.specs.Prelude.{◌≡◌, ◌<◌, ◌≤◌, length, IfOk, OnOk, OnErr};
+ghost use Rattle.disk.specs.Record.{content_step, content_after};
+ghost use Rattle.disk.specs.Choices.{is_sync, settled, unsettled, pending_at, pending_of};
 
 use crate::bytes::Bytes;
 use crate::file_bytes::put;
 use crate::pending::Pending;
 use io_edges::NoMemory;
+use std::alloc::Global;
 
 /// A call on a disk, as its record keeps it.
 #[derive(Drop)]
@@ -45,8 +46,15 @@ impl DiskCall {
         }
     }
 
+    // Whether it is a sync that succeeded.
+    fn is_sync(&self) -> bool
+        ensures { result ≡ is_sync self.now }
+    {
+        matches!(self, DiskCall::Sync)
+    }
+
     /// What the call leaves pending.
-    pub(crate) fn pending(&self) -> Option<Pending>
+    fn pending(&self) -> Option<Pending>
         ensures { result ≡ pending_at self.now }
     {
         match self {
@@ -58,4 +66,50 @@ impl DiskCall {
             DiskCall::Look | DiskCall::Sync => None,
         }
     }
+}
+
+// Does the calls to the file. NoMemory: the file is some other one.
+pub(crate) fn replay(calls: &[DiskCall], file: &mut Vec<u8>) -> Result<(), NoMemory>
+    ensures { OnOk result (file.new.items ≡ content_after calls.now file.old.items) }
+{
+    'calls: for call in calls {
+        call.apply(file)?;
+    }
+    Ok(())
+}
+
+// How many calls there are up to the last sync that succeeded.
+pub(crate) fn settled(calls: &[DiskCall]) -> usize
+    ensures count { result ≡ settled calls.now }
+    ensures within { result ≤ length calls.now }
+{
+    let mut count = 0;
+    'calls: for (index, call) in calls.iter().enumerate() {
+        if call.is_sync() {
+            count = index + 1;
+        }
+    }
+    count
+}
+
+// The calls behind the last sync before this one, and this one.
+pub(crate) fn unsettled(calls: &[DiskCall], call: usize) -> &[DiskCall]
+    requires { call < length calls.now }
+    ensures { result.now ≡ unsettled calls.now call }
+{
+    let settled = settled(calls.split_at(call).0);
+    calls.split_at(call + 1).0.split_at(settled).1
+}
+
+// What is pending after these calls, where nothing was before them.
+pub(crate) fn pending_of(alloc: Global, calls: &[DiskCall]) -> Result<Vec<Pending>, NoMemory>
+    ensures { IfOk result (λ pending. pending.items ≡ pending_of calls.now) }
+{
+    let mut pending = Vec::new(alloc);
+    'calls: for call in calls {
+        if let Some(it) = call.pending() {
+            pending.push(it)?;
+        }
+    }
+    Ok(pending)
 }

@@ -1,6 +1,6 @@
 //! A file in memory with the record of the calls on it.
 
-ghost use Rattle.std.specs.Prelude.{◌≡◌, ◌≤◌, ◌<◌, ◌-◌, ◌^◌, [], true, length, min, take, drop, IfOk, OnOk, OnErr};
+ghost use Rattle.std.specs.Prelude.{◌≡◌, ◌≤◌, ◌<◌, ◌-◌, ◌^◌, [], true, cond, length, min, take, drop, IfOk, OnOk, OnErr};
 ghost use Rattle.disk.specs.Record.{content_of, with_call};
 ghost use Rattle.disk.specs.declared.disk_call.DiskCall.TheVariants.{Look, Write, Cut, Sync};
 
@@ -69,6 +69,7 @@ impl RecordedFile {
     pub(crate) fn look(&mut self) -> Result<(), NoMemory>
         ensures ok { OnOk result (self.new ≡ with_call Look self.old) }
         ensures err { OnErr result (self.new ≡ self.old) }
+        ensures few { OnOk result (length self.new.calls < 2 ^ 64) }
     {
         self.enter(DiskCall::Look)
     }
@@ -77,6 +78,7 @@ impl RecordedFile {
     pub(crate) fn write(&mut self, at: u64, bytes: &[u8], done: bool) -> Result<(), NoMemory>
         ensures ok { OnOk result (self.new ≡ with_call (Write at bytes.now done) self.old) }
         ensures err { OnErr result (self.new ≡ self.old) }
+        ensures few { OnOk result (length self.new.calls < 2 ^ 64) }
     {
         let copy = Vec::from_slice(self.alloc, bytes)?;
         self.enter(DiskCall::Write {
@@ -90,16 +92,18 @@ impl RecordedFile {
     pub(crate) fn cut(&mut self, len: u64, done: bool) -> Result<(), NoMemory>
         ensures ok { OnOk result (self.new ≡ with_call (Cut len done) self.old) }
         ensures err { OnErr result (self.new ≡ self.old) }
+        ensures few { OnOk result (length self.new.calls < 2 ^ 64) }
     {
         self.enter(DiskCall::Cut { len, done })
     }
 
-    /// Enters a sync that succeeded.
-    pub(crate) fn sync(&mut self) -> Result<(), NoMemory>
-        ensures ok { OnOk result (self.new ≡ with_call Sync self.old) }
+    /// Enters a sync; one that is to fail only looked.
+    pub(crate) fn sync(&mut self, done: bool) -> Result<(), NoMemory>
+        ensures ok { OnOk result (self.new ≡ with_call (cond done Sync Look) self.old) }
         ensures err { OnErr result (self.new ≡ self.old) }
+        ensures few { OnOk result (length self.new.calls < 2 ^ 64) }
     {
-        self.enter(DiskCall::Sync)
+        self.enter(if done { DiskCall::Sync } else { DiskCall::Look })
     }
 
     /// The calls, in order.
@@ -117,9 +121,11 @@ impl RecordedFile {
     }
 
     // Does a call to the file and enters it.
+    #[tactic(auto, using(crate::specs::Replay::content_push))]
     fn enter(&mut self, call: DiskCall) -> Result<(), NoMemory>
         ensures ok { OnOk result (self.new ≡ with_call call self.old) }
         ensures err { OnErr result (self.new ≡ self.old) }
+        ensures few { OnOk result (length self.new.calls < 2 ^ 64) }
     {
         self.calls.reserve(1)?;
         call.apply(&mut self.bytes)?;
