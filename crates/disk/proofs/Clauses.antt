@@ -1,14 +1,12 @@
 -- Each clause of the trait, from what one call makes of a disk in memory.
-use Rattle.std.proofs.Common.{◌≡◌, ℕ, ◌+◌, ◌-◌, ◌==◌, min, cond, ◌⊎◌, Bool, true, false, List, length, take, drop, Option, Some, Result, Ok, Err, refl, sym, ◌∙◌, ap, subst, inl, inr, ⊎_elim, arith}
+use Rattle.std.proofs.Common.{◌≡◌, ℕ, ◌-◌, ◌==◌, min, ◌⊎◌, Bool, true, false, List, length, take, drop, Option, Some, Result, Ok, Err, refl, sym, ◌∙◌, ap, subst, inl, inr, ⊎_elim, arith}
 use Rattle.std.specs.Prelude.{OnOk, OnErr}
-use Rattle.std.proofs.lemmas.List.{length_push}
 use Rattle.std.proofs.lemmas.Bool.{false≢true}
 use Rattle.io_edges.specs.Calls.{one_more}
-use Rattle.io_edges.specs.Faults.{HasCause, Rose, greatest_count}
 use Rattle.disk.specs.Memory.{written}
-use Rattle.disk.specs.Stops.{IsTold, LenOf, FrontOf, Stays, TakesAll, CutsAll, Torn, Cut as MayCut, Follows, Allows, Within, Only, Passes, Lasts}
-use Rattle.disk.specs.Record.{FileRecord, DiskState, Turns, with_call, content_step, image_step, content_of, ImageOf, ImageSince, is_telling, told_by, content_told, ImageTold, SinceTold, moment_of, faults_of, after_call, after_no_room, is_next_listed}
-use Rattle.disk.specs.Replay.{content_push, images_push, images_pushed, content_image, since_push, since_more}
+use Rattle.disk.specs.Stops.{IsTold, LenOf, FrontOf, Stays, TakesAll, CutsAll, Torn, Cut as MayCut, Follows, Allows, Within, Only}
+use Rattle.disk.specs.Record.{FileRecord, DiskState, Turns, with_call, content_step, image_step, content_of, ImageOf, is_telling, told_by, content_told, ImageTold, after_call, after_no_room}
+use Rattle.disk.specs.Replay.{content_push, images_push, images_pushed, content_image}
 use Rattle.disk.specs.declared.disk_call.DiskCall.{DiskCall}
 use Rattle.disk.specs.declared.disk_call.DiskCall.TheVariants.{Look, Write, Cut, Sync}
 
@@ -37,12 +35,6 @@ failed_turn : {T E : Type 0} (done failed : DiskCall) (old new : DiskState) (why
     → Entered failed old new ⊎ Lost old new
 failed_turn done failed old new why turn =
     ⊎_elim (λ it. inl (entered failed old new it.1)) (λ it. inr (lost old new it)) turn.err
-
--- a fact that holds whatever call was entered, and where the disk is silent
-any_turn : {T E : Type 0} (P : Type 0) (done failed : DiskCall) (old new : DiskState) (result : Result T E)
-    → ((call : DiskCall) → Entered call old new → P) → (Lost old new → P) → Turns done failed old new result → P
-any_turn P done failed old new (Ok value) one other turn = one done (entered done old new turn.ok.1)
-any_turn P done failed old new (Err why) one other turn = ⊎_elim (one failed) other (failed_turn done failed old new why turn)
 
 -- a call that is entered the same whether it failed or not
 same_turn : {T E : Type 0} (call : DiskCall) (old new : DiskState) (result : Result T E) → Turns call call old new result
@@ -75,14 +67,6 @@ content_entered call old new it =
     ap (λ (n : ℕ). told_by (n == 0) (content_of new.file)) it.room
     ∙ ap (λ (file : FileRecord). told_by (is_telling old) (content_of file)) it.file
     ∙ ap (told_by (is_telling old)) (content_push old.file.calls call old.file.first)
-
-pub turn_told : {T E : Type 0} (done failed : DiskCall) (old new : DiskState) (result : Result T E) → Turns done failed old new result
-    → IsTold (content_told new) → IsTold (content_told old)
-turn_told done failed old new result turn told =
-    any_turn (IsTold (content_told old)) done failed old new result
-    (λ call it. is_told (is_telling old) (content_of old.file) (telling_before call old new it (told_is (is_telling new) (content_of new.file) told)))
-    (λ it. silent_tells old new it told)
-    turn
 
 -- ---- images
 
@@ -255,74 +239,7 @@ pub front_told : (disk : DiskState) (at n : ℕ) (into : List ℕ) → n ≡ min
     → take n into ≡ take n (drop at (content_of disk.file)) → FrontOf (content_told disk) at n into
 front_told disk at n into most bytes = front_by (is_telling disk) (content_of disk.file) at n into most bytes
 
--- the same call, seen with another value
-pub turn_ok : {T U E : Type 0} (done failed : DiskCall) (old new : DiskState) (value : T) (other : U)
-    → Turns {E = E} done failed old new (Ok value) → Turns {E = E} done failed old new (Ok other)
-turn_ok done failed old new value other turn = record { ok = turn.ok; err = tt }
-
-pub turn_err : {T U E : Type 0} (done failed : DiskCall) (old new : DiskState) (why : E)
-    → Turns {T = T} done failed old new (Err why) → Turns {T = U} done failed old new (Err why)
-turn_err done failed old new why turn = record { ok = tt; err = turn.err }
-
 pub content_looked : {T E : Type 0} (old new : DiskState) (value : T) → Turns {E = E} Look Look old new (Ok value)
     → content_of new.file ≡ content_of old.file
 content_looked old new value turn =
     ap (λ (it : DiskState). content_of it.file) turn.ok.1 ∙ content_push old.file.calls Look old.file.first
-
--- ---- time and faults
-
-pub turn_time : {T E : Type 0} (done failed : DiskCall) (old new : DiskState) (result : Result T E) → Turns done failed old new result
-    → Passes (moment_of old) (moment_of new) (SinceTold old) (SinceTold new) (ImageTold new)
-turn_time done failed old new result turn =
-    any_turn (Passes (moment_of old) (moment_of new) (SinceTold old) (SinceTold new) (ImageTold new)) done failed old new result
-    (λ call it. record {
-      later = omega (arith, ap (λ (file : FileRecord). length file.calls) it.file, length_push old.file.calls call);
-      only = λ moment image before left.
-          ⊎_elim
-          (λ (was : ImageSince old.file moment image). inl (telling_before call old new it left.0, was))
-          (λ (is : ImageOf (with_call call old.file) image). inr (left.0, subst (λ (file : FileRecord). ImageOf file image) (sym it.file) is))
-          (since_push call old.file moment image (subst (λ (file : FileRecord). ImageSince file moment image) it.file left.1));
-    })
-    (λ it. record {
-      later = omega (arith, ap (λ (file : FileRecord). length file.calls) it.file);
-      only = λ moment image before left. absurd (false≢true (sym it.silent ∙ left.0));
-    })
-    turn
-
-pub turn_lasts : {T E : Type 0} (done failed : DiskCall) (old new : DiskState) (result : Result T E) → Turns done failed old new result
-    → IsTold (content_told new) → Lasts (moment_of old) (SinceTold old) (SinceTold new)
-turn_lasts done failed old new result turn told moment image before was =
-    any_turn (SinceTold new moment image) done failed old new result
-    (λ call it. (
-      told_is (is_telling new) (content_of new.file) told,
-      subst (λ (file : FileRecord). ImageSince file moment image) (sym it.file) (since_more call old.file moment image was.1),
-    ))
-    (λ it. silent_tells old new it told)
-    turn
-
-faults_rise : (listed : Bool) (failed room : ℕ) → Rose (min (failed + room) greatest_count) (min (cond listed (one_more failed) failed + one_more room) greatest_count)
-faults_rise true failed room = grind arith
-faults_rise false failed room = grind arith
-
-listed_faults_rise : (failed room : ℕ) → Rose (min (failed + room) greatest_count) (min (one_more failed + room) greatest_count)
-listed_faults_rise failed room = grind arith
-
-pub turn_cause : {T E : Type 0} (done failed : DiskCall) (old new : DiskState) (result : Result T E) → Turns done failed old new result
-    → HasCause (faults_of old) (faults_of new) result
-turn_cause done failed old new (Ok value) turn = (
-  ap faults_of turn.ok.1
-      ∙ ap (λ (listed : Bool). min (cond listed (one_more old.count.failed) old.count.failed + old.no_room) greatest_count) turn.ok.0,
-  tt,
-)
-turn_cause done failed old new (Err why) turn = (
-  tt,
-  ⊎_elim
-      (λ it.
-      subst (Rose (faults_of old))
-      (sym (ap faults_of it.1
-      ∙ ap (λ (listed : Bool). min (cond listed (one_more old.count.failed) old.count.failed + old.no_room) greatest_count) it.0))
-      (listed_faults_rise old.count.failed old.no_room))
-      (λ it.
-      subst (Rose (faults_of old)) (sym (ap faults_of it)) (faults_rise (is_next_listed old) old.count.failed old.no_room))
-      turn.err,
-)

@@ -1,5 +1,5 @@
 -- Laws of the record of a disk in memory: what one call more makes of it. They serve proofs.
-use Rattle.std.proofs.Common.{◌≡◌, ℕ, ◌<◌, ◌≤◌, ◌⊎◌, Bool, true, false, List, [], ◌∷◌, ◌++◌, length, take, Some, refl, sym, subst, inl, inr, ⊎_elim, arith}
+use Rattle.std.proofs.Common.{◌≡◌, ℕ, ◌<◌, ◌≤◌, ◌⊎◌, Bool, true, false, List, [], ◌∷◌, ◌++◌, length, take, None, Some, refl, sym, subst, inl, inr, ⊎_elim, arith}
 use Rattle.std.proofs.lemmas.List.{take_all, take-append-le, length_push}
 use Rattle.std.proofs.lemmas.Bool.{cases_lt}
 use Rattle.disk.specs.Torn.{torn_same, torn_written, cut_same, cut_done}
@@ -106,3 +106,7 @@ counts_now disk since bytes before is = (is.0, now_since disk.file since bytes b
 
 pub only_now : (disk : DiskState) (bytes : List ℕ) → SinceTold disk (moment_of disk) bytes → ImageTold disk bytes
 only_now disk bytes since = (since.0, since_now disk.file bytes since.1)
+
+-- a disk that tells nothing doesn't tell these bytes
+pub untold : {P : Type 0} (bytes : List ℕ) → None ≡ Some bytes → P
+untold bytes told = cc

@@ -14,6 +14,7 @@ mod file_bytes;
 mod mem_disk;
 mod pending;
 mod recorded_file;
+mod untold;
 
 pub use bytes::Bytes;
 pub use choice::{Choice, PieceChoice};
