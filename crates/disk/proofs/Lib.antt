@@ -1,0 +1,4 @@
+pub mod Chosen
+pub mod Clauses
+pub mod Settled
+pub mod Written
