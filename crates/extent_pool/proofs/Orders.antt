@@ -6,7 +6,7 @@ use Rattle.extent_pool.specs.declared.extent.TheConstants.{UNIT}
 use Rattle.extent_pool.specs.declared.extent.Extent.{Extent}
 use Rattle.extent_pool.specs.Extents.{keeps}
 use Rattle.extent_pool.specs.Holes.{is_free, holes_of, first_fit}
-use Rattle.extent_pool.specs.Placing.{NamedExtent, Room, fit, with_taken, in_front_of, placed, room_with, room_behind, room_for, better, if_before, moved_to, moved}
+use Rattle.extent_pool.specs.Placing.{NamedExtent, fit, with_taken, in_front_of, placed, room_with, room_behind, room_for, better, if_before, moved_to, moved}
 use Rattle.extent_pool.proofs.Units.{same_runs}
 
 pub same_holes : (limit : ℕ) (ones others : List Extent) → IsPermutation ones others → holes_of limit ones ≡ holes_of limit others

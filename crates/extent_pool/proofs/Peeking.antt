@@ -1,6 +1,6 @@
 -- Looking for room: the place of the first hole that has some.
 use Rattle.std.proofs.Common.{◌≡◌, ℕ, List, Some, None, get_or, refl, ap}
-use Rattle.std.specs.List.{find, position}
+use Rattle.std.specs.List.{position}
 use Rattle.std.specs.Option.{option_map}
 use Rattle.extent_pool.specs.declared.extent.Extent.{Extent}
 use Rattle.extent_pool.specs.Extents.{rounded}
