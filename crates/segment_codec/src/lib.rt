@@ -3,14 +3,15 @@
 //! A segment is its bytes, so the codec copies them out and takes them in (Lucene's codecs, package
 //! `org.apache.lucene.codecs`). The crate stands on `segment`. What others use is that `decode` gives a segment exactly where
 //! the bytes are an encoding, that `encode` gives that encoding, each segment having one, and that `decode_old` reads the
-//! form of segments before mappings grew.
+//! form of segments before mappings grew, whose bytes tell besides how many scopes their mapping had.
 #![tactic(auto)]
 
-ghost use Rattle.std.specs.Prelude.{◌≡◌, IfOk, IsErrOf};
+ghost use Rattle.std.specs.Prelude.{◌≡◌, ◌↔◌, ◌+◌, ◌<◌, length, Some, IfOk, IsErrOf, IsNone};
 ghost use Rattle.segment.specs.Encoding.{IsEncoding};
 ghost use Rattle.segment.specs.Old.{IsOldEncoding};
 ghost use Rattle.segment_parts.specs.declared.columns.Columns.{Columns};
 
+use part_text::first_u32;
 use segment::{Bytes, Segment, SegmentRefusal, renewed};
 use std::alloc::Global;
 
@@ -73,4 +74,17 @@ pub fn decode_old(alloc: Global, bytes: Bytes) -> Result<Segment, CodecRefusal>
         return Err(CodecRefusal::NotASegment);
     };
     decode(alloc, new)
+}
+
+/// How many scopes bytes in the form before mappings grew have, those without documents included: as many as their mapping
+/// had. None exactly where they end before that number. Takes no memory.
+pub fn old_scope_count(bytes: &[u8]) -> Option<u32>
+    ensures scopes { (columns : Columns) (old : IsOldEncoding columns bytes.now) → result ≡ Some (length columns.scopes + old.more) }
+    ensures none { IsNone result ↔ length bytes.now < 12 }
+{
+    if bytes.len() < 12 {
+        return None;
+    }
+    // behind the four first bytes and the number of documents
+    Some(first_u32(bytes.split_at(8).1))
 }
