@@ -8,3 +8,5 @@ mod Places
 mod Members
 mod Sorting
 mod Kept
+mod Orders
+mod Peeking

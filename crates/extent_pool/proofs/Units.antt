@@ -14,7 +14,7 @@ free_before [] from end byte laid h = refl
 free_before (e ∷ es) from end byte laid h = grind (arith, free_before es (end_of e) end byte laid.3)
 
 -- Units at which two tests agree have the same runs.
-same_runs : (f g : ℕ → Bool) (unit count : ℕ) → ((i : ℕ) → unit ≤ i → f i ≡ g i) → runs f unit count ≡ runs g unit count
+pub same_runs : (f g : ℕ → Bool) (unit count : ℕ) → ((i : ℕ) → unit ≤ i → f i ≡ g i) → runs f unit count ≡ runs g unit count
 same_runs f g unit zero h = refl
 same_runs f g unit (suc count) h = grind (arith, h unit, same_runs f g (unit + 1) count (λ i l. h i (omega arith)))
 

@@ -7,8 +7,10 @@
 
 mod extent;
 mod holes;
+mod law;
 mod pool;
 mod taken;
 
 pub use extent::{Extent, ExtentList, UNIT};
+pub use law::order_makes_no_difference;
 pub use pool::{ExtentPool, PoolRefusal, TakeRefusal};

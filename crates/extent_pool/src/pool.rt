@@ -2,7 +2,9 @@
 ghost use Rattle.std.specs.Prelude.{◌≡◌, ℕ, ◌+◌, ◌%◌, ◌≤◌, ◌<◌, ◌^◌, ◌∷◌, ◌↔◌, length, All, Any, Contains, IfOk, OnOk, OnErr, IsErrOf, Some, None, vec_len, vec_capacity};
 ghost use Rattle.std.specs.List.Sorted.{IsPermutation};
 ghost use Rattle.extent_pool.specs.Extents.{end_of, room_of, AreDisjoint, AreInOrder};
+ghost use Rattle.std.specs.Option.{option_map};
 ghost use Rattle.extent_pool.specs.Holes.{holes_of, first_fit};
+ghost use Rattle.extent_pool.specs.Placing.{fit};
 
 use crate::extent::{Extent, ExtentList, UNIT};
 use crate::holes::{add_gaps, first_with_room, release, shorten};
@@ -134,6 +136,19 @@ impl ExtentPool {
         shorten(&mut self.holes, place, len.next_multiple_of(UNIT));
         add_extent(&mut self.taken, extent);
         Ok(extent)
+    }
+
+    /// The place that `take` would give to this length: None exactly where it would be refused as full. It takes nothing,
+    /// and no memory.
+    pub fn peek(&self, len: u64) -> Option<u64>
+        requires { 1 ≤ len }
+        ensures { result ≡ option_map (λ e. e.at) (fit self.now.limit self.now.taken len) }
+    {
+        let holes = self.holes().as_slice();
+        match first_with_room(holes, len) {
+            Some(place) => Some(holes[place].at),
+            None => None,
+        }
     }
 
     /// Makes the units of a taken extent free again. It takes no memory.
