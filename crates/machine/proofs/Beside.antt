@@ -1,6 +1,6 @@
 -- What is asked for elsewhere than of the layout and of the store is answered alike wherever trees stand and whatever is stored,
 -- and what is asked of these leaves all else as it was.
-use Rattle.std.proofs.Common.{◌≡◌, ◌≢◌, ◌⊎◌, inl, inr, ℕ, Bool, true, false, not, cond, nat_le, List, [], ◌∷◌, length, filter, Option, Some, None, refl, sym, ap, subst, ◌∙◌}
+use Rattle.std.proofs.Common.{◌≡◌, ◌≢◌, ◌⊎◌, inl, inr, ℕ, Bool, true, false, not, cond, nat_le, List, [], ◌∷◌, length, Option, Some, None, refl, sym, ap, subst, ◌∙◌}
 use Rattle.std.proofs.lemmas.Bool.{true≢false}
 use Rattle.layout.specs.Layout.{Layout, sealed}
 use Rattle.mapping.specs.Mapping.{Mapping}
@@ -18,7 +18,7 @@ use Rattle.tree_json.specs.Value.{JsonValue}
 use Rattle.tree_objects.specs.Tree.{Tree, without}
 use Rattle.machine.specs.Answer.{Answer, refuses, answers, stores, Need, nothing, closing, writing, Outcome, outcome_of, first_of, refused_if, unless, when, with_mapping}
 use Rattle.machine.specs.Beside.{AgreeBeside, Asking, Exchange, MayExchange, shows_layout, is_of_layout, asks_so, is_beside, exchanges_beside, replies_to, those_beside}
-use Rattle.machine.specs.May.{AreSizesFor, AsOrSealed, DiskFailed, MayAnswer, MayEnd, MayLeave, Stepped, WantsMemory, tried_state}
+use Rattle.machine.specs.May.{AreSizesFor, AsOrSealed, MayAnswer, MayEnd, MayLeave, Stepped, WantsMemory, tried_state}
 use Rattle.machine.specs.MappingLine.{first_refusals, first_done, growing_refusals, growing_done, mapping_by, mapping_step}
 use Rattle.machine.specs.Merging.{LayoutAnswer, declined, relaid, answer_of, automerge_step, merge_step, merged_by, segments_step}
 use Rattle.machine.specs.declared.merge_command.MergeCommand.{MergeCommand}
@@ -288,7 +288,7 @@ CommitTells (Some m) next reply = FullOrNext next reply
 mapped_tells : (before : State) (limits : Limits) (sizes : List ℕ) (m : Option Mapping) (state : State)
     → CommitTells m state.content.next (outcome_of before (with_mapping m (λ own. commit_step limits sizes own state))).reply
 mapped_tells before limits sizes None state = refl
-mapped_tells before limits sizes (Some m) state = commit_by (TellsSo state.content.next) before limits sizes m state (inl refl) (inl refl) (λ room. inr refl)
+mapped_tells before limits sizes (Some m) state = commit_by (TellsSo state.content.next) before limits sizes m state (inl refl) (inl refl) (λ room found. inr refl)
 
 step_tells : (limits : Limits) (sizes : List ℕ) (state : State) → CommitTells state.content.mapping state.content.next (step limits sizes state (asks commit)).reply
 unfolding step

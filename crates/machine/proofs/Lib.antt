@@ -4,6 +4,7 @@ pub mod Merged
 pub mod Steps
 pub mod Laid
 pub mod Storing
+pub mod Named
 pub mod Numbered
 pub mod Pointed
 pub mod Beside

@@ -9,7 +9,7 @@ use Rattle.request_form.specs.Command.{open_pit, close_pit}
 use Rattle.tree_objects.specs.Tree.{Tree}
 use Rattle.machine.specs.Beside.{AreGiven, asks_so, is_of_points}
 use Rattle.machine.specs.May.{MayAnswer}
-use Rattle.machine.specs.Points.{is_other_point, with_point, without_point, with_points}
+use Rattle.machine.specs.Points.{is_other_point, with_point, with_points}
 use Rattle.machine.specs.Searching.{has_point_id, searched}
 use Rattle.machine.specs.State.{PointInTime, PointsInTime, State}
 use Rattle.machine.specs.declared.limits.Limits.{Limits}

@@ -1,5 +1,5 @@
 -- What stays true of the states of the machine, whatever is asked for and however it is answered.
-use Rattle.std.proofs.Common.{◌≡◌, ◌⊎◌, inl, inr, ◌==◌, ℕ, Bool, true, false, not, cond, nat_le, List, [], ◌∷◌, length, Option, Some, None, refl, sym, subst}
+use Rattle.std.proofs.Common.{◌≡◌, inl, inr, ◌==◌, ℕ, Bool, true, false, not, cond, nat_le, List, [], ◌∷◌, length, Option, Some, None, refl, sym, subst}
 use Rattle.std.proofs.lemmas.Bool.{true≢false}
 use Rattle.layout.specs.Layout.{Layout, live_items}
 use Rattle.layout.specs.Merges.{with_factor}
@@ -19,7 +19,7 @@ use Rattle.query_parser.specs.Search.{search_of}
 use Rattle.search_walk.specs.Refusal.{first_refusal}
 use Rattle.machine.specs.Answer.{Answer, refuses, answers, stores, Need, nothing, closing, writing, Outcome, outcome_of, first_of, refused_if, unless, when, with_mapping}
 use Rattle.machine.specs.Beside.{is_of_layout}
-use Rattle.machine.specs.May.{AsOrSealed, DiskFailed, MayAnswer, MayEnd, MayLeave, Stepped, WantsMemory, tried_state}
+use Rattle.machine.specs.May.{AsOrSealed, MayAnswer, MayEnd, MayLeave, tried_state}
 use Rattle.machine.specs.declared.limits.Limits.{Limits}
 use Rattle.machine.specs.Merging.{LayoutAnswer, declined, relaid, with_layout, merged_by, answer_of, merge_step, automerge_step, segments_step}
 use Rattle.machine.specs.declared.merge_command.MergeCommand.{MergeCommand}

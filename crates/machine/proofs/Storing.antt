@@ -11,7 +11,7 @@ use Rattle.layout.specs.Layout.{Layout, sealed}
 use Rattle.mapping.specs.Mapping.{Mapping}
 use Rattle.reply_text.specs.declared.refusal.Refusal.TheVariants.{NoMapping, StoreFull}
 use Rattle.reply_text.specs.declared.reply.Reply.{Reply}
-use Rattle.reply_text.specs.declared.reply.Reply.TheVariants.{Committed, Compacted, Refused, Trimmed}
+use Rattle.reply_text.specs.declared.reply.Reply.TheVariants.{Committed, Refused, Trimmed}
 use Rattle.request_form.specs.Asked.{Asked, refused, asks}
 use Rattle.request_form.specs.Command.{map_body, write, search, refresh, segments, open_pit, close_pit, force_merge, start_merge, advance_merge, finish_merge, abort_merge, commit, compact, trim, automerge}
 use Rattle.tree_objects.specs.Tree.{Tree}
@@ -34,13 +34,13 @@ either_by P before true one other first second = first
 either_by P before false one other first second = second
 
 room_by : (P : Outcome → Type 0) (before state : State) (room : Option Room) (command : Room → Answer) → P (record { need = closing; reply = Refused StoreFull; state = state })
-    → ((own : Room) → P (outcome_of before (command own))) → P (outcome_of before (if_room room command state))
+    → ((own : Room) → room ≡ Some own → P (outcome_of before (command own))) → P (outcome_of before (if_room room command state))
 room_by P before state None command full done = full
-room_by P before state (Some room) command full done = done room
+room_by P before state (Some room) command full done = done room refl
 
 -- a commit has no generation left, or no room, or is done
 pub commit_by : (P : Outcome → Type 0) (before : State) (limits : Limits) (sizes : List ℕ) (m : Mapping) (state : State) → P (record { need = nothing; reply = Refused StoreFull; state = state })
-    → P (record { need = closing; reply = Refused StoreFull; state = state }) → ((room : Room) → P (outcome_of before (commit_done room [] (Committed state.content.next) state)))
+    → P (record { need = closing; reply = Refused StoreFull; state = state }) → ((room : Room) → room_in limits sizes m state ≡ Some room → P (outcome_of before (commit_done room [] (Committed state.content.next) state)))
     → P (outcome_of before (commit_step limits sizes m state))
 unfolding commit_step
 commit_by P before limits sizes m state last full done =
@@ -48,8 +48,8 @@ commit_by P before limits sizes m state last full done =
     either_by P before (state.kept.generation == last_generation) (answers (Refused StoreFull) state) (if_room (room_in limits sizes m state) command state) last
     (room_by P before state (room_in limits sizes m state) command full done)
 
-compact_by : (P : Outcome → Type 0) (before : State) (limits : Limits) (sizes : List ℕ) (most : ℕ) (m : Mapping) (state : State) → P (record { need = nothing; reply = Refused StoreFull; state = state })
-    → P (record { need = closing; reply = Refused StoreFull; state = state }) → ((room : Room) → P (outcome_of before (compact_done limits most state room)))
+pub compact_by : (P : Outcome → Type 0) (before : State) (limits : Limits) (sizes : List ℕ) (most : ℕ) (m : Mapping) (state : State) → P (record { need = nothing; reply = Refused StoreFull; state = state })
+    → P (record { need = closing; reply = Refused StoreFull; state = state }) → ((room : Room) → room_in limits sizes m state ≡ Some room → P (outcome_of before (compact_done limits most state room)))
     → P (outcome_of before (compact_step limits sizes most m state))
 unfolding compact_step
 compact_by P before limits sizes most m state last full done =
@@ -70,10 +70,10 @@ pub stored_sealed : (limits : Limits) (sizes : List ℕ) (state : State) (asked 
 unfolding step trim_step
 stored_sealed limits sizes state (asks commit) m is mapping =
     under_mapping (Lays (sealed state.layout)) state m (λ own. commit_step limits sizes own (sealed_state state)) mapping
-    (commit_by (Lays (sealed state.layout)) state limits sizes m (sealed_state state) refl refl (λ room. refl))
+    (commit_by (Lays (sealed state.layout)) state limits sizes m (sealed_state state) refl refl (λ room found. refl))
 stored_sealed limits sizes state (asks (compact most)) m is mapping =
     under_mapping (Lays (sealed state.layout)) state m (λ own. compact_step limits sizes most own (sealed_state state)) mapping
-    (compact_by (Lays (sealed state.layout)) state limits sizes most m (sealed_state state) refl refl (λ room. refl))
+    (compact_by (Lays (sealed state.layout)) state limits sizes most m (sealed_state state) refl refl (λ room found. refl))
 stored_sealed limits sizes state (asks trim) m is mapping =
     under_mapping (Lays (sealed state.layout)) state m (λ own. trim_step own (sealed_state state)) mapping refl
 stored_sealed limits sizes state (refused why) m is mapping = absurd (true≢false (sym is))
@@ -90,37 +90,6 @@ stored_sealed limits sizes state (asks (advance_merge id roots)) m is mapping = 
 stored_sealed limits sizes state (asks (finish_merge id)) m is mapping = absurd (true≢false (sym is))
 stored_sealed limits sizes state (asks (abort_merge id)) m is mapping = absurd (true≢false (sym is))
 stored_sealed limits sizes state (asks (automerge factor)) m is mapping = absurd (true≢false (sym is))
-
--- ---- generations
-
-abbrev is_acknowledged : Reply → Bool
-is_acknowledged (Committed next) = true
-is_acknowledged (Compacted count next) = true
-is_acknowledged reply = false
-
--- where it is acknowledged, the generation is the next one
-abbrev Raises : State → Outcome → Type 0
-Raises before outcome = is_acknowledged outcome.reply ≡ true → outcome.state.kept.generation ≡ before.kept.generation + 1
-
-commit_raises : (limits : Limits) (sizes : List ℕ) (state : State) → Raises state (step limits sizes state (asks commit))
-unfolding step
-commit_raises limits sizes state =
-    mapped_by (Raises state) state state.content.mapping (λ m. commit_step limits sizes m (sealed_state state)) (λ is. absurd (true≢false (sym is)))
-    (λ m. commit_by (Raises state) state limits sizes m (sealed_state state) (λ is. absurd (true≢false (sym is))) (λ is. absurd (true≢false (sym is))) (λ room is. refl))
-
-compact_raises : (limits : Limits) (sizes : List ℕ) (most : ℕ) (state : State) → Raises state (step limits sizes state (asks (compact most)))
-unfolding step
-compact_raises limits sizes most state =
-    mapped_by (Raises state) state state.content.mapping (λ m. compact_step limits sizes most m (sealed_state state)) (λ is. absurd (true≢false (sym is)))
-    (λ m. compact_by (Raises state) state limits sizes most m (sealed_state state) (λ is. absurd (true≢false (sym is))) (λ is. absurd (true≢false (sym is))) (λ room is. refl))
-
-pub commit_counts : (limits : Limits) (sizes : List ℕ) (state : State) (next : ℕ) → (step limits sizes state (asks commit)).reply ≡ Committed next
-    → (step limits sizes state (asks commit)).state.kept.generation ≡ state.kept.generation + 1
-commit_counts limits sizes state next told = commit_raises limits sizes state (ap is_acknowledged told)
-
-pub compact_counts : (limits : Limits) (sizes : List ℕ) (most : ℕ) (state : State) (count next : ℕ) → (step limits sizes state (asks (compact most))).reply ≡ Compacted count next
-    → (step limits sizes state (asks (compact most))).state.kept.generation ≡ state.kept.generation + 1
-compact_counts limits sizes most state count next told = compact_raises limits sizes most state (ap is_acknowledged told)
 
 -- ---- moves
 

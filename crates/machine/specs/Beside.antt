@@ -5,7 +5,6 @@ use Rattle.std.specs.List.{AllByRecursion}
 use Rattle.reply_text.specs.declared.reply.Reply.{Reply}
 use Rattle.request_form.specs.Asked.{Asked, refused, asks}
 use Rattle.request_form.specs.Command.{Action, map_body, write, search, refresh, segments, open_pit, close_pit, force_merge, start_merge, advance_merge, finish_merge, abort_merge, commit, compact, trim, automerge}
-use Rattle.machine.specs.Answer.{Outcome}
 use Rattle.machine.specs.May.{MayAnswer}
 use Rattle.machine.specs.State.{PointInTime, PointsInTime, State}
 use Rattle.machine.specs.Step.{step}

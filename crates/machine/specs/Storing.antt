@@ -7,7 +7,7 @@ use Rattle.std.specs.List.{AllZip, Contains, flat_map, list_any}
 use Rattle.extent_pool.specs.Placing.{NamedExtent, Room, room_for, last_ones, moved}
 use Rattle.extent_pool.specs.declared.extent.Extent.{Extent}
 use Rattle.flattener.specs.Block.{flats_of_tree, root_of_tree}
-use Rattle.layout.specs.Layout.{Marked, SegmentOf, dead_count, item_in}
+use Rattle.layout.specs.Layout.{Marked, SegmentOf, dead_count, sealed}
 use Rattle.mapping.specs.Mapping.{Mapping}
 use Rattle.reply_text.specs.declared.refusal.Refusal.TheVariants.{StoreFull}
 use Rattle.reply_text.specs.declared.reply.Reply.{Reply}
@@ -20,7 +20,7 @@ use Rattle.tree_json.specs.Text.{compact}
 use Rattle.tree_json.specs.Value.{JsonValue}
 use Rattle.tree_objects.specs.Tree.{Tree}
 use Rattle.machine.specs.Answer.{Answer, answers, stores, closing, writing}
-use Rattle.machine.specs.State.{Kept, State}
+use Rattle.machine.specs.State.{Kept, State, sealed_state}
 use Rattle.machine.specs.declared.limits.Limits.{Limits}
 
 -- ---- how long the texts are
@@ -126,6 +126,12 @@ kept_by room moves state = record {
 
 abbrev pub with_kept : Kept → State → State
 with_kept kept state = record state { kept = kept }
+
+-- a commit was acknowledged: its generation is the next one, and it names each segment of the sealed layout, in order
+pub record IsKept (before after : State) : Type 0 where
+  pub layout : after.layout ≡ sealed before.layout
+  pub generation : after.kept.generation ≡ before.kept.generation + 1
+  pub names : map (λ (it : NamedExtent). it.id) after.kept.segments ≡ segment_ids (sealed_state before)
 
 -- ---- the commands
 

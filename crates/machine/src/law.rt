@@ -16,7 +16,7 @@ ghost use Rattle.machine.specs.declared.merge_command.MergeCommand.{MergeCommand
 ghost use Rattle.machine.specs.Searching.{searched};
 ghost use Rattle.machine.specs.State.{State, IsLaid, IsNumbered};
 ghost use Rattle.machine.specs.Step.{is_of_store, step};
-ghost use Rattle.machine.specs.Storing.{MovesDown, moves_in, placed_segments};
+ghost use Rattle.machine.specs.Storing.{IsKept, MovesDown, moves_in, placed_segments};
 ghost use Rattle.mapping.specs.Mapping.{Mapping};
 ghost use Rattle.reply_text.specs.declared.refusal.Refusal.TheVariants.{StoreFull};
 ghost use Rattle.reply_text.specs.declared.reply.Reply.{Reply};
@@ -92,10 +92,8 @@ pub fn the_store_alone_needs_the_disk()
 pub fn commits_keep_what_they_name()
     ensures sealed { (limits : Limits) (sizes : List ℕ) (state : State) (asked : Asked) (m : Mapping) → asks_so is_of_store asked ≡ true → state.content.mapping ≡ Some m
         → (step limits sizes state asked).state.layout ≡ sealed state.layout }
-    ensures committed { (limits : Limits) (sizes : List ℕ) (state : State) (next : ℕ) → (step limits sizes state (asks commit)).reply ≡ Committed next
-        → (step limits sizes state (asks commit)).state.kept.generation ≡ state.kept.generation + 1 }
-    ensures compacted { (limits : Limits) (sizes : List ℕ) (most : ℕ) (state : State) (count next : ℕ) → (step limits sizes state (asks (compact most))).reply ≡ Compacted count next
-        → (step limits sizes state (asks (compact most))).state.kept.generation ≡ state.kept.generation + 1 }
+    ensures committed { (limits : Limits) (before : State) (next : ℕ) (after : State) → MayAnswer limits before (asks commit) (Committed next) after → IsKept before after }
+    ensures compacted { (limits : Limits) (before : State) (most count next : ℕ) (after : State) → MayAnswer limits before (asks (compact most)) (Compacted count next) after → IsKept before after }
     ensures moves { (limits : Limits) (most : ℕ) (room : Room) (state : State) → AllByRecursion (MovesDown (placed_segments state)) (moves_in limits most room state) }
     ensures trimmed { (limits : Limits) (sizes : List ℕ) (state : State) (bytes : ℕ) → (step limits sizes state (asks trim)).reply ≡ Trimmed bytes
         → (2048 ≤ bytes) × AllByRecursion (λ (extent : Extent). extent.at + extent.len ≤ bytes) state.kept.taken }
