@@ -231,6 +231,32 @@ store_row : outcomes_of found_old ((116 ∷ [], commit) ∷ ([], compact 1) ∷ 
 unfolding commit_step compact_step trim_step holes_of sealed quoted escape_byte
 store_row = refl
 
+abbrev two_named : ℕ → Extent → Extent → Extent → Kept
+two_named generation own first last = record {
+  segments = record { id = 4; extent = first } ∷ record { id = 7; extent = last } ∷ [];
+  taken = own ∷ first ∷ last ∷ [];
+  generation = generation;
+}
+
+-- two segments, of which the second has a dead tree, which its row in the record names
+abbrev two_kept : State
+two_kept = record empty_state {
+  content = record { mapping = Some keyword_mapping; live = tree_at (codes "1") 0 ∷ tree_at (codes "2") 2 ∷ []; next = 3 };
+  layout = record empty_layout {
+    segments = record { id = 4; items = alive (tree_at (codes "1") 0) ∷ [] }
+        ∷ record { id = 7; items = record { item = tree_at (codes "2") 1; live = false } ∷ alive (tree_at (codes "2") 2) ∷ [] } ∷ [];
+    made = 8;
+  };
+  kept = two_named 5 (at_place 2432 108) (at_place 2304 116) (at_place 2560 116);
+}
+
+-- by one move it is the segment that stands last which moves, into the room that the record leaves; what was named stays taken
+move_row : outcomes_of two_kept (([], compact 1) ∷ ([], compact 2) ∷ [])
+    ≡ (record { reply = reply.Compacted 1 3; need = writing; kept = two_named 6 (at_place 2048 108) (at_place 2304 116) (at_place 2176 116) }
+    ∷ record { reply = reply.Compacted 0 3; need = writing; kept = two_named 7 (at_place 2432 108) (at_place 2304 116) (at_place 2176 116) } ∷ [])
+unfolding compact_step holes_of sealed quoted escape_byte
+move_row = refl
+
 -- a store without room, and one whose generations are used up
 full_row : outcomes_of (record found_old { kept = record { segments = []; taken = at_place 2048 6144 ∷ []; generation = 1 } }) ((116 ∷ [], commit) ∷ [])
     ≡ record { reply = reply.Refused why.StoreFull; need = closing; kept = record { segments = []; taken = at_place 2048 6144 ∷ []; generation = 1 } } ∷ []
