@@ -90,7 +90,7 @@ pub lacking : (mapping : Option Mapping) (index : IndexState) (state : State) (o
 lacking mapping index state outcome out f = record {
   reply = reply.OutOfMemory;
   after = state;
-  may = inr (record { reply_is = refl; state_is = inl refl });
+  may = inr (inl (record { reply_is = refl; state_is = inl refl }));
   faithful = f;
   points = refl;
   told = refl;
@@ -101,7 +101,7 @@ pub lacking_sealed : (m : Mapping) (index : IndexState) (state : State) (outcome
 lacking_sealed m index state outcome out f = record {
   reply = reply.OutOfMemory;
   after = sealed_state state;
-  may = inr (record { reply_is = refl; state_is = inr refl });
+  may = inr (inl (record { reply_is = refl; state_is = inr refl }));
   faithful = f;
   points = refl;
   told = refl;

@@ -1,18 +1,20 @@
 -- What is asked for: commands where there is no mapping, what becomes of the points in time, and the answer to a request.
-use Rattle.std.proofs.Common.{◌≡◌, ◌≤◌, ◌+◌, ℕ, List, Option, Some, None, Result, refl, sym, subst, inl, inr, ◌∙◌}
+use Rattle.std.proofs.Common.{◌≡◌, ◌≤◌, ◌+◌, ℕ, List, [], Option, Some, None, Result, refl, sym, subst, inl, inr, ◌∙◌}
 use Rattle.std.proofs.lemmas.List.Elements.{All-nil, All-weaker}
 use Rattle.flattener.specs.Fits.{EntryFits, ViewFits}
 use Rattle.index_core.specs.Kept.{IndexState}
 use Rattle.line_reader.specs.Request.{Request}
 use Rattle.machine.specs.Answer.{Answer, Outcome, mapped, outcome_of, refuses, sealing, with_mapping}
+use Rattle.machine.specs.May.{AreSizesFor}
 use Rattle.machine.specs.State.{PointInTime, PointsInTime, State}
 use Rattle.machine.specs.State as machine
-use Rattle.machine.specs.Step.{asked_step, step}
+use Rattle.machine.specs.Step.{asked_for, asked_step, built, step}
 use Rattle.mapping.specs.Mapping.{Mapping}
 use Rattle.point_in_time.specs.Points.{KeptPoint, KeptPoints, no_points}
 use Rattle.reply_text.specs.declared.refusal.Refusal.{Refusal}
 use Rattle.reply_text.specs.declared.refusal.Refusal.TheVariants.{NoMapping}
-use Rattle.request_form.specs.Asked.{asked_of}
+use Rattle.request_form.specs.Asked.{Asked, refused, asks, asked_of}
+use Rattle.request_form.specs.Command as ask
 use Rattle.segment.specs.Live.{EntryState}
 use Rattle.engine.specs.Answers.{Answers, AnswersTo}
 use Rattle.engine.specs.Faithful.{AreFaithful, IsFaithful, PointStandsFor, PointsStand, PointsStandFor}
@@ -151,13 +153,34 @@ write_answer same kept before index state m m' command answered out is after gro
 
 -- ---- the answer to a request
 
+-- no bytes are counted
+no_sizes : (asked : Asked) (state : State) → AreSizesFor (built asked) state []
+no_sizes (refused why) state = tt
+no_sizes (asks (ask.map_body body)) state = tt
+no_sizes (asks (ask.write it)) state = tt
+no_sizes (asks (ask.search body)) state = tt
+no_sizes (asks ask.refresh) state = tt
+no_sizes (asks ask.segments) state = tt
+no_sizes (asks ask.open_pit) state = tt
+no_sizes (asks (ask.close_pit id)) state = tt
+no_sizes (asks (ask.force_merge most)) state = tt
+no_sizes (asks (ask.start_merge from count)) state = tt
+no_sizes (asks (ask.advance_merge id roots)) state = tt
+no_sizes (asks (ask.finish_merge id)) state = tt
+no_sizes (asks (ask.abort_merge id)) state = tt
+no_sizes (asks ask.commit) state = tt
+no_sizes (asks (ask.compact most)) state = tt
+no_sizes (asks ask.trim) state = tt
+no_sizes (asks (ask.automerge factor)) state = tt
+
 pub answers_to : (own before after : EngineState) (state : State) (request : Request) (answered : Answered) (out : List ℕ) (reads reads' : ℕ) → own ≡ before → IsFaithful before state
-    → (IsFaithful own state → Answers state (outcome_of state (asked_step own.limits (asked_of request.first request.source) state)) answered out after)
+    → (IsFaithful own state → Answers state (outcome_of state (asked_step own.limits [] (asked_for request) state)) answered out after)
     → (IsFaithful own state → reads' ≤ reads + reads_asked state (asked_of request.first request.source)) → AnswersTo before.limits state request answered out reads reads' after
 unfolding step
 answers_to own before after state request answered out reads reads' same f answers few =
     let f' = subst (λ (it : EngineState). IsFaithful it state) (sym same) f in
-    subst (λ (it : EngineState). AnswersTo it.limits state request answered out reads reads' after) same (record { answers = answers f'; few = few f' })
+    subst (λ (it : EngineState). AnswersTo it.limits state request answered out reads reads' after) same
+    (record { sizes = []; answers = answers f'; are = inr (no_sizes (asked_of request.first request.source) state); few = few f' })
 
 -- where there was no memory, nothing of what stands in the buffer is taken
 pub cleared : (state : State) (outcome : Outcome) (out out' : List ℕ) (kept : EngineState) → Answers state outcome NoMemory out kept → Answers state outcome NoMemory out' kept

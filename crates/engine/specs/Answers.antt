@@ -1,10 +1,10 @@
 -- How an engine answers a request.
-use Rattle.std.specs.Prelude.{◌≡◌, ◌+◌, ◌≤◌, ℕ, List}
+use Rattle.std.specs.Prelude.{◌≡◌, ◌⊎◌, ◌+◌, ◌≤◌, ℕ, List}
 use Rattle.line_reader.specs.Request.{Request}
 use Rattle.machine.specs.Answer.{Outcome}
-use Rattle.machine.specs.May.{MayEnd}
+use Rattle.machine.specs.May.{AreSizesFor, MayEnd}
 use Rattle.machine.specs.State.{State}
-use Rattle.machine.specs.Step.{step}
+use Rattle.machine.specs.Step.{asked_for, step}
 use Rattle.machine.specs.declared.limits.Limits.{Limits}
 use Rattle.reply_text.specs.Text.{reply_text}
 use Rattle.reply_text.specs.declared.reply.Reply.{Reply}
@@ -54,9 +54,12 @@ pub record Answers (before : State) (outcome : Outcome) (answered : Answered) (o
   pub told : answered ≡ answered_by reply
   pub text : reply_bytes answered out ≡ reply_text reply
 
--- The request is answered as the machine may, and no more sources are read than the request may read.
+-- The request is answered as the machine may, and no more sources are read than the request may read. Where it was answered,
+-- the segments that are written take the bytes that the machine counts.
 pub record AnswersTo (limits : Limits) (before : State) (request : Request) (answered : Answered) (out : List ℕ) (reads reads' : ℕ) (engine : EngineState) : Type 0 where
-  pub answers : Answers before (step limits before request) answered out engine
+  pub sizes : List ℕ
+  pub answers : Answers before (step limits sizes before (asked_for request)) answered out engine
+  pub are : (answers.reply ≡ reply.OutOfMemory) ⊎ AreSizesFor (asked_for request) before sizes
   pub few : reads' ≤ reads + most_reads before request
 
 -- what holds where a request wasn't done

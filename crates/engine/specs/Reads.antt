@@ -8,7 +8,7 @@ use Rattle.query_ast.specs.Search.{hit_page}
 use Rattle.query_ast.specs.declared.search.SearchBody.{SearchBody}
 use Rattle.query_parser.specs.Search.{search_of}
 use Rattle.request_form.specs.Asked.{Asked, refused, asks, asked_of}
-use Rattle.request_form.specs.Command.{Operation, index, create, update, delete, Action, map_body, write, search, refresh, segments, open_pit, close_pit, force_merge, start_merge, advance_merge, finish_merge, abort_merge, commit, automerge}
+use Rattle.request_form.specs.Command.{Operation, index, create, update, delete, Action, map_body, write, search, refresh, segments, open_pit, close_pit, force_merge, start_merge, advance_merge, finish_merge, abort_merge, commit, compact, trim, automerge}
 use Rattle.search_page.specs.Searched.{page_reads}
 use Rattle.tree_json.specs.Value.{JsonValue}
 use Rattle.tree_objects.specs.Tree.{Tree}
@@ -43,6 +43,8 @@ reads_by state (advance_merge id roots) = 0
 reads_by state (finish_merge id) = 0
 reads_by state (abort_merge id) = 0
 reads_by state commit = 0
+reads_by state (compact most) = 0
+reads_by state trim = 0
 reads_by state (automerge factor) = 0
 
 abbrev pub reads_asked : State → Asked → ℕ

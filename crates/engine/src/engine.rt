@@ -8,9 +8,9 @@ ghost use Rattle.machine.specs.Merging.{merge_step};
 ghost use Rattle.machine.specs.State.{State};
 ghost use Rattle.point_in_time.specs.Points.{no_points};
 ghost use Rattle.line_reader.specs.View.{first_line_of, source_line_of};
-ghost use Rattle.machine.specs.Step.{action_step, asked_step, refusal_formed};
+ghost use Rattle.machine.specs.Step.{action_step, asked_step, built, refusal_formed};
 ghost use Rattle.reply_text.specs.declared.refusal.Refusal.TheVariants.{NoMapping as no_mapping};
-ghost use Rattle.request_form.specs.Asked.{asked_of};
+ghost use Rattle.request_form.specs.Asked.{asked_of, asks};
 ghost use Rattle.request_form.specs.Command.{automerge as merges_by, close_pit as closes, map_body as maps, open_pit as opens, refresh as refreshes, search as searches, segments as shows_segments, write as writes};
 ghost use Rattle.request_form.specs.Formed.{IsFactor, IsFormed};
 ghost use Rattle.request_form.specs.Seen.{action_view, operation_view, write_view};
@@ -176,7 +176,7 @@ impl Engine {
         requires counted { IsCounted self.old }
         requires empty { out.old.bytes ≡ [] }
         ensures answers { (state : State) → IsFaithful self.old state
-            → Answers state (outcome_of state (asked_step self.old.limits (asked_of (first_line_of first.entry) (source_line_of second.entry)) state)) (answered_of result) out.new.bytes self.new }
+            → Answers state (outcome_of state (asked_step self.old.limits [] (built (asked_of (first_line_of first.entry) (source_line_of second.entry))) state)) (answered_of result) out.new.bytes self.new }
         ensures few { (state : State) → IsFaithful self.old state → steps.new ≤ steps.old + reads_asked state (asked_of (first_line_of first.entry) (source_line_of second.entry)) }
         ensures stays { IfNotDone (answered_of result) (StaysOrSeals self.old self.new) }
         ensures limits { self.new.limits ≡ self.old.limits }
@@ -205,7 +205,7 @@ impl Engine {
         requires counted { IsCounted self.old }
         requires empty { out.old.bytes ≡ [] }
         ensures answers { (state : State) → IsFaithful self.old state
-            → Answers state (outcome_of state (action_step self.old.limits (action_view action) state)) (answered_of result) out.new.bytes self.new }
+            → Answers state (outcome_of state (asked_step self.old.limits [] (built (asks (action_view action))) state)) (answered_of result) out.new.bytes self.new }
         ensures few { (state : State) → IsFaithful self.old state → steps.new ≤ steps.old + reads_by state (action_view action) }
         ensures stays { IfNotDone (answered_of result) (StaysOrSeals self.old self.new) }
         ensures limits { self.new.limits ≡ self.old.limits }
@@ -229,7 +229,7 @@ impl Engine {
             }
             Action::FinishMerge(id) => self.merge(MergeCommand::Finish { id }, out),
             Action::AbortMerge(id) => self.merge(MergeCommand::Abort { id }, out),
-            Action::Commit => refuse(Refusal::BadRequest, out),
+            Action::Commit | Action::Compact(_) | Action::Trim => refuse(Refusal::BadRequest, out),
             Action::Automerge(factor) => self.automerge(factor, out),
         }
     }
@@ -237,7 +237,7 @@ impl Engine {
     fn map(&mut self, body: &Json, out: &mut OutText) -> Result<Ended, NoMemory>
         requires { out.old.bytes ≡ [] }
         ensures answers { (state : State) → IsFaithful self.old state
-            → Answers state (outcome_of state (action_step self.old.limits (maps (view body.now)) state)) (answered_of result) out.new.bytes self.new }
+            → Answers state (outcome_of state (action_step self.old.limits [] (maps (view body.now)) state)) (answered_of result) out.new.bytes self.new }
         ensures stays { IfNotDone (answered_of result) (StaysOrSeals self.old self.new) }
         ensures limits { self.new.limits ≡ self.old.limits }
         ensures calls { self.new.calls ≡ self.old.calls }
@@ -258,7 +258,7 @@ impl Engine {
         requires formed { IsFormed (write_view it) }
         requires empty { out.old.bytes ≡ [] }
         ensures answers { (state : State) → IsFaithful self.old state
-            → Answers state (outcome_of state (action_step self.old.limits (writes (write_view it)) state)) (answered_of result) out.new.bytes self.new }
+            → Answers state (outcome_of state (action_step self.old.limits [] (writes (write_view it)) state)) (answered_of result) out.new.bytes self.new }
         ensures few { steps.new ≤ steps.old + reads_of (operation_view it.operation) }
         ensures stays { IfNotDone (answered_of result) (StaysOrSeals self.old self.new) }
         ensures limits { self.new.limits ≡ self.old.limits }
@@ -283,7 +283,7 @@ impl Engine {
         requires form { is_search_body (view body.now) ≡ true }
         requires empty { out.old.bytes ≡ [] }
         ensures answers { (state : State) → IsFaithful self.old state
-            → Answers state (outcome_of state (action_step self.old.limits (searches (view body.now)) state)) (answered_of result) out.new.bytes self.new }
+            → Answers state (outcome_of state (action_step self.old.limits [] (searches (view body.now)) state)) (answered_of result) out.new.bytes self.new }
         ensures few { (state : State) → IsFaithful self.old state → steps.new ≤ steps.old + hits_of (view body.now) state.content.mapping state }
         ensures stays { IfNotDone (answered_of result) (StaysOrSeals self.old self.new) }
         ensures limits { self.new.limits ≡ self.old.limits }
@@ -310,7 +310,7 @@ impl Engine {
     fn refresh(&mut self, out: &mut OutText) -> Result<Ended, NoMemory>
         requires { out.old.bytes ≡ [] }
         ensures answers { (state : State) → IsFaithful self.old state
-            → Answers state (outcome_of state (action_step self.old.limits refreshes state)) (answered_of result) out.new.bytes self.new }
+            → Answers state (outcome_of state (action_step self.old.limits [] refreshes state)) (answered_of result) out.new.bytes self.new }
         ensures stays { IfNotDone (answered_of result) (StaysOrSeals self.old self.new) }
         ensures limits { self.new.limits ≡ self.old.limits }
         ensures calls { self.new.calls ≡ self.old.calls }
@@ -327,7 +327,7 @@ impl Engine {
     fn segments(&mut self, out: &mut OutText) -> Result<Ended, NoMemory>
         requires { out.old.bytes ≡ [] }
         ensures answers { (state : State) → IsFaithful self.old state
-            → Answers state (outcome_of state (action_step self.old.limits shows_segments state)) (answered_of result) out.new.bytes self.new }
+            → Answers state (outcome_of state (action_step self.old.limits [] shows_segments state)) (answered_of result) out.new.bytes self.new }
         ensures stays { IfNotDone (answered_of result) (StaysOrSeals self.old self.new) }
         ensures limits { self.new.limits ≡ self.old.limits }
         ensures calls { self.new.calls ≡ self.old.calls }
@@ -347,7 +347,7 @@ impl Engine {
         requires counted { IsCounted self.old }
         requires empty { out.old.bytes ≡ [] }
         ensures answers { (state : State) → IsFaithful self.old state
-            → Answers state (outcome_of state (action_step self.old.limits opens state)) (answered_of result) out.new.bytes self.new }
+            → Answers state (outcome_of state (action_step self.old.limits [] opens state)) (answered_of result) out.new.bytes self.new }
         ensures stays { IfNotDone (answered_of result) (StaysOrSeals self.old self.new) }
         ensures limits { self.new.limits ≡ self.old.limits }
         ensures calls { self.new.calls ≡ self.old.calls }
@@ -364,7 +364,7 @@ impl Engine {
     fn close_pit(&mut self, id: u64, out: &mut OutText) -> Result<Ended, NoMemory>
         requires { out.old.bytes ≡ [] }
         ensures answers { (state : State) → IsFaithful self.old state
-            → Answers state (outcome_of state (action_step self.old.limits (closes id) state)) (answered_of result) out.new.bytes self.new }
+            → Answers state (outcome_of state (action_step self.old.limits [] (closes id) state)) (answered_of result) out.new.bytes self.new }
         ensures stays { IfNotDone (answered_of result) (StaysOrSeals self.old self.new) }
         ensures limits { self.new.limits ≡ self.old.limits }
         ensures calls { self.new.calls ≡ self.old.calls }
@@ -400,7 +400,7 @@ impl Engine {
         requires factor { IfSome factor IsFactor }
         requires empty { out.old.bytes ≡ [] }
         ensures answers { (state : State) → IsFaithful self.old state
-            → Answers state (outcome_of state (action_step self.old.limits (merges_by factor) state)) (answered_of result) out.new.bytes self.new }
+            → Answers state (outcome_of state (action_step self.old.limits [] (merges_by factor) state)) (answered_of result) out.new.bytes self.new }
         ensures stays { IfNotDone (answered_of result) (StaysOrSeals self.old self.new) }
         ensures limits { self.new.limits ≡ self.old.limits }
         ensures calls { self.new.calls ≡ self.old.calls }

@@ -5,18 +5,18 @@ use Rattle.std.specs.Io.KnownBytes.{Appends}
 use Rattle.json.specs.Print.{escape_byte}
 use Rattle.line_reader.specs.Given.{HasGiven, Gives}
 use Rattle.line_reader.specs.Request.{Request}
+use Rattle.request_form.specs.Asked.{Asked}
 use Rattle.line_reader.specs.Seen.{InputState}
 use Rattle.line_reader.specs.declared.stop.Stop.{Stop}
 use Rattle.line_reader.specs.declared.stop.Stop.TheVariants.{End, Limit, Fault}
 use Rattle.tree_json.specs.Text.{quoted}
 use Rattle.line_engine.specs.Exit.{status_of}
-use Rattle.engine.specs.Answers.{Answers, AnswersTo, reply_bytes}
+use Rattle.engine.specs.Answers.{AnswersTo, reply_bytes}
 use Rattle.engine.specs.Faithful.{IsFaithful}
 use Rattle.engine.specs.Kept.{EngineState}
-use Rattle.machine.specs.Answer.{Outcome}
-use Rattle.machine.specs.May.{MayEnd, MayStep}
+use Rattle.machine.specs.May.{MayAnswer, MayStep}
 use Rattle.machine.specs.State.{State, empty_state}
-use Rattle.machine.specs.Step.{step}
+use Rattle.machine.specs.Step.{asked_for}
 use Rattle.machine.specs.declared.limits.Limits.{Limits}
 use Rattle.reply_text.specs.Object.{object_text}
 use Rattle.reply_text.specs.Text.{line_of, reply_text}
@@ -50,13 +50,15 @@ text_more (first ∷ turns) turn = ap (λ (rest : List ℕ). reply_text first.re
 requests_more : (turns : List Turn) (turn : Turn) → requests_of turns ++ turn.request ∷ [] ≡ requests_of (turns ++ turn ∷ [])
 requests_more turns turn = sym (map-append (λ (it : Turn). it.request) turns (turn ∷ []))
 
--- a step asks for the lines of a request alone
-step_alike : (limits : Limits) (before : State) (one two : Request) → one.first ≡ two.first → one.source ≡ two.source → step limits before one ≡ step limits before two
-unfolding step
-step_alike limits before one two first source = rw (first, source) refl
+-- a request asks for what its lines ask for
+asked_alike : (one two : Request) → one.first ≡ two.first → one.source ≡ two.source → asked_for one ≡ asked_for two
+asked_alike one two first source = rw (first, source) refl
 
-may_alike : (limits : Limits) (before after : State) (one two : Request) (reply : Reply) → one.first ≡ two.first → one.source ≡ two.source → MayStep limits before one reply after → MayStep limits before two reply after
-may_alike limits before after one two reply first source may = subst (λ (outcome : Outcome). MayEnd before outcome reply after) (step_alike limits before one two first source) may
+may_of : (limits : Limits) (before : State) (asked request : Request) (answered : Answered) (out : List ℕ) (reads reads' : ℕ) (engine : EngineState) → asked.first ≡ request.first → asked.source ≡ request.source
+    → (a : AnswersTo limits before asked answered out reads reads' engine) → MayStep limits before request a.answers.reply a.answers.after
+may_of limits before asked request answered out reads reads' engine first source a =
+    subst (λ (it : Asked). MayAnswer limits before it a.answers.reply a.answers.after) (asked_alike asked request first source)
+    (record { sizes = a.sizes; are = a.are; may = a.answers.may })
 
 -- ## one request more
 
@@ -65,16 +67,16 @@ pub served_next : (limits : Limits) (start : State) (left l l' taken t t' : Opti
     asked.first ≡ request.first → asked.source ≡ request.source → AnswersTo engine.limits (last_state start served.turns) asked answered out reads reads' engine' → Appends t t' (reply_bytes answered out) →
     engine'.limits ≡ engine.limits → Served limits start left l' taken t' input' engine'
 served_next limits start left l l' taken t t' input input' engine engine' request asked answered out reads reads' served gives first source answered_so writes same =
-    let answers : Answers (last_state start served.turns) (step limits (last_state start served.turns) asked) answered out engine' =
-    (subst (λ (given : Limits). AnswersTo given (last_state start served.turns) asked answered out reads reads' engine') served.within answered_so).answers in
-    let turn : Turn = record { request = request; reply = answers.reply; after = answers.after } in
-    let may : MayStep limits (last_state start served.turns) request answers.reply answers.after = may_alike limits (last_state start served.turns) answers.after asked request answers.reply first source answers.may in
+    let own : AnswersTo limits (last_state start served.turns) asked answered out reads reads' engine' =
+    subst (λ (given : Limits). AnswersTo given (last_state start served.turns) asked answered out reads reads' engine') served.within answered_so in
+    let turn : Turn = record { request = request; reply = own.answers.reply; after = own.answers.after } in
+    let may : MayStep limits (last_state start served.turns) request turn.reply turn.after = may_of limits (last_state start served.turns) asked request answered out reads reads' engine' first source own in
     record {
       turns = served.turns ++ turn ∷ [];
       given = subst (λ (given : List Request). HasGiven limits.session_bytes left l' input' given) (requests_more served.turns turn) gives.0;
       chain = chain_more limits start served.turns turn served.chain may;
-      stands = subst (λ (state : State). IsFaithful engine' state) (sym (last_more start served.turns turn)) answers.faithful;
-      written = subst (λ (bytes : List ℕ). Appends taken t' bytes) (ap (λ (bytes : List ℕ). text_of served.turns ++ bytes) answers.text ∙ sym (text_more served.turns turn))
+      stands = subst (λ (state : State). IsFaithful engine' state) (sym (last_more start served.turns turn)) own.answers.faithful;
+      written = subst (λ (bytes : List ℕ). Appends taken t' bytes) (ap (λ (bytes : List ℕ). text_of served.turns ++ bytes) own.answers.text ∙ sym (text_more served.turns turn))
           (appends_more taken t t' (text_of served.turns) (reply_bytes answered out) served.written writes);
       within = same ∙ served.within;
     }
@@ -98,10 +100,10 @@ pub served_part : (limits : Limits) (start : State) (left l l' taken t t' : Opti
     asked.first ≡ request.first → asked.source ≡ request.source → AnswersTo engine.limits (last_state start served.turns) asked answered out reads reads' engine' → TakesPart t t' (reply_bytes answered out) →
     Serves WriteFault limits start left l' taken t'
 served_part limits start left l l' taken t t' input input' engine engine' request asked answered out reads reads' served gives first source answered_so takes =
-    let answers : Answers (last_state start served.turns) (step limits (last_state start served.turns) asked) answered out engine' =
-    (subst (λ (given : Limits). AnswersTo given (last_state start served.turns) asked answered out reads reads' engine') served.within answered_so).answers in
-    let turn : Turn = record { request = request; reply = answers.reply; after = answers.after } in
-    let may : MayStep limits (last_state start served.turns) request answers.reply answers.after = may_alike limits (last_state start served.turns) answers.after asked request answers.reply first source answers.may in
+    let own : AnswersTo limits (last_state start served.turns) asked answered out reads reads' engine' =
+    subst (λ (given : Limits). AnswersTo given (last_state start served.turns) asked answered out reads reads' engine') served.within answered_so in
+    let turn : Turn = record { request = request; reply = own.answers.reply; after = own.answers.after } in
+    let may : MayStep limits (last_state start served.turns) request turn.reply turn.after = may_of limits (last_state start served.turns) asked request answered out reads reads' engine' first source own in
     record {
       requests = requests_of served.turns ++ request ∷ [];
       turns = served.turns ++ turn ∷ [];
@@ -113,7 +115,7 @@ served_part limits start left l l' taken t t' input input' engine engine' reques
         parts = refl;
         part = takes.part;
         rest = takes.rest;
-        text = sym answers.text ∙ takes.parts;
+        text = sym own.answers.text ∙ takes.parts;
         some = takes.some;
         written = appends_more taken t t' (text_of served.turns) takes.part served.written takes.written;
       };

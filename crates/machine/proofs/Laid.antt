@@ -3,13 +3,13 @@ use Rattle.std.proofs.Common.{◌≡◌, ℕ, true, false, not, cond, List, [], 
 use Rattle.std.specs.Str.{bytes_eq}
 use Rattle.layout.specs.Layout.{live_items, staying, with_change}
 use Rattle.layout.proofs.Keeps.{sealed_keeps, change_keeps}
-use Rattle.line_reader.specs.Request.{Request}
-use Rattle.request_form.specs.Asked.{Asked, asked_of}
+use Rattle.reply_text.specs.declared.reply.Reply.{Reply}
+use Rattle.request_form.specs.Asked.{Asked}
 use Rattle.tree_objects.specs.Tree.{Tree, has_id, without}
+use Rattle.machine.specs.May.{MayAnswer}
 use Rattle.machine.specs.State.{State, IsLaid}
-use Rattle.machine.specs.Step.{step}
 use Rattle.machine.specs.declared.limits.Limits.{Limits}
-use Rattle.machine.proofs.Steps.{Stays, step_so}
+use Rattle.machine.proofs.Steps.{Stays, may_so}
 
 -- what leaves the layout leaves the live trees
 stays : (id : List ℕ) (trees : List Tree) → filter (staying (has_id id)) trees ≡ without id trees
@@ -28,7 +28,7 @@ change_laid id new state laid =
 
 laid_stays : (asked : Asked) → Stays IsLaid asked
 laid_stays asked = record {
-  laid = record { sealed = λ state laid. sealed_keeps state.layout ∙ laid; relaid = λ layout state same laid. same ∙ laid };
+  laid = record { sealed = λ state laid. sealed_keeps state.layout ∙ laid; relaid = λ layout state same laid. same ∙ laid; stored = λ kept state laid. laid };
   mapped = λ m state laid. laid;
   put = λ m tree state next laid. change_laid tree.id (tree ∷ []) state laid;
   taken = λ m id state laid. change_laid id [] state laid ∙ append-nil (without id state.content.live);
@@ -36,5 +36,5 @@ laid_stays asked = record {
   closed = λ id asks state laid. laid;
 }
 
-pub step_laid : (limits : Limits) (state : State) (request : Request) → IsLaid state → IsLaid (step limits state request).state
-step_laid limits state request laid = step_so IsLaid limits state request (laid_stays (asked_of request.first request.source)) laid
+pub may_laid : (limits : Limits) (before : State) (asked : Asked) (reply : Reply) (after : State) → IsLaid before → MayAnswer limits before asked reply after → IsLaid after
+may_laid limits before asked reply after laid may = may_so IsLaid limits before asked reply after (laid_stays asked) laid may

@@ -1,9 +1,9 @@
 -- Merge commands: what is live stays so, and they are answered alike whatever stands for the items.
-use Rattle.std.proofs.Common.{◌≡◌, ℕ, List, length, Option, Some, None, refl, ap, ◌∙◌}
+use Rattle.std.proofs.Common.{◌≡◌, ℕ, length, Option, Some, None, refl, ap, ◌∙◌}
 use Rattle.std.proofs.lemmas.List.{length-map}
 use Rattle.layout.specs.As.{layout_as, segment_as}
 use Rattle.layout.specs.Layout.{Layout, OpenMerge, live_items, live_of_range}
-use Rattle.layout.specs.Merges.{MergeFault, start_fault, finish_fault, force_fault, forced, merge_named, merge_of, with_merge, finished}
+use Rattle.layout.specs.Merges.{MergeFault, start_fault, finish_fault, force_fault, forced, merge_named, merge_of}
 use Rattle.layout.proofs.Images.{live_of_range_as}
 use Rattle.layout.proofs.MergesAs.{finished_as, finished_keeps, force_fault_as, forced_as, forced_keeps, start_fault_as, with_merge_as}
 use Rattle.reply_text.specs.declared.reply.Reply.TheVariants as reply

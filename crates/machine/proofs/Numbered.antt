@@ -1,14 +1,14 @@
 -- Live trees stand by ascending numbers below the next one, with ids of their own, before and after each request.
-use Rattle.std.proofs.Common.{◌≡◌, ◌≢◌, ◌+◌, ◌<◌, ℕ, Bool, true, false, cond, List, [], ◌∷◌, ◌++◌, refl, sym, ap, subst, ◌∙◌, arith}
+use Rattle.std.proofs.Common.{◌≡◌, ◌≢◌, ◌+◌, ◌<◌, ℕ, Bool, true, false, cond, List, [], ◌∷◌, ◌++◌, refl, sym, subst, ◌∙◌, arith}
 use Rattle.std.proofs.lemmas.Slice.Eq.{bytes_eq-Decides}
-use Rattle.line_reader.specs.Request.{Request}
-use Rattle.request_form.specs.Asked.{Asked, asked_of}
+use Rattle.reply_text.specs.declared.reply.Reply.{Reply}
+use Rattle.request_form.specs.Asked.{Asked}
 use Rattle.tree_objects.specs.Tree.{Tree, ComesFirst, IsLiveList, has_id, without}
+use Rattle.machine.specs.May.{MayAnswer}
 use Rattle.machine.specs.State.{AreBelow, Content, IsNumbered, State}
-use Rattle.machine.specs.Step.{step}
 use Rattle.machine.specs.Write.{with_put}
 use Rattle.machine.specs.declared.limits.Limits.{Limits}
-use Rattle.machine.proofs.Steps.{Stays, step_so}
+use Rattle.machine.proofs.Steps.{Stays, may_so}
 
 other_id : (first tree : Tree) → has_id tree.id first ≡ false → first.id ≢ tree.id
 other_id first tree is e = no (sym is ∙ (bytes_eq-Decides first.id tree.id).1 e)
@@ -83,7 +83,7 @@ taken_numbered id content is = (live_without id content.live is.live, below_with
 
 numbered_stays : (asked : Asked) → Stays AreNumbered asked
 numbered_stays asked = record {
-  laid = record { sealed = λ state is. is; relaid = λ layout state same is. is };
+  laid = record { sealed = λ state is. is; relaid = λ layout state same is. is; stored = λ kept state is. is };
   mapped = λ m state is. record { live = is.live; below = is.below };
   put = λ m tree state next is. let after = put_numbered tree state.content next is in record { live = after.0; below = after.1 };
   taken = λ m id state is. let after = taken_numbered id state.content is in record { live = after.0; below = after.1 };
@@ -91,5 +91,5 @@ numbered_stays asked = record {
   closed = λ id asks state is. is;
 }
 
-pub step_numbered : (limits : Limits) (state : State) (request : Request) → IsNumbered state.content → IsNumbered (step limits state request).state.content
-step_numbered limits state request is = step_so AreNumbered limits state request (numbered_stays (asked_of request.first request.source)) is
+pub may_numbered : (limits : Limits) (before : State) (asked : Asked) (reply : Reply) (after : State) → IsNumbered before.content → MayAnswer limits before asked reply after → IsNumbered after.content
+may_numbered limits before asked reply after is may = may_so AreNumbered limits before asked reply after (numbered_stays asked) is may

@@ -3,17 +3,17 @@ use Rattle.std.proofs.Common.{◌≡◌, ◌≢◌, ◌+◌, ◌≤◌, ℕ, Boo
 use Rattle.std.specs.List.{AllByRecursion}
 use Rattle.std.specs.Option.{option_map}
 use Rattle.std.proofs.lemmas.Bool.{eqb-true, eq-eqb, true≢false}
-use Rattle.line_reader.specs.Request.{Request}
-use Rattle.request_form.specs.Asked.{Asked, asks, asked_of}
+use Rattle.reply_text.specs.declared.reply.Reply.{Reply}
+use Rattle.request_form.specs.Asked.{Asked, asks}
 use Rattle.request_form.specs.Command.{open_pit, close_pit}
 use Rattle.tree_objects.specs.Tree.{Tree}
-use Rattle.machine.specs.Beside.{AreGiven, asks_so, is_of_points, requests_so}
-use Rattle.machine.specs.Points.{is_other_point, with_point, without_point, with_points}
+use Rattle.machine.specs.Beside.{AreGiven, asks_so, is_of_points}
+use Rattle.machine.specs.May.{MayAnswer}
+use Rattle.machine.specs.Points.{is_other_point, with_point, with_points}
 use Rattle.machine.specs.Searching.{has_point_id, searched}
 use Rattle.machine.specs.State.{PointInTime, PointsInTime, State}
-use Rattle.machine.specs.Step.{step}
 use Rattle.machine.specs.declared.limits.Limits.{Limits}
-use Rattle.machine.proofs.Steps.{Stays, step_so}
+use Rattle.machine.proofs.Steps.{Stays, may_so}
 
 -- ---- ids
 
@@ -37,7 +37,7 @@ GivenIn state = AreGiven state.points
 
 given_stays : (asked : Asked) → Stays GivenIn asked
 given_stays asked = record {
-  laid = record { sealed = λ state given. given; relaid = λ layout state same given. given };
+  laid = record { sealed = λ state given. given; relaid = λ layout state same given. given; stored = λ kept state given. given };
   mapped = λ m state given. given;
   put = λ m tree state next given. given;
   taken = λ m id state given. given;
@@ -45,8 +45,8 @@ given_stays asked = record {
   closed = λ id asks state given. fewer_given state.points.opened id state.points.points given;
 }
 
-pub step_given : (limits : Limits) (state : State) (request : Request) → AreGiven state.points → AreGiven (step limits state request).state.points
-step_given limits state request given = step_so GivenIn limits state request (given_stays (asked_of request.first request.source)) given
+pub may_given : (limits : Limits) (before : State) (asked : Asked) (reply : Reply) (after : State) → AreGiven before.points → MayAnswer limits before asked reply after → AreGiven after.points
+may_given limits before asked reply after given may = may_so GivenIn limits before asked reply after (given_stays asked) given may
 
 -- ---- what a point in time has
 
@@ -93,7 +93,7 @@ same_close id other same = ap (λ n. asks (close_pit n)) same
 
 keeps_stays : (id : ℕ) (live : List Tree) (asked : Asked) → asked ≢ asks (close_pit id) → Stays (Keeps id live) asked
 keeps_stays id live asked other = record {
-  laid = record { sealed = λ state keeps. keeps; relaid = λ layout state same keeps. keeps };
+  laid = record { sealed = λ state keeps. keeps; relaid = λ layout state same keeps. keeps; stored = λ kept state keeps. keeps };
   mapped = λ m state keeps. keeps;
   put = λ m tree state next keeps. keeps;
   taken = λ m id state keeps. keeps;
@@ -102,10 +102,9 @@ keeps_stays id live asked other = record {
 }
 
 -- a point in time has the same trees until it is closed
-pub step_keeps : (limits : Limits) (state : State) (request : Request) (id : ℕ) (live : List Tree) → asked_of request.first request.source ≢ asks (close_pit id)
-    → searched (Some id) state ≡ Some live → searched (Some id) (step limits state request).state ≡ Some live
-step_keeps limits state request id live other keeps =
-    step_so (Keeps id live) limits state request (keeps_stays id live (asked_of request.first request.source) other) keeps
+pub may_keeps : (limits : Limits) (before : State) (asked : Asked) (reply : Reply) (after : State) (id : ℕ) (live : List Tree) → asked ≢ asks (close_pit id)
+    → searched (Some id) before ≡ Some live → MayAnswer limits before asked reply after → searched (Some id) after ≡ Some live
+may_keeps limits before asked reply after id live other keeps may = may_so (Keeps id live) limits before asked reply after (keeps_stays id live asked other) keeps may
 
 -- ---- one that is opened
 
@@ -137,7 +136,7 @@ not_of asked other hides is same = true≢false (sym is ∙ ap (asks_so is_of_po
 
 same_stays : (points : PointsInTime) (asked : Asked) → asks_so is_of_points asked ≡ false → Stays (Same points) asked
 same_stays points asked other = record {
-  laid = record { sealed = λ state same. same; relaid = λ layout state live same. same };
+  laid = record { sealed = λ state same. same; relaid = λ layout state live same. same; stored = λ kept state same. same };
   mapped = λ m state same. same;
   put = λ m tree state next same. same;
   taken = λ m id state same. same;
@@ -146,6 +145,5 @@ same_stays points asked other = record {
 }
 
 -- a request that neither opens nor closes one leaves all of them as they were
-pub points_stay : (limits : Limits) (state : State) (request : Request) → requests_so is_of_points request ≡ false → (step limits state request).state.points ≡ state.points
-points_stay limits state request other =
-    step_so (Same state.points) limits state request (same_stays state.points (asked_of request.first request.source) other) refl
+pub points_stay : (limits : Limits) (before : State) (asked : Asked) (reply : Reply) (after : State) → asks_so is_of_points asked ≡ false → MayAnswer limits before asked reply after → after.points ≡ before.points
+points_stay limits before asked reply after other may = may_so (Same before.points) limits before asked reply after (same_stays before.points asked other) refl may

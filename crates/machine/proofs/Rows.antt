@@ -1,25 +1,33 @@
--- Worked runs over merges and points in time, computed: a session of trees without members, one request after the other.
-use Rattle.std.proofs.Common.{◌≡◌, ℕ, ◌+◌, false, List, [], ◌∷◌, ◌++◌, replicate, map, Option, Some, None, refl}
+-- Worked runs over merges, points in time and commits, computed: a session of trees without members, one request after the
+-- other.
+use Rattle.std.proofs.Common.{◌≡◌, ℕ, ◌+◌, ◌^◌, false, List, [], ◌∷◌, ◌++◌, replicate, map, Option, Some, None, refl}
 use Rattle.std.specs.Prelude.{codes}
-use Rattle.layout.specs.Layout.{sealed, with_change}
+use Rattle.extent_pool.specs.Holes.{holes_of}
+use Rattle.extent_pool.specs.declared.extent.Extent.{Extent}
+use Rattle.json.specs.Print.{escape_byte}
+use Rattle.layout.specs.Layout.{alive, empty_layout, sealed, with_change}
 use Rattle.mapping.specs.Mapping.{Mapping, root_scope}
 use Rattle.reply_text.specs.declared.layout.MergeRow.{MergeRow}
 use Rattle.reply_text.specs.declared.layout.SegmentRow.{SegmentRow}
 use Rattle.reply_text.specs.declared.refusal.Refusal.TheVariants as why
 use Rattle.reply_text.specs.declared.reply.Reply.{Reply}
 use Rattle.reply_text.specs.declared.reply.Reply.TheVariants as reply
-use Rattle.request_form.specs.Command.{Action, refresh, open_pit, close_pit, force_merge, start_merge, advance_merge, finish_merge, abort_merge, automerge}
-use Rattle.tree_json.specs.Value.{object, no_members}
+use Rattle.request_form.specs.Command.{Action, refresh, open_pit, close_pit, force_merge, start_merge, advance_merge, finish_merge, abort_merge, commit, compact, trim, automerge}
+use Rattle.tree_json.specs.Text.{quoted}
+use Rattle.tree_json.specs.Value.{JsonValue, text, object, no_members, member}
 use Rattle.tree_objects.specs.Object.{block_objects}
 use Rattle.tree_objects.specs.Tree.{Tree, without}
-use Rattle.machine.specs.Answer.{outcome_of}
+use Rattle.machine.specs.Answer.{Need, Outcome, closing, writing, outcome_of}
+use Rattle.machine.specs.Answer as needed
 use Rattle.machine.specs.Limit.{standard_limits}
 use Rattle.machine.specs.Merging.{merged_by, automerge_step, layout_reply}
 use Rattle.machine.specs.Points.{open_step, close_step}
 use Rattle.machine.specs.Searching.{searched}
-use Rattle.machine.specs.State.{State, empty_state, sealed_state}
+use Rattle.machine.specs.State.{Kept, State, empty_state, sealed_state}
 use Rattle.machine.specs.Step.{action_step}
+use Rattle.machine.specs.Storing.{commit_step, compact_step, trim_step}
 use Rattle.machine.specs.Write.{with_put, changed_state}
+use Rattle.machine.specs.declared.limits.Limits.{Limits}
 
 -- a mapping without fields
 abbrev plain : Mapping
@@ -56,14 +64,14 @@ numbers_of (Some live) = trees (map (λ (tree : Tree). tree.number) live)
 abbrev after_line : Line → State → State
 after_line (put id) state = state_put id state
 after_line (take_out id) state = changed_state plain id (without id state.content.live) [] state
-after_line (asks_for action) state = (outcome_of state (action_step standard_limits action state)).state
+after_line (asks_for action) state = (outcome_of state (action_step standard_limits [] action state)).state
 after_line shows state = sealed_state state
 after_line (finds point) state = sealed_state state
 
 abbrev seen_of : Line → State → Seen
 seen_of (put id) state = nothing
 seen_of (take_out id) state = nothing
-seen_of (asks_for action) state = told (outcome_of state (action_step standard_limits action state)).reply
+seen_of (asks_for action) state = told (outcome_of state (action_step standard_limits [] action state)).reply
 seen_of shows state = told (layout_reply plain (sealed_state state).layout)
 seen_of (finds point) state = numbers_of (searched point state)
 
@@ -171,3 +179,91 @@ merges_row : session (seventeen ++ starts_from 1 (0 ∷ 1 ∷ 2 ∷ 3 ∷ 4 ∷ 
     ≡ replicate 17 (told reply.Refreshed) ++ (sixteen_started ++ told (reply.Refused why.TooManyMerges) ∷ [])
 unfolding block_objects sealed with_change merged_by
 merges_row = refl
+
+-- ---- a store
+
+-- its places are gone through unit by unit, so it is a small one
+abbrev small_store : Limits
+small_store = record standard_limits { store_bytes = 8192 }
+
+-- one field `k` of keywords: a body of 39 bytes, and so a record of 84 for one segment
+abbrev keyword_body : JsonValue
+keyword_body = object (member (codes "properties") (object (member (codes "k") (object (member (codes "type") (text (codes "keyword")) no_members)) no_members)) no_members)
+
+abbrev keyword_mapping : Mapping
+keyword_mapping = record plain { bodies = keyword_body ∷ [] }
+
+abbrev at_place : ℕ → ℕ → Extent
+at_place place len = record { at = place; len = len }
+
+-- what is seen of a commit: its reply, what it needs of the disk, and what is kept then
+record Stored : Type 0 where
+  reply : Reply
+  need : Need
+  kept : Kept
+
+abbrev stored_by : Outcome → Stored
+stored_by outcome = record { reply = outcome.reply; need = outcome.need; kept = outcome.state.kept }
+
+-- the outcome of each in order, with the bytes that each segment takes which has to be written
+abbrev outcomes_of : State → List (List ℕ × Action) → List Stored
+outcomes_of state [] = []
+outcomes_of state (it ∷ later) =
+    stored_by (outcome_of state (action_step small_store it.0 it.1 state)) ∷ outcomes_of (outcome_of state (action_step small_store it.0 it.1 state)).state later
+
+-- a tree that was found in the first format: its record and its segment are taken, and no segment has an extent
+abbrev found_old : State
+found_old = record empty_state {
+  content = record { mapping = Some keyword_mapping; live = tree_at (codes "1") 0 ∷ []; next = 1 };
+  layout = record empty_layout { segments = record { id = 0; items = alive (tree_at (codes "1") 0) ∷ [] } ∷ []; made = 1 };
+  kept = record { segments = []; taken = at_place 2176 79 ∷ at_place 2048 112 ∷ []; generation = 1 };
+}
+
+abbrev one_kept : ℕ → Extent → Extent → Kept
+one_kept generation own segment_extent = record { segments = record { id = 0; extent = segment_extent } ∷ []; taken = own ∷ segment_extent ∷ []; generation = generation }
+
+-- it is committed anew behind what it had, moved to the front, cut, and then nothing is left to move
+store_row : outcomes_of found_old ((116 ∷ [], commit) ∷ ([], compact 1) ∷ ([], trim) ∷ ([], compact 1) ∷ [])
+    ≡ (record { reply = reply.Committed 1; need = writing; kept = one_kept 2 (at_place 2432 84) (at_place 2304 116) }
+    ∷ record { reply = reply.Compacted 1 1; need = writing; kept = one_kept 3 (at_place 2048 84) (at_place 2176 116) }
+    ∷ record { reply = reply.Trimmed 2292; need = closing; kept = one_kept 3 (at_place 2048 84) (at_place 2176 116) }
+    ∷ record { reply = reply.Compacted 0 1; need = writing; kept = one_kept 4 (at_place 2304 84) (at_place 2176 116) } ∷ [])
+unfolding commit_step compact_step trim_step holes_of sealed quoted escape_byte
+store_row = refl
+
+abbrev two_named : ℕ → Extent → Extent → Extent → Kept
+two_named generation own first last = record {
+  segments = record { id = 4; extent = first } ∷ record { id = 7; extent = last } ∷ [];
+  taken = own ∷ first ∷ last ∷ [];
+  generation = generation;
+}
+
+-- two segments, of which the second has a dead tree, which its row in the record names
+abbrev two_kept : State
+two_kept = record empty_state {
+  content = record { mapping = Some keyword_mapping; live = tree_at (codes "1") 0 ∷ tree_at (codes "2") 2 ∷ []; next = 3 };
+  layout = record empty_layout {
+    segments = record { id = 4; items = alive (tree_at (codes "1") 0) ∷ [] }
+        ∷ record { id = 7; items = record { item = tree_at (codes "2") 1; live = false } ∷ alive (tree_at (codes "2") 2) ∷ [] } ∷ [];
+    made = 8;
+  };
+  kept = two_named 5 (at_place 2432 108) (at_place 2304 116) (at_place 2560 116);
+}
+
+-- by one move it is the segment that stands last which moves, into the room that the record leaves; what was named stays taken
+move_row : outcomes_of two_kept (([], compact 1) ∷ ([], compact 2) ∷ [])
+    ≡ (record { reply = reply.Compacted 1 3; need = writing; kept = two_named 6 (at_place 2048 108) (at_place 2304 116) (at_place 2176 116) }
+    ∷ record { reply = reply.Compacted 0 3; need = writing; kept = two_named 7 (at_place 2432 108) (at_place 2304 116) (at_place 2176 116) } ∷ [])
+unfolding compact_step holes_of sealed quoted escape_byte
+move_row = refl
+
+-- a store without room, and one whose generations are used up
+full_row : outcomes_of (record found_old { kept = record { segments = []; taken = at_place 2048 6144 ∷ []; generation = 1 } }) ((116 ∷ [], commit) ∷ [])
+    ≡ record { reply = reply.Refused why.StoreFull; need = closing; kept = record { segments = []; taken = at_place 2048 6144 ∷ []; generation = 1 } } ∷ []
+unfolding commit_step holes_of sealed quoted escape_byte
+full_row = refl
+
+last_row : outcomes_of (record found_old { kept = record { segments = []; taken = []; generation = 2 ^ 62 } }) ((116 ∷ [], commit) ∷ [])
+    ≡ record { reply = reply.Refused why.StoreFull; need = needed.nothing; kept = record { segments = []; taken = []; generation = 2 ^ 62 } } ∷ []
+unfolding commit_step holes_of sealed quoted escape_byte
+last_row = refl

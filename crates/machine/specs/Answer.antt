@@ -1,4 +1,4 @@
--- What a command answers: a refusal, or a reply with the state afterwards.
+-- What a command answers: a refusal, or a reply with the state afterwards, and what this needs of the disk.
 use Rattle.std.specs.Prelude.{Bool, List, [], ◌∷◌, Option, Some, None, if◌then◌else◌}
 use Rattle.machine.specs.State.{State, sealed_state}
 use Rattle.mapping.specs.Mapping.{Mapping}
@@ -7,19 +7,29 @@ use Rattle.reply_text.specs.declared.refusal.Refusal.TheVariants.{NoMapping}
 use Rattle.reply_text.specs.declared.reply.Reply.{Reply}
 use Rattle.reply_text.specs.declared.reply.Reply.TheVariants.{Refused}
 
+-- what has to succeed on the disk before an answer is given: nothing; that the slot of the store file which is not in use is
+-- closed; that a commit is written as well
+pub data Need : Type 0 where
+  nothing : Need
+  closing : Need
+  writing : Need
+
 pub data Answer : Type 0 where
   refuses : Refusal → Answer
   answers : Reply → State → Answer
+  stores : Need → Reply → State → Answer
 
--- what a request is answered, and the state afterwards
+-- what a request is answered, what this needs, and the state afterwards
 pub record Outcome : Type 0 where
+  pub need : Need
   pub reply : Reply
   pub state : State
 
 -- a refusal leaves the state as it was
 abbrev pub outcome_of : State → Answer → Outcome
-outcome_of before (refuses why) = record { reply = Refused why; state = before }
-outcome_of before (answers reply after) = record { reply = reply; state = after }
+outcome_of before (refuses why) = record { need = nothing; reply = Refused why; state = before }
+outcome_of before (answers reply after) = record { need = nothing; reply = reply; state = after }
+outcome_of before (stores need reply after) = record { need = need; reply = reply; state = after }
 
 -- this refusal, where that is so
 abbrev pub when : Bool → Refusal → Option Refusal

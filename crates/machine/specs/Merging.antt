@@ -1,6 +1,6 @@
 -- What is asked of the layout: its rows, merges of neighbours that are opened, walked and finished, merges at once, and merges
 -- that come by themselves (Lucene, `IndexWriter.forceMerge` and `MergePolicy`; merges in pieces are this project's own).
-use Rattle.std.specs.Prelude.{ℕ, ◌-◌, List, length, map, Option, Some, None, unwrap_or}
+use Rattle.std.specs.Prelude.{ℕ, ◌-◌, length, map, Option, Some, None, unwrap_or}
 use Rattle.layout.specs.As.{layout_as}
 use Rattle.layout.specs.Layout.{Layout, OpenMerge, live_of_range}
 use Rattle.layout.specs.Merges.{MergeFault, bad_range, overlaps, too_many, unknown, not_done, SegmentSummary, start_fault, finish_fault, force_fault, merge_named, merge_of, with_merge, advanced, aborted, finished, forced, with_factor, summaries_of}

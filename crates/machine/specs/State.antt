@@ -2,6 +2,8 @@
 -- in segments, and what a store keeps.
 use Rattle.std.specs.Prelude.{◌≡◌, ℕ, ◌<◌, List, [], Option, None}
 use Rattle.std.specs.List.{AllByRecursion}
+use Rattle.extent_pool.specs.Placing.{NamedExtent}
+use Rattle.extent_pool.specs.declared.extent.Extent.{Extent}
 use Rattle.layout.specs.Layout.{Layout, empty_layout, live_items, sealed}
 use Rattle.mapping.specs.Mapping.{Mapping}
 use Rattle.tree_objects.specs.Tree.{Tree, IsLiveList}
@@ -22,19 +24,12 @@ pub record PointsInTime : Type 0 where
   pub points : List PointInTime
   pub opened : ℕ
 
--- an extent of the store file, in bytes
-pub record Extent : Type 0 where
-  pub offset : ℕ
-  pub bytes : ℕ
-
--- a segment that the last acknowledged commit names, and its extent
-pub record KeptSegment : Type 0 where
-  pub segment : ℕ
-  pub extent : Extent
-
--- what the last acknowledged commit names, and the greatest commit generation that was tried
+-- what the last commit names that was acknowledged, or found at opening: its segments, in order, each with the extent of the
+-- store file that has its bytes, and all extents that are taken so, that of its record first; and the greatest commit
+-- generation that was tried or found. What was found in the first format names extents, and no segments.
 pub record Kept : Type 0 where
-  pub segments : List KeptSegment
+  pub segments : List NamedExtent
+  pub taken : List Extent
   pub generation : ℕ
 
 pub record State : Type 0 where
@@ -47,7 +42,7 @@ abbrev pub no_points : PointsInTime
 no_points = record { points = []; opened = 0 }
 
 abbrev pub nothing_stored : Kept
-nothing_stored = record { segments = []; generation = 0 }
+nothing_stored = record { segments = []; taken = []; generation = 0 }
 
 abbrev pub empty_state : State
 empty_state = record {

@@ -1,11 +1,12 @@
 -- The plain machine over trees: the step that it takes for a request, one line for each command.
+use Rattle.std.specs.Prelude.{ℕ, Bool, true, false, if◌then◌else◌, List}
 use Rattle.line_reader.specs.Request.{Request}
 use Rattle.reply_text.specs.declared.refusal.Refusal.{Refusal}
 use Rattle.reply_text.specs.declared.refusal.Refusal.TheVariants as why
 use Rattle.reply_text.specs.declared.reply.Reply.TheVariants.{Refreshed}
 use Rattle.mapping.specs.Mapping.{Mapping}
 use Rattle.request_form.specs.Asked.{Asked, refused, asks, asked_of}
-use Rattle.request_form.specs.Command.{Action, map_body, write, search, refresh, segments, open_pit, close_pit, force_merge, start_merge, advance_merge, finish_merge, abort_merge, commit, automerge}
+use Rattle.request_form.specs.Command.{Action, map_body, write, search, refresh, segments, open_pit, close_pit, force_merge, start_merge, advance_merge, finish_merge, abort_merge, commit, compact, trim, automerge}
 use Rattle.request_form.specs.declared.refusal.FormRefusal.{FormRefusal}
 use Rattle.request_form.specs.declared.refusal.FormRefusal.TheVariants as form
 use Rattle.machine.specs.Answer.{Answer, refuses, answers, Outcome, outcome_of, sealing, mapped}
@@ -16,6 +17,7 @@ use Rattle.machine.specs.declared.merge_command.MergeCommand.TheVariants.{Start,
 use Rattle.machine.specs.Points.{open_step, close_step}
 use Rattle.machine.specs.Searching.{search_step}
 use Rattle.machine.specs.State.{State}
+use Rattle.machine.specs.Storing.{commit_step, compact_step, trim_step}
 use Rattle.machine.specs.Write.{write_step}
 
 abbrev pub refusal_formed : FormRefusal → Refusal
@@ -28,31 +30,59 @@ refusal_formed form.MissingSource = why.MissingSource
 abbrev pub refresh_step : Mapping → State → Answer
 refresh_step m state = answers Refreshed state
 
--- a command that isn't built yet
-abbrev pub not_built : State → Answer
-not_built state = refuses why.BadRequest
+-- what an action answers in a state, where the segments that a commit has to write take so many bytes each
+abbrev pub action_step : Limits → List ℕ → Action → State → Answer
+action_step limits sizes (map_body body) state = sealing (mapping_step body) state
+action_step limits sizes (write it) state = mapped (λ m. write_step limits m it) state
+action_step limits sizes (search body) state = sealing (mapped (search_step limits body)) state
+action_step limits sizes refresh state = sealing (mapped refresh_step) state
+action_step limits sizes segments state = sealing (mapped (segments_step limits)) state
+action_step limits sizes open_pit state = sealing (mapped open_step) state
+action_step limits sizes (close_pit id) state = sealing (mapped (close_step id)) state
+action_step limits sizes (force_merge most) state = sealing (mapped (merge_step (Force most))) state
+action_step limits sizes (start_merge from count) state = sealing (mapped (merge_step (Start from count))) state
+action_step limits sizes (advance_merge id roots) state = sealing (mapped (merge_step (Advance id roots))) state
+action_step limits sizes (finish_merge id) state = sealing (mapped (merge_step (Finish id))) state
+action_step limits sizes (abort_merge id) state = sealing (mapped (merge_step (Abort id))) state
+action_step limits sizes commit state = sealing (mapped (commit_step limits sizes)) state
+action_step limits sizes (compact most) state = sealing (mapped (compact_step limits sizes most)) state
+action_step limits sizes trim state = sealing (mapped trim_step) state
+action_step limits sizes (automerge factor) state = mapped (automerge_step factor) state
 
--- what an action answers in a state
-abbrev pub action_step : Limits → Action → State → Answer
-action_step limits (map_body body) state = sealing (mapping_step body) state
-action_step limits (write it) state = mapped (λ m. write_step limits m it) state
-action_step limits (search body) state = sealing (mapped (search_step limits body)) state
-action_step limits refresh state = sealing (mapped refresh_step) state
-action_step limits segments state = sealing (mapped (segments_step limits)) state
-action_step limits open_pit state = sealing (mapped open_step) state
-action_step limits (close_pit id) state = sealing (mapped (close_step id)) state
-action_step limits (force_merge most) state = sealing (mapped (merge_step (Force most))) state
-action_step limits (start_merge from count) state = sealing (mapped (merge_step (Start from count))) state
-action_step limits (advance_merge id roots) state = sealing (mapped (merge_step (Advance id roots))) state
-action_step limits (finish_merge id) state = sealing (mapped (merge_step (Finish id))) state
-action_step limits (abort_merge id) state = sealing (mapped (merge_step (Abort id))) state
-action_step limits commit state = not_built state
-action_step limits (automerge factor) state = mapped (automerge_step factor) state
-
-abbrev pub asked_step : Limits → Asked → State → Answer
-asked_step limits (refused why) state = refuses (refusal_formed why)
-asked_step limits (asks action) state = action_step limits action state
+abbrev pub asked_step : Limits → List ℕ → Asked → State → Answer
+asked_step limits sizes (refused why) state = refuses (refusal_formed why)
+asked_step limits sizes (asks action) state = action_step limits sizes action state
 
 -- one step
-unfoldable pub step : Limits → State → Request → Outcome
-step limits state request = outcome_of state (asked_step limits (asked_of request.first request.source) state)
+unfoldable pub step : Limits → List ℕ → State → Asked → Outcome
+step limits sizes state asked = outcome_of state (asked_step limits sizes asked state)
+
+-- ---- what is built
+
+-- it is asked of the store
+abbrev pub is_of_store : Action → Bool
+is_of_store (map_body body) = false
+is_of_store (write it) = false
+is_of_store (search body) = false
+is_of_store refresh = false
+is_of_store segments = false
+is_of_store open_pit = false
+is_of_store (close_pit id) = false
+is_of_store (force_merge most) = false
+is_of_store (start_merge from count) = false
+is_of_store (advance_merge id roots) = false
+is_of_store (finish_merge id) = false
+is_of_store (abort_merge id) = false
+is_of_store commit = true
+is_of_store (compact most) = true
+is_of_store trim = true
+is_of_store (automerge factor) = false
+
+-- the program has no store yet, so such a request counts as one that has not the form of a request
+abbrev pub built : Asked → Asked
+built (refused why) = refused why
+built (asks action) = if is_of_store action then refused form.BadRequest else asks action
+
+-- what a request asks for
+abbrev pub asked_for : Request → Asked
+asked_for request = built (asked_of request.first request.source)

@@ -4,7 +4,7 @@ use Rattle.std.specs.Prelude.{◌≡◌, ℕ, pos, negsuc, true, false, List, []
 use Rattle.std.proofs.Common.{refl}
 use Rattle.std.specs.Fmt.{digits}
 use Rattle.tree_json.specs.Value.{JsonValue, bool, whole, text, list, object, no_elements, Members, no_members, member}
-use Rattle.request_form.specs.Command.{command_of, alone, indexes, creates, updates, refresh, close_pit, force_merge, start_merge, finish_merge, automerge, write, delete, update}
+use Rattle.request_form.specs.Command.{command_of, alone, indexes, updates, refresh, force_merge, start_merge, commit, compact, trim, automerge, write, delete, update}
 use Rattle.request_form.specs.Asked.{operation_of}
 
 abbrev line : List ℕ → Members → JsonValue
@@ -87,6 +87,34 @@ merges_by_itself_no_more = refl
 merges_by_one : command_of (line (codes "automerge") (member (codes "factor") (whole (pos 1)) (member (codes "on") (bool true) no_members))) ≡ None
 unfolding command_of
 merges_by_one = refl
+
+bare_commit : command_of (line (codes "commit") no_members) ≡ Some (alone commit)
+unfolding command_of
+bare_commit = refl
+
+compacts_by_one : command_of (line (codes "compact") no_members) ≡ Some (alone (compact 1))
+unfolding command_of
+compacts_by_one = refl
+
+compacts_by_a_thousand : command_of (line (codes "compact") (member (codes "moves") (whole (pos 1000)) no_members)) ≡ Some (alone (compact 1000))
+unfolding command_of
+compacts_by_a_thousand = refl
+
+compacts_by_more : command_of (line (codes "compact") (member (codes "moves") (whole (pos 1001)) no_members)) ≡ None
+unfolding command_of
+compacts_by_more = refl
+
+compacts_by_none : command_of (line (codes "compact") (member (codes "moves") (whole (pos 0)) no_members)) ≡ None
+unfolding command_of
+compacts_by_none = refl
+
+bare_trim : command_of (line (codes "trim") no_members) ≡ Some (alone trim)
+unfolding command_of
+bare_trim = refl
+
+trim_with_a_name : command_of (line (codes "trim") (member (codes "bytes") (whole (pos 2048)) no_members)) ≡ None
+unfolding command_of
+trim_with_a_name = refl
 
 an_unknown_command : command_of (line (codes "reindex") no_members) ≡ None
 unfolding command_of

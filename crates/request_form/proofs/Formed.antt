@@ -1,5 +1,5 @@
 -- Every write that is asked for has an id, and its sources are objects; every search that is asked for has a search body; a merge
--- at once leaves a segment or more, and factors are from 2 to 10.
+-- at once leaves a segment or more, factors are from 2 to 10, and a compaction moves from 1 to 1,000.
 use Rattle.std.proofs.Common.{◌≡◌, ◌≤◌, ◌<◌, ℕ, zero, suc, ◌/◌, ◌%◌, ◌==◌, pos, negsuc, true, false, Bool, not, cond, List, [], ◌∷◌, length, codes, decimal, Option, Some, None, is_some, IfSome, option_and_then, option_map, unwrap_or, refl, sym, ap, subst, nat_le, if◌then◌else◌, arith}
 use Rattle.std.proofs.lemmas.Bool.{and_parts}
 use Rattle.std.proofs.lemmas.Bool.Decides.{nat_tests}
@@ -17,9 +17,9 @@ use Rattle.request_form.specs.Asked.{Asked, asked_in, asked_by, asked_of, asks, 
 use Rattle.request_form.specs.Command.{Target, Write, Action, Operation, index, create, update, delete, Command, alone, indexes, creates, updates, if_formed, id_by, id_in, flag_in, number_by, number_or, target_of, part_of, part_in, command_by, command_under, command_named, command_in, command_of, name_among}
 use Rattle.request_form.specs.Command as asked
 use Rattle.request_form.specs.Form.{are_taken, is_taken, has_required, has_lines, members_in, single_of}
-use Rattle.request_form.specs.Formed.{IsFactor, IsFormed, HasSources, IsSourceValue}
+use Rattle.request_form.specs.Formed.{AreMoves, IsFactor, IsFormed, HasSources, IsSourceValue}
 use Rattle.search_form.specs.Form.{is_search_body}
-use Rattle.request_form.specs.Table.{names, is_between, is_from, is_id, automerge_lines, create_lines, force_merge_lines, write_lines, update_lines}
+use Rattle.request_form.specs.Table.{names, is_between, is_from, is_id, automerge_lines, compact_lines, create_lines, force_merge_lines, write_lines, update_lines}
 
 -- ---- what comes out of an option
 
@@ -132,12 +132,31 @@ factor_formed ms h =
     factor_if (flag_in (member_of ms (codes "on"))) (number_or 2 ms (codes "factor"))
     (factor_in (member_of ms (codes "factor")) (λ v there. taken_at automerge_lines ms (codes "factor") v p.1 there))
 
+moves_by : (v : JsonValue) → is_between (pos 1) (pos 1000) v ≡ true → AreMoves (unwrap_or (number_by v) 1)
+moves_by null h = absurd (cc)
+moves_by (bool b) h = absurd (cc)
+moves_by (whole (pos n)) h = let p = and_parts (nat_le 1 n) (nat_le n 1000) h in (grind (arith, nat_tests), grind (arith, nat_tests))
+moves_by (whole (negsuc n)) h = absurd (cc)
+moves_by (text s) h = absurd (cc)
+moves_by (list ds) h = absurd (cc)
+moves_by (object ms) h = absurd (cc)
+
+moves_in : (o : Option JsonValue) → ((v : JsonValue) → o ≡ Some v → is_between (pos 1) (pos 1000) v ≡ true) → AreMoves (unwrap_or (option_and_then number_by o) 1)
+moves_in None all = (omega arith, omega arith)
+moves_in (Some v) all = moves_by v (all v refl)
+
+moves_formed : (ms : Members) → has_lines compact_lines ms ≡ true → AreMoves (number_or 1 ms (codes "moves"))
+moves_formed ms h =
+    let p = and_parts (has_required compact_lines ms) (are_taken compact_lines ms) h in
+    moves_in (member_of ms (codes "moves")) (λ v there. taken_at compact_lines ms (codes "moves") v p.1 there)
+
 -- ---- commands
 
 abbrev ActionIsFormed : Action → Type 0
 ActionIsFormed (asked.write it) = IsFormed it
 ActionIsFormed (asked.search body) = is_search_body body ≡ true
 ActionIsFormed (asked.force_merge most) = 0 < most
+ActionIsFormed (asked.compact moves) = AreMoves moves
 ActionIsFormed (asked.automerge factor) = IfSome factor IsFactor
 ActionIsFormed action = Unit {0}
 
@@ -180,6 +199,8 @@ by_name Name.ClosePit ms c e = subst CommandIsFormed (formed_if _ _ c e).1 tt
 by_name Name.ForceMerge ms c e = let f = formed_if _ _ c e in subst CommandIsFormed f.1 (most_positive ms f.0)
 by_name Name.Merge ms c e = let m = mapped_of alone (part_in (single_of ms)) c e in subst CommandIsFormed m.2 (merge_formed (single_of ms) m.0 m.1)
 by_name Name.Commit ms c e = subst CommandIsFormed (formed_if _ _ c e).1 tt
+by_name Name.Compact ms c e = let f = formed_if _ _ c e in subst CommandIsFormed f.1 (moves_formed ms f.0)
+by_name Name.Trim ms c e = subst CommandIsFormed (formed_if _ _ c e).1 tt
 by_name Name.Automerge ms c e = let f = formed_if _ _ c e in subst CommandIsFormed f.1 (factor_formed ms f.0)
 
 under_formed : (ms : Members) (name : Option Name) (c : Command) → command_under ms name ≡ Some c → CommandIsFormed c
@@ -335,3 +356,6 @@ asked_force first source most e = asked_alone first source (asked.force_merge mo
 
 pub asked_factor : (first : ReadLine) (source : SourceLine) (factor : ℕ) → asked_of first source ≡ asks (asked.automerge (Some factor)) → IsFactor factor
 asked_factor first source factor e = asked_alone first source (asked.automerge (Some factor)) tt e
+
+pub asked_moves : (first : ReadLine) (source : SourceLine) (moves : ℕ) → asked_of first source ≡ asks (asked.compact moves) → AreMoves moves
+asked_moves first source moves e = asked_alone first source (asked.compact moves) tt e

@@ -5,9 +5,9 @@ use Rattle.std.specs.Str.{bytes_eq}
 use Rattle.tree_json.specs.Value.{JsonValue, null, bool, whole, text, list, object, Members, member_of}
 use Rattle.search_form.specs.Form.{is_search_body}
 use Rattle.request_form.specs.declared.form.Name.{Name}
-use Rattle.request_form.specs.declared.form.Name.TheVariants.{Index, Create, Update, Delete, Mapping, Search, Refresh, Segments, OpenPit, ClosePit, ForceMerge, Merge, Commit, Automerge}
+use Rattle.request_form.specs.declared.form.Name.TheVariants.{Index, Create, Update, Delete, Mapping, Search, Refresh, Segments, OpenPit, ClosePit, ForceMerge, Merge, Commit, Compact, Trim, Automerge}
 use Rattle.request_form.specs.Form.{has_lines, single_of, members_in}
-use Rattle.request_form.specs.Table.{names, create_lines, write_lines, close_pit_lines, force_merge_lines, start_lines, advance_lines, merge_id_lines, automerge_lines}
+use Rattle.request_form.specs.Table.{names, create_lines, write_lines, close_pit_lines, force_merge_lines, start_lines, advance_lines, merge_id_lines, compact_lines, automerge_lines}
 
 -- the tree that a write is about: its id, the index that is named, and the sequence number that it has to have
 pub record Target : Type 0 where
@@ -47,6 +47,8 @@ pub data Action : Type 0 where
   finish_merge : ℕ → Action
   abort_merge : ℕ → Action
   commit : Action
+  compact : ℕ → Action
+  trim : Action
   automerge : Option ℕ → Action
 
 -- a command that stands alone, or one that still lacks its source line
@@ -143,6 +145,10 @@ abbrev pub part_in : Option (List ℕ × JsonValue) → Option Action
 part_in None = None
 part_in (Some it) = option_and_then (part_of it.0) (members_in it.1)
 
+-- one segment is moved, where it isn't said how many
+abbrev pub compact_of : Members → Action
+compact_of ms = compact (number_or 1 ms (codes "moves"))
+
 -- a factor that is left out is 2
 abbrev pub automerge_of : Members → Action
 automerge_of ms = automerge (if flag_in (member_of ms (codes "on")) then Some (number_or 2 ms (codes "factor")) else None)
@@ -162,6 +168,8 @@ command_by ClosePit ms = if_formed (has_lines close_pit_lines ms) (alone (close_
 command_by ForceMerge ms = if_formed (has_lines force_merge_lines ms) (alone (force_merge (number_or 1 ms (codes "max_num_segments"))))
 command_by Merge ms = option_map alone (part_in (single_of ms))
 command_by Commit ms = if_formed (has_lines [] ms) (alone commit)
+command_by Compact ms = if_formed (has_lines compact_lines ms) (alone (compact_of ms))
+command_by Trim ms = if_formed (has_lines [] ms) (alone trim)
 command_by Automerge ms = if_formed (has_lines automerge_lines ms) (alone (automerge_of ms))
 
 abbrev pub name_among : List ℕ → List (List ℕ × Name) → Option Name

@@ -1,5 +1,5 @@
 -- What holds of every write that is asked for: its id has a byte or more, and its sources are objects that nest no deeper
--- than what is read. And what holds of every factor by which segments are to be merged.
+-- than what is read. And what holds of every factor by which segments are to be merged, and of how many are to be moved.
 use Rattle.std.specs.Prelude.{◌≡◌, ◌≤◌, ℕ, true, length, IfSome}
 use Rattle.tree_json.specs.Levels.{levels, most_levels}
 use Rattle.tree_json.specs.Value.{JsonValue, is_object}
@@ -20,3 +20,6 @@ pub record IsFormed (it : Write) : Type 0 where
 
 abbrev pub IsFactor : ℕ → Type 0
 IsFactor factor = (2 ≤ factor) × (factor ≤ 10)
+
+abbrev pub AreMoves : ℕ → Type 0
+AreMoves moves = (1 ≤ moves) × (moves ≤ 1000)

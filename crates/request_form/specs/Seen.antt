@@ -6,7 +6,7 @@ use Rattle.tree_json.specs.declared.reader.JsonRefusal.{JsonRefusal}
 use Rattle.tree_json.specs.declared.reader.JsonRefusal.TheVariants as Json
 use Rattle.tree_json.specs.Reading.{Reading}
 use Rattle.line_reader.specs.Request.{SourceLine}
-use Rattle.request_form.specs.Command.{Target, Changes, Operation, index, create, update, delete, Write, Action, map_body, write, search, refresh, segments, open_pit, close_pit, force_merge, start_merge, advance_merge, finish_merge, abort_merge, commit, automerge, Command, alone, indexes, creates, updates}
+use Rattle.request_form.specs.Command.{Target, Changes, Operation, index, create, update, delete, Write, Action, map_body, write, search, refresh, segments, open_pit, close_pit, force_merge, start_merge, advance_merge, finish_merge, abort_merge, commit, compact, trim, automerge, Command, alone, indexes, creates, updates}
 use Rattle.request_form.specs.Asked.{Asked, refused, asked_in, asked_by, SourceValue, no_value}
 use Rattle.request_form.specs.declared.action.Target as DeclaredTarget
 use Rattle.request_form.specs.declared.action.Changes as DeclaredChanges
@@ -50,6 +50,8 @@ action_view (act.AdvanceMerge id roots) = advance_merge id roots
 action_view (act.FinishMerge id) = finish_merge id
 action_view (act.AbortMerge id) = abort_merge id
 action_view act.Commit = commit
+action_view (act.Compact moves) = compact moves
+action_view act.Trim = trim
 action_view (act.Automerge factor) = automerge factor
 
 abbrev pub command_view : DeclaredCommand.Command → Command

@@ -3,9 +3,9 @@
 use Rattle.std.specs.Prelude.{ℕ, ℤ, pos, Bool, true, false, ◌&&◌, nat_lt, int_le, List, [], ◌∷◌, length, codes}
 use Rattle.tree_json.specs.Value.{JsonValue, null, bool, whole, text, list, object, is_object}
 use Rattle.request_form.specs.declared.form.Form.{Form}
-use Rattle.request_form.specs.declared.form.Form.TheVariants.{Id, Text, Whole, Positive, One, Flag, Object, Factor}
+use Rattle.request_form.specs.declared.form.Form.TheVariants.{Id, Text, Whole, Positive, One, Flag, Object, Factor, Moves}
 use Rattle.request_form.specs.declared.form.Name.{Name}
-use Rattle.request_form.specs.declared.form.Name.TheVariants.{Index, Create, Update, Delete, Mapping, Search, Refresh, Segments, OpenPit, ClosePit, ForceMerge, Merge, Commit, Automerge}
+use Rattle.request_form.specs.declared.form.Name.TheVariants.{Index, Create, Update, Delete, Mapping, Search, Refresh, Segments, OpenPit, ClosePit, ForceMerge, Merge, Commit, Compact, Trim, Automerge}
 use Rattle.request_form.specs.declared.form.Presence.{Presence}
 use Rattle.request_form.specs.declared.form.Presence.TheVariants.{Required, Optional}
 
@@ -64,6 +64,7 @@ takes One v = is_between (pos 1) (pos 1) v
 takes Flag v = is_flag v
 takes Object v = is_object v
 takes Factor v = is_between (pos 2) (pos 10) v
+takes Moves v = is_between (pos 1) (pos 1000) v
 
 -- ---- the names of objects
 
@@ -101,6 +102,9 @@ advance_lines = (codes "id", Required, Whole) ∷ (codes "roots", Required, Whol
 abbrev pub merge_id_lines : List (List ℕ × Presence × Form)
 merge_id_lines = (codes "id", Required, Whole) ∷ []
 
+abbrev pub compact_lines : List (List ℕ × Presence × Form)
+compact_lines = (codes "moves", Optional, Moves) ∷ []
+
 abbrev pub automerge_lines : List (List ℕ × Presence × Form)
 automerge_lines = (codes "on", Required, Flag) ∷ (codes "factor", Optional, Factor) ∷ []
 
@@ -125,4 +129,6 @@ names =
     ∷ (codes "forcemerge", ForceMerge)
     ∷ (codes "merge", Merge)
     ∷ (codes "commit", Commit)
+    ∷ (codes "compact", Compact)
+    ∷ (codes "trim", Trim)
     ∷ (codes "automerge", Automerge) ∷ []

@@ -73,6 +73,10 @@ pub enum Action {
     AbortMerge(u64),
     /// What is live is written to the store.
     Commit,
+    /// The same, and at most so many segments are moved towards the front of the store file.
+    Compact(u64),
+    /// The store file is cut behind what the last commit names.
+    Trim,
     /// Neighbours are merged by themselves from now on, by this factor, or no more.
     Automerge(Option<u64>),
 }

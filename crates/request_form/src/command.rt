@@ -15,7 +15,7 @@ use crate::object::{
     flag_under, has_lines, id_under, number_or, number_under, object_of, single, text_under,
 };
 use crate::table::{
-    ADVANCE, AUTOMERGE, CLOSE_PIT, CREATE, FORCE_MERGE, MERGE_ID, NAMES, START, WRITE,
+    ADVANCE, AUTOMERGE, CLOSE_PIT, COMPACT, CREATE, FORCE_MERGE, MERGE_ID, NAMES, START, WRITE,
 };
 use std::alloc::Global;
 use tree_json::{Json, JsonObject, JsonText, NoMemory};
@@ -101,6 +101,8 @@ fn command_by(alloc: Global, name: Name, object: JsonObject) -> Result<Option<Co
         Name::ForceMerge => Ok(forces_merge(&object)),
         Name::Merge => Ok(merges(object)),
         Name::Commit => Ok(bare(Action::Commit, &object)),
+        Name::Compact => Ok(compacts(&object)),
+        Name::Trim => Ok(bare(Action::Trim, &object)),
         Name::Automerge => Ok(automerges(&object)),
     }
 }
@@ -269,6 +271,17 @@ fn abort_of(object: &JsonObject) -> Option<Action>
 {
     if has_lines(MERGE_ID, object) {
         Some(Action::AbortMerge(number_or(0, object, b"id")))
+    } else {
+        None
+    }
+}
+
+fn compacts(object: &JsonObject) -> Option<Command>
+    ensures { option_map command_view result ≡ command_by Name.Compact (members_of object.now) }
+{
+    if has_lines(COMPACT, object) {
+        let moves = number_or(1, object, b"moves");
+        Some(Command::Alone(Action::Compact(moves)))
     } else {
         None
     }

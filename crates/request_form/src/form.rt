@@ -19,6 +19,8 @@ pub enum Form {
     Object,
     /// A whole number from 2 to 10.
     Factor,
+    /// A whole number from 1 to 1,000.
+    Moves,
 }
 
 /// Whether a name has to be there.
@@ -44,5 +46,7 @@ pub enum Name {
     ForceMerge,
     Merge,
     Commit,
+    Compact,
+    Trim,
     Automerge,
 }

@@ -2,8 +2,8 @@
 ghost use Rattle.std.specs.Prelude.{◌≡◌, ◌<◌, ℕ, true, Some};
 ghost use Rattle.line_reader.specs.Request.{ReadLine, SourceLine};
 ghost use Rattle.request_form.specs.Asked.{asked_of, asks};
-ghost use Rattle.request_form.specs.Command.{Write, automerge, force_merge, search, write};
-ghost use Rattle.request_form.specs.Formed.{IsFactor, IsFormed};
+ghost use Rattle.request_form.specs.Command.{Write, automerge, compact, force_merge, search, write};
+ghost use Rattle.request_form.specs.Formed.{AreMoves, IsFactor, IsFormed};
 ghost use Rattle.search_form.specs.Form.{is_search_body};
 ghost use Rattle.tree_json.specs.Value.{JsonValue};
 
@@ -25,4 +25,9 @@ pub fn searches_are_formed()
 pub fn merges_are_formed()
     ensures forced { (first : ReadLine) (source : SourceLine) (most : ℕ) → asked_of first source ≡ asks (force_merge most) → 0 < most }
     ensures factor { (first : ReadLine) (source : SourceLine) (factor : ℕ) → asked_of first source ≡ asks (automerge (Some factor)) → IsFactor factor }
+{}
+
+/// A compaction that is asked for moves from 1 to 1,000 segments.
+pub fn moves_are_formed()
+    ensures { (first : ReadLine) (source : SourceLine) (moves : ℕ) → asked_of first source ≡ asks (compact moves) → AreMoves moves }
 {}

@@ -17,6 +17,6 @@ mod value;
 
 pub use action::{Action, Changes, Operation, Target, Write};
 pub use form::{Form, Name, Presence};
-pub use law::{merges_are_formed, searches_are_formed, writes_are_formed};
+pub use law::{merges_are_formed, moves_are_formed, searches_are_formed, writes_are_formed};
 pub use refusal::FormRefusal;
 pub use request::{NoAction, asked};

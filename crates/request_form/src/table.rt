@@ -18,6 +18,8 @@ pub(crate) const NAMES: &[(&[u8], Name)] = &[
     (b"forcemerge", Name::ForceMerge),
     (b"merge", Name::Merge),
     (b"commit", Name::Commit),
+    (b"compact", Name::Compact),
+    (b"trim", Name::Trim),
     (b"automerge", Name::Automerge),
 ];
 
@@ -58,6 +60,8 @@ pub(crate) const ADVANCE: &[Line] = &[
 ];
 
 pub(crate) const MERGE_ID: &[Line] = &[(b"id", Presence::Required, Form::Whole)];
+
+pub(crate) const COMPACT: &[Line] = &[(b"moves", Presence::Optional, Form::Moves)];
 
 pub(crate) const AUTOMERGE: &[Line] = &[
     (b"on", Presence::Required, Form::Flag),

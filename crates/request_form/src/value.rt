@@ -20,6 +20,7 @@ pub(crate) fn takes(form: Form, value: &Json) -> bool
         Form::Flag => is_flag(value),
         Form::Object => is_object(value),
         Form::Factor => is_between(2, 10, value),
+        Form::Moves => is_between(1, 1_000, value),
     }
 }
 
