@@ -1,3 +1,4 @@
+mod Examples
 mod Items
 mod Slots
 mod Whole

@@ -1,6 +1,5 @@
 -- A slot that was read stands in the file.
-use Rattle.std.proofs.Common.{◌≡◌, ℕ, ◌+◌, ◌-◌, ◌<◌, ◌≤◌, List, ◌++◌, length, get_or, take, drop, replicate, w64, inl, inr, refl, sym, ap, ◌∙◌, arith, length-take}
-use Rattle.std.specs.Int.{from_le_bytes}
+use Rattle.std.proofs.Common.{◌≡◌, ℕ, ◌+◌, ◌-◌, ◌≤◌, List, ◌++◌, length, get_or, take, drop, replicate, inl, inr, sym, ap, ◌∙◌, arith, length-take}
 use Rattle.std.proofs.Math.Seq.{take-add}
 use Rattle.std.proofs.lemmas.Bool.{cases_lt}
 use Rattle.std.proofs.lemmas.List.{drop-drop, length-drop, get_or-append_right, get_or-drop, get_or-replicate, get_or_past, length-replicate}

@@ -1,5 +1,5 @@
 -- The whole record: its form, what stands behind, and that no bytes are the text of two.
-use Rattle.std.proofs.Common.{◌≡◌, ℕ, ◌+◌, ◌*◌, Bool, true, false, cond, List, [], ◌∷◌, ◌++◌, length, get_or, drop, sum_by, Option, Some, None, Result, Ok, Err, OnOk, ◌==◌, refl, sym, ap, subst, ◌∙◌, arith}
+use Rattle.std.proofs.Common.{◌≡◌, ℕ, ◌+◌, ◌*◌, Bool, true, false, cond, List, [], ◌∷◌, ◌++◌, length, get_or, drop, sum_by, Some, None, Result, Ok, Err, OnOk, ◌==◌, refl, sym, ap, ◌∙◌, arith}
 use Rattle.std.specs.List.{flat_map}
 use Rattle.std.proofs.lemmas.Bool.{eqb-true}
 use Rattle.std.proofs.lemmas.List.{length-append, append-nil, nil_from_length}
@@ -11,7 +11,7 @@ use Rattle.part_text.specs.declared.no_memory.NoMemory.{NoMemory}
 use Rattle.store_text.specs.declared.record.Row.{Row}
 use Rattle.store_text.specs.declared.record.RecordText.{RecordText}
 use Rattle.store_text.specs.Record.{old_mark, mark, bool_text, row_text, rows_text, bodies_text, old_record_text, new_record_text, record_text, fixed_size, body_size, row_size, record_size, IsRecord}
-use Rattle.store_text.specs.Reading.{form_mark, old_after, new_after, after_text, after_at, IsOf, after_reads}
+use Rattle.store_text.specs.Reading.{form_mark, old_after, new_after, after_text, after_at, after_reads}
 
 -- ---- the form
 

@@ -1,19 +1,18 @@
 -- Reading a record from left to right, and the laws that this undoes its text.
-use Rattle.std.proofs.Common.{◌≡◌, ℕ, zero, suc, ◌+◌, ◌<◌, ◌≤◌, ◌^◌, Bool, true, false, cond, ltb, List, [], ◌∷◌, ◌++◌, length, get_or, map, Option, Some, None, refl, sym, ap, subst, ◌∙◌, append_assoc, arith}
+use Rattle.std.proofs.Common.{◌≡◌, ℕ, zero, suc, ◌+◌, ◌<◌, ◌^◌, Bool, true, false, ltb, List, [], ◌∷◌, ◌++◌, length, get_or, map, Option, Some, None, refl, sym, ap, subst, ◌∙◌, arith}
 use Rattle.std.specs.List.{All, flat_map}
 use Rattle.std.specs.List.Sorted.{IsStrictlyIncreasing}
-use Rattle.std.proofs.lemmas.Bool.{ltb-true, lt-ltb, ltb-false, le-ltb}
-use Rattle.std.proofs.lemmas.Option.{same_Some, none-some}
+use Rattle.std.proofs.lemmas.Bool.{ltb-true, lt-ltb}
 use Rattle.std.proofs.lemmas.List.{map-id, append-nil, get_or_default}
 use Rattle.std.proofs.lemmas.List.Elements.{All-nil, All-cons, All-head, All-tail}
 use Rattle.part_text.specs.Text.{u32_text, u64_text, string_text, counted_text}
-use Rattle.part_text.specs.Reading.{◌>>=◌, Reader, u32_at, u64_at, string_at, both_at, tested_at, made_at, follows, many_at, counted_at}
-use Rattle.part_text.specs.Reads.{Reads, Follow, IsBytes, IsBytes-drop, IsBytes-rest, both_text, bind_some, u32_reads, u64_reads, string_reads, both_reads, tested_reads, made_reads, reads_as, counted_reads}
+use Rattle.part_text.specs.Reading.{Reader, u32_at, u64_at, string_at, both_at, tested_at, made_at, follows, counted_at}
+use Rattle.part_text.specs.Reads.{Reads, Follow, both_text, bind_some, u32_reads, u64_reads, string_reads, both_reads, tested_reads, reads_as, counted_reads}
 use Rattle.part_text.specs.Order.{After, Rising, follow_all, follow_rising, follow_of}
 use Rattle.store_text.specs.declared.record.TheConstants.{MOST_BODIES}
 use Rattle.store_text.specs.declared.record.Row.{Row}
 use Rattle.store_text.specs.declared.record.RecordText.{RecordText}
-use Rattle.store_text.specs.Record.{old_mark, mark, bool_text, row_text, rows_text, bodies_text, record_text, IsRow, AreBodyTexts, IsOldForm, IsRecord}
+use Rattle.store_text.specs.Record.{old_mark, mark, bool_text, row_text, rows_text, bodies_text, IsRow, AreBodyTexts, IsRecord}
 
 -- ---- readers
 

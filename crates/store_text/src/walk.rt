@@ -2,7 +2,6 @@
 
 ghost use Rattle.std.specs.Prelude.{◌≡◌, ◌++◌, Bool, List, ℕ, IfOk, IfSome, IsNone};
 ghost use Rattle.part_text.specs.Reading.{Gives, string_at};
-ghost use Rattle.store_text.specs.Record.{old_mark, mark};
 ghost use Rattle.store_text.specs.Reading.{form_mark, index_at, dead_at, row_at, rows_at, count_at, listed_at, bodies_at, bool_at};
 
 use crate::record::{Body, BodyList, DeadRoots, MOST_BODIES, Row, RowList};

@@ -1,4 +1,4 @@
-use Rattle.std.proofs.Common.{rules, refl, arith}
+use Rattle.std.proofs.Common.{rules, arith}
 use Rattle.store_text.proofs.Slots.{slot_read}
 use Rattle.store_text.proofs.header.read_slot.Goals as goal
 
