@@ -182,6 +182,15 @@ answers_to own before after state request answered out reads reads' same f answe
     subst (λ (it : EngineState). AnswersTo it.limits state request answered out reads reads' after) same
     (record { sizes = []; answers = answers f'; are = inr (no_sizes (asked_of request.first request.source) state); few = few f' })
 
+-- what is asked for is answered as the action that it is
+pub action_answer : (own before after : EngineState) (state : State) (asked other : Asked) (answered : Answered) (out : List ℕ) → own ≡ before → asked ≡ other → IsFaithful before state
+    → (IsFaithful own state → Answers state (outcome_of state (asked_step own.limits [] (built other) state)) answered out after)
+    → Answers state (outcome_of state (asked_step before.limits [] (built asked) state)) answered out after
+action_answer own before after state asked other answered out same is f answers =
+    subst (λ (it : Asked). Answers state (outcome_of state (asked_step before.limits [] (built it) state)) answered out after) (sym is)
+    (subst (λ (it : EngineState). Answers state (outcome_of state (asked_step it.limits [] (built other) state)) answered out after) same
+    (answers (subst (λ (it : EngineState). IsFaithful it state) (sym same) f)))
+
 -- where there was no memory, nothing of what stands in the buffer is taken
 pub cleared : (state : State) (outcome : Outcome) (out out' : List ℕ) (kept : EngineState) → Answers state outcome NoMemory out kept → Answers state outcome NoMemory out' kept
 cleared state outcome out out' kept a = record { reply = a.reply; after = a.after; may = a.may; faithful = a.faithful; told = a.told; text = a.text }

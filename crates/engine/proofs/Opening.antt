@@ -2,7 +2,7 @@
 use Rattle.std.proofs.Common.{◌≡◌, ◌+◌, ℕ, Bool, true, false, not, List, [], ◌∷◌, Option, Some, Result, refl, sym, ap, subst, inl, ◌∙◌}
 use Rattle.index_core.specs.Kept.{IndexState}
 use Rattle.layout_commands.specs.Ends.{HasClosed, HasOpened, IsLacking}
-use Rattle.machine.specs.Answer.{Answer, Outcome, outcome_of, refuses, unless, when}
+use Rattle.machine.specs.Answer.{Answer, Outcome, nothing, outcome_of, refuses, unless, when}
 use Rattle.machine.specs.Points.{close_done, close_step, open_done, open_step, with_points}
 use Rattle.machine.specs.Points as machine
 use Rattle.machine.specs.State.{PointsInTime, State, sealed_state}
@@ -40,7 +40,7 @@ ends_with mapping index points state outcome answered out stand e = record {
 
 -- a command that was done, with other points in time
 done_with : (m : Mapping) (index : IndexState) (points : KeptPoints) (state : State) (others : PointsInTime) (given : Reply) (out : List ℕ) → AreFaithful (Some m) index (sealed_state state) → PointsStand m points others
-    → answered_by given ≡ Written → out ≡ reply_text given → EndsWith state (record { reply = given; state = with_points others (sealed_state state) }) Written out (Some m) index points
+    → answered_by given ≡ Written → out ≡ reply_text given → EndsWith state (record { need = nothing; reply = given; state = with_points others (sealed_state state) }) Written out (Some m) index points
 done_with m index points state others given out f stand told_so text = record {
   reply = given;
   after = with_points others (sealed_state state);

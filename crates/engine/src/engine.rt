@@ -229,7 +229,9 @@ impl Engine {
             }
             Action::FinishMerge(id) => self.merge(MergeCommand::Finish { id }, out),
             Action::AbortMerge(id) => self.merge(MergeCommand::Abort { id }, out),
-            Action::Commit | Action::Compact(_) | Action::Trim => refuse(Refusal::BadRequest, out),
+            Action::Commit => refuse(Refusal::BadRequest, out),
+            Action::Compact(_) => refuse(Refusal::BadRequest, out),
+            Action::Trim => refuse(Refusal::BadRequest, out),
             Action::Automerge(factor) => self.automerge(factor, out),
         }
     }
