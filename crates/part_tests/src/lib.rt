@@ -1,9 +1,9 @@
 //! Tests of the crates below, through their public items: what no clause of theirs says and no case reaches.
 //!
-//! Segments written out byte for byte, a block worked by hand, and calls that no line of a request reaches yet: those of a pool
-//! of extents, of fields of bytes and of a disk in memory. It stands on the crates that it tests, and no crate on it; no contract is of
-//! use to others. Begin with `segment_bytes.rt`. A crate that has tests is proved twice, so they are all here; what a line can
-//! ask is a case of `scenarios`, and costs no proof.
+//! Segments and the file of a commit written out byte for byte, a block and the images of a stop worked by hand, and calls that no
+//! line of a request reaches yet: those of a pool of extents, of fields of bytes and of disks in memory. It stands on the crates that
+//! it tests, and no crate on it; no contract is of use to others. Begin with `segment_bytes.rt`. A crate that has tests is proved
+//! twice, so they are all here; what a line can ask is a case of `scenarios`, and costs no proof.
 #![tactic(auto)]
 
 #[cfg(test)]
@@ -16,3 +16,7 @@ mod fields;
 mod scopes;
 #[cfg(test)]
 mod segment_bytes;
+#[cfg(test)]
+mod stops;
+#[cfg(test)]
+mod store_file;

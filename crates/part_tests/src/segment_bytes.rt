@@ -13,7 +13,7 @@ use std::test::Fail;
 use stored_sources::{JoinValue, NoMemory, StoredSources};
 
 /// A root with the id `1`, the number 0, the mapping generation 1 and the source `{"k":"a"}`: field 0 is a keyword field.
-const ONE: &[u8] = b"SEG2\
+pub(crate) const ONE: &[u8] = b"SEG2\
     \x01\0\0\0\x01\0\0\0\x01\0\0\0\0\0\0\0\
     \x01\0\0\01\0\0\0\0\0\0\0\0\x01\0\0\0\x09\0\0\0{\"k\":\"a\"}\0\
     \x01\0\0\0\0\0\0\0\0\0\0\0\x01\0\0\0a\x01\0\0\0\0\0\0\0\0\0\0\0\
@@ -21,7 +21,7 @@ const ONE: &[u8] = b"SEG2\
     \0\0\0\0\0\0\0\0";
 
 /// The same in the form before mappings grew: without the generation, and with other first bytes.
-const BEFORE: &[u8] = b"SEG1\
+pub(crate) const BEFORE: &[u8] = b"SEG1\
     \x01\0\0\0\x01\0\0\0\x01\0\0\0\0\0\0\0\
     \x01\0\0\01\0\0\0\0\0\0\0\0\x09\0\0\0{\"k\":\"a\"}\0\
     \x01\0\0\0\0\0\0\0\0\0\0\0\x01\0\0\0a\x01\0\0\0\0\0\0\0\0\0\0\0\
