@@ -2,7 +2,7 @@
 --
 -- A commit is the pieces that it has in a file, and what it says. `A` is what is said, and `IsGood` what of it must hold besides
 -- that its pieces stand: nothing of that looks into the file again, so no write changes it.
-use Rattle.std.specs.Prelude.{◌≡◌, ℕ, ◌+◌, ◌<◌, ◌≤◌, ◌⊎◌, Bool, true, false, List, [], ◌∷◌, length, Option, None, Some}
+use Rattle.std.specs.Prelude.{◌≡◌, ℕ, ◌<◌, ◌≤◌, ◌⊎◌, true, false, List, [], ◌∷◌, length, Option, None, Some}
 use Rattle.store_text.specs.Pieces.{Piece, Stands, AllStand}
 use Rattle.store_text.specs.Header.{header_size, magic, other, gate, slot, is_open, generation_in}
 use Rattle.store_text.specs.declared.header.Side.{Side}

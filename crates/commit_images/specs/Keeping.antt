@@ -6,7 +6,7 @@ use Rattle.store_text.specs.Pieces.{Piece, Stands, AllStand, Spares}
 use Rattle.store_text.specs.Header.{header_size, magic, other, gate_at, open_byte, is_open}
 use Rattle.store_text.specs.declared.header.Side.{Side}
 use Rattle.store_text.specs.declared.header.Side.TheVariants.{A, B}
-use Rattle.commit_images.specs.Commits.{Commit, slot_of, pieces_of, Finds, Found}
+use Rattle.commit_images.specs.Commits.{Commit, slot_of, pieces_of, Found}
 
 -- ---- one commit behind another
 

@@ -1,6 +1,6 @@
 -- Laws of one image: what it shows, from what is known of it, and what of that stays known through a write or a cut. They serve
 -- proofs.
-use Rattle.std.proofs.Common.{◌≡◌, ℕ, ◌+◌, ◌-◌, ◌^◌, ◌<◌, ◌≤◌, ◌⊎◌, inl, inr, lit≤, Bool, true, false, List, [], ◌∷◌, ◌++◌, length, take, drop, Option, None, Some, refl, sym, ◌∙◌, ap, subst, arith, length-append}
+use Rattle.std.proofs.Common.{◌≡◌, ℕ, ◌+◌, ◌^◌, ◌<◌, ◌≤◌, inl, inr, lit≤, Bool, true, false, List, [], ◌∷◌, ◌++◌, length, take, drop, Option, None, Some, refl, sym, ◌∙◌, ap, subst, arith}
 use Rattle.std.specs.Int.{from_le_bytes, w64}
 use Rattle.std.specs.List.{AllByRecursion}
 use Rattle.std.proofs.lemmas.Bool.{false≢true}
@@ -8,13 +8,12 @@ use Rattle.std.proofs.lemmas.List.{take-take, take_at}
 use Rattle.std.proofs.lemmas.Nat.{from_le_bytes-to_le_bytes_8}
 use Rattle.byte_fields.specs.Fields.{spelled_u64}
 use Rattle.disk.specs.Stops.{Torn, Cut}
-use Rattle.disk.specs.Torn.{torn_same}
 use Rattle.store_text.specs.Pieces.{Piece, Stands, AllStand, IsApart, Spares}
-use Rattle.store_text.specs.Header.{header_size, magic, other, gate_at, slot_at, gate, slot, open_byte, is_open, generation_in}
+use Rattle.store_text.specs.Header.{header_size, magic, other, gate_at, slot_at, gate, slot, is_open, generation_in}
 use Rattle.store_text.specs.declared.header.Side.{Side}
 use Rattle.store_text.specs.declared.header.Side.TheVariants.{A, B}
-use Rattle.commit_images.specs.Commits.{Commit, slot_of, pieces_of, IsAhead, Counts, Finds, IsBlank, Found}
-use Rattle.commit_images.specs.Keeping.{idle, extents_of, EndsBy, LastEndsBy, IsBehind, IsPlaced, ArePlaced, IsAbove, IsNext, but_gate, StandsIn, IsKnown, IsFree, AreFree}
+use Rattle.commit_images.specs.Commits.{Commit, pieces_of, IsAhead, Finds, Found}
+use Rattle.commit_images.specs.Keeping.{idle, extents_of, LastEndsBy, IsBehind, IsPlaced, ArePlaced, IsNext, but_gate, StandsIn, IsKnown, IsFree}
 use Rattle.commit_images.specs.Standing.{torn_stands, all_spared, torn_open, stands_open, all_before, cut_open}
 
 -- ---- what an image shows

@@ -1,12 +1,12 @@
 -- Laws of what a file shows: one commit at most. They serve proofs.
-use Rattle.std.proofs.Common.{◌≡◌, ℕ, ◌+◌, ◌-◌, ◌^◌, ◌<◌, ◌≤◌, inl, inr, lit≤, Bool, true, false, List, [], ◌∷◌, ◌++◌, length, take, drop, Option, None, Some, refl, sym, ◌∙◌, ap, subst, arith}
+use Rattle.std.proofs.Common.{◌≡◌, ℕ, ◌^◌, ◌<◌, ◌≤◌, inl, inr, true, List, ◌++◌, length, take, drop, Option, None, Some, refl, sym, ◌∙◌, ap, arith}
 use Rattle.std.specs.Int.{from_le_bytes, w64}
 use Rattle.std.proofs.lemmas.Bool.{false≢true}
 use Rattle.std.proofs.lemmas.List.{take_at, drop_at}
 use Rattle.std.proofs.lemmas.Nat.{from_le_bytes-to_le_bytes_8}
 use Rattle.byte_fields.specs.Fields.{spelled_u64}
 use Rattle.store_text.specs.Pieces.{Piece, Stands}
-use Rattle.store_text.specs.Header.{header_size, slot_at, slot, is_open, generation_in}
+use Rattle.store_text.specs.Header.{slot_at, slot, is_open, generation_in}
 use Rattle.store_text.specs.declared.header.Side.{Side}
 use Rattle.store_text.specs.declared.header.Side.TheVariants.{A, B}
 use Rattle.commit_images.specs.Commits.{Commit, Counts, Finds, IsBlank, Found}

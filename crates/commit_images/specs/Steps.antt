@@ -1,5 +1,5 @@
 -- What the steps of a commit leave, at each moment: what is kept of the images, and what a stop on the way shows.
-use Rattle.std.specs.Prelude.{◌≡◌, ℕ, ◌⊎◌, Bool, List, Option, None, Some}
+use Rattle.std.specs.Prelude.{ℕ, ◌⊎◌, Bool, List, Option}
 use Rattle.disk.specs.Stops.{Passes}
 use Rattle.store_text.specs.Pieces.{AllStand}
 use Rattle.commit_images.specs.Commits.{Commit, Finds, Found}

@@ -63,7 +63,13 @@ pub fn write_extents<S: Saying, D: Disk>(disk: &mut D, extents: &[Block]) -> Res
 /// Writes the idle slot, with a generation and the place and the length of a record, while its gate is closed, and syncs. Each image on the way shows the last commit. Behind it
 /// the slot stands in each image, and what stood to be read before it, so that a commit whose extents were written is ready.
 /// Failed only where one of the two calls failed.
-pub fn write_slot<S: Saying, D: Disk>(disk: &mut D, side: Side, generation: u64, at: u64, len: u64) -> Result<(), Failed>
+pub fn write_slot<S: Saying, D: Disk>(
+    disk: &mut D,
+    side: Side,
+    generation: u64,
+    at: u64,
+    len: u64,
+) -> Result<(), Failed>
     ensures ready { OnOk result (IsTold (D.content disk.new) → (limit : ℕ) (active : Option (Commit S.Said)) (new : Commit S.Said) → side ≡ idle active
         → IsNext active new → slot side generation at len ≡ slot_of new → KeepsCommit (S.IsGood limit) active true (D.image disk.old)
         → ((file : List ℕ) → D.content disk.old ≡ Some file → AllStand (extents_of new) file) → IsReady new (D.image disk.new)) }

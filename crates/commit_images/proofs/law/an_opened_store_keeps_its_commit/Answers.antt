@@ -1,4 +1,4 @@
-use Rattle.std.proofs.Common.{◌≡◌, List, Some, sym, ◌∙◌}
+use Rattle.std.proofs.Common.{◌≡◌, Some, sym, ◌∙◌}
 use Rattle.commit_images.specs.Going.{keeps_found}
 use Rattle.commit_images.proofs.law.an_opened_store_keeps_its_commit.Goals as goal
 

@@ -1,7 +1,7 @@
-use Rattle.std.proofs.Common.{◌≡◌, ℕ, List, [], ◌∷◌, ◌∙◌, ap, subst}
+use Rattle.std.proofs.Common.{◌≡◌, ℕ, [], ◌∷◌, ◌∙◌, ap, subst}
 use Rattle.disk.specs.Memory.{written}
 use Rattle.disk.specs.Stops.{Torn, Follows, Allows}
-use Rattle.store_text.specs.Header.{gate_at, open_byte}
+use Rattle.store_text.specs.Header.{gate_at}
 use Rattle.commit_images.specs.Keeping.{idle}
 use Rattle.commit_images.specs.Going.{some_image, all_written, step_gate, step_gate_synced, step_gate_shut}
 use Rattle.commit_images.proofs.Results.{on_err}

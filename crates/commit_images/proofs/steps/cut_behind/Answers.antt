@@ -1,4 +1,3 @@
-use Rattle.std.proofs.Common.{◌≡◌, ℕ, List, [], ◌∷◌, length, map, sym, ◌∙◌, ap, subst}
 use Rattle.commit_images.specs.Going.{some_image, cut_follows, step_preserved, step_still, step_on}
 use Rattle.commit_images.proofs.steps.cut_behind.Goals as goal
 

@@ -1,4 +1,4 @@
-use Rattle.std.proofs.Common.{◌≡◌, ℕ, List, [], ◌∷◌, ◌∙◌, ap, subst}
+use Rattle.std.proofs.Common.{◌≡◌, ℕ, [], ◌∷◌, ◌∙◌, ap, subst}
 use Rattle.disk.specs.Memory.{written}
 use Rattle.disk.specs.Stops.{Torn, Follows, Allows}
 use Rattle.store_text.specs.Header.{gate_at, open_byte}

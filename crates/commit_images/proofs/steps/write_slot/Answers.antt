@@ -1,4 +1,4 @@
-use Rattle.std.proofs.Common.{◌≡◌, ℕ, List, [], ◌∷◌, length, map, sym, ◌∙◌, ap, subst}
+use Rattle.std.proofs.Common.{◌≡◌, ℕ, List, length, sym, ◌∙◌, ap, subst}
 use Rattle.disk.specs.Memory.{written}
 use Rattle.disk.specs.Stops.{Torn, Follows}
 use Rattle.store_text.specs.Header.{slot_at}

@@ -1,7 +1,5 @@
-use Rattle.std.proofs.Common.{◌≡◌, ℕ, ◌<◌, length, map, take, ◌∙◌}
-use Rattle.disk.specs.Stops.{Within}
+use Rattle.std.proofs.Common.{◌∙◌}
 use Rattle.disk.specs.Moments.{passes_on}
-use Rattle.commit_images.specs.Writes.{piece_of, LeftBy}
 use Rattle.commit_images.specs.Written.{turn_takes, turn_leaves, turn_left}
 use Rattle.commit_images.proofs.writes.write_each.Goals as goal
 
