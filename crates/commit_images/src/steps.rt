@@ -60,9 +60,9 @@ pub fn write_extents<S: Saying, D: Disk>(disk: &mut D, extents: &[Block]) -> Res
     Ok(())
 }
 
-/// Writes the idle slot, with a generation and the place and the length of a record, while its gate is closed, and syncs. Each image on the way shows the last commit. Behind it
-/// the slot stands in each image, and what stood to be read before it, so that a commit whose extents were written is ready.
-/// Failed only where one of the two calls failed.
+/// Writes the idle slot, with a generation and the place and the length of a record in bytes, while its gate is closed, and
+/// syncs. Each image on the way shows the last commit. Behind it the slot stands in each image, and what stood to be read before
+/// it, so that a commit whose extents were written is ready. Failed only where one of the two calls failed.
 pub fn write_slot<S: Saying, D: Disk>(
     disk: &mut D,
     side: Side,

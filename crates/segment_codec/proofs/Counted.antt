@@ -53,6 +53,12 @@ pub long_enough : (columns : Columns) (bytes : List ℕ) → IsOldEncoding colum
 long_enough columns bytes old =
     let own = u32_text (length (all_scopes columns old.more)) in
     let rest = behind_count columns old.more in
-    omega (arith, ap length (old.text ∙ parts_are columns old.more),
-    length-append old_magic (u32_text columns.documents ++ (own ++ rest)), length-append (u32_text columns.documents) (own ++ rest), length-append own rest,
-    length-u32_text columns.documents, length-u32_text (length (all_scopes columns old.more)))
+    omega (
+      arith,
+      ap length (old.text ∙ parts_are columns old.more),
+      length-append old_magic (u32_text columns.documents ++ (own ++ rest)),
+      length-append (u32_text columns.documents) (own ++ rest),
+      length-append own rest,
+      length-u32_text columns.documents,
+      length-u32_text (length (all_scopes columns old.more)),
+    )
