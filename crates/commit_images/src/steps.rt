@@ -1,8 +1,8 @@
 //! The calls on a disk that make a commit, each as a step: what it keeps, and what a stop in it leaves.
 //!
 //! Their clauses are said of each last commit `active` under which the store keeps its images: where the disk tells its content
-//! behind the call, `KeepsCommit` before it gives a `Step` over it, both where it failed and where it didn't. Only closing and
-//! opening the gate are followed by a sync of their own and that of the slot; what extents are written is synced with the slot.
+//! behind the call, `KeepsCommit` before it gives a `Step` over it, both where it failed and where it didn't. Each but
+//! `write_extents` ends with a sync; what that wrote is synced with the slot.
 
 ghost use Rattle.std.specs.Prelude.{◌≡◌, ◌≤◌, ℕ, List, Option, Some, true, false, length, map, OnOk, OnErr};
 ghost use Rattle.io_edges.specs.Faults.{HasCause};
