@@ -1,5 +1,5 @@
 -- What the columns say of a document, and what its rows say of the columns.
-use Rattle.std.proofs.Common.{◌≡◌, ℕ, zero, suc, ◌+◌, ◌<◌, ◌≤◌, ◌==◌, nat_lt, Bool, true, false, List, [], ◌∷◌, length, map, filter, get_or, Option, Some, None, refl, sym, ap, subst, ◌∙◌, arith, eqb-true, eq-eqb}
+use Rattle.std.proofs.Common.{◌≡◌, ℕ, zero, suc, ◌<◌, ◌==◌, nat_lt, Bool, true, false, List, [], ◌∷◌, length, map, filter, get_or, Option, Some, None, refl, sym, ap, subst, ◌∙◌, arith, eqb-true, eq-eqb}
 use Rattle.std.specs.Prelude.{ℤ}
 use Rattle.std.specs.List.{All, AllByRecursion}
 use Rattle.std.proofs.lemmas.Bool.{false≢true, true≢false}
@@ -8,8 +8,8 @@ use Rattle.std.proofs.lemmas.List.{get_or-map, length-map}
 use Rattle.std.proofs.lemmas.List.Elements.{recursion_from_All}
 use Rattle.doc_values.specs.Values.{documents, values_of}
 use Rattle.mapping_body.proofs.Walks.{split}
-use Rattle.segment.specs.Flat.{has_some, values_at, words_at}
-use Rattle.segment_parts.specs.Agree.{IsWordAt, IsKeywordAt, IsNumberAt, IsTermOf}
+use Rattle.segment.specs.Flat.{values_at, words_at}
+use Rattle.segment_parts.specs.Agree.{IsTermOf}
 use Rattle.segment_parts.specs.Fields.{column_of}
 use Rattle.term_table.specs.declared.rows.TermRow.{TermRow}
 

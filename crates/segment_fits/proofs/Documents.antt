@@ -1,23 +1,21 @@
 -- A document is one of its generation exactly where its scope is known and the columns that it stands in are shown to it.
-use Rattle.std.proofs.Common.{◌≡◌, ℕ, zero, suc, ◌+◌, ◌<◌, ◌≤◌, Bool, true, false, List, [], ◌∷◌, length, map, get_or, slice_get, Some, refl, sym, ap, subst, ◌∙◌, arith}
+use Rattle.std.proofs.Common.{◌≡◌, ℕ, ◌<◌, ◌≤◌, Bool, List, [], ◌∷◌, length, map, get_or, slice_get, Some, sym, ap, subst, ◌∙◌, arith}
 use Rattle.std.specs.Prelude.{ℤ}
-use Rattle.std.specs.List.{All, AllByRecursion, range_with_len}
+use Rattle.std.specs.List.{All, AllByRecursion}
 use Rattle.std.proofs.lemmas.List.{get_or_default, get_or-map, length-map}
 use Rattle.std.proofs.lemmas.List.Elements.{All-from_recursion, recursion_from_All}
 use Rattle.std.proofs.lemmas.List.FromFn.{get_or-map-range_with_len, length-map-range_with_len}
 use Rattle.std.proofs.lemmas.Option.{slice_get-get_or}
 use Rattle.doc_values.specs.Values.{documents}
 use Rattle.flattener.specs.Fits.{IsDocument, IsFieldAt}
-use Rattle.flattener.specs.Flat.{has_numbers, is_keyword, is_text}
 use Rattle.mapping.specs.Mapping.{Mapping, scope_at}
-use Rattle.mapping_body.specs.declared.kind.Kind.{Kind}
-use Rattle.segment.specs.Flat.{FlatDocument, bytes_at, flat_of, values_at, words_at}
+use Rattle.segment.specs.Flat.{bytes_at, flat_of, values_at}
 use Rattle.segment_parts.specs.Agree.{AreColumns, IsTermOf}
 use Rattle.segment_parts.specs.Fields.{column_of}
 use Rattle.segment_parts.specs.Lists.{terms_of, postings_of}
 use Rattle.segment_parts.specs.declared.columns.Columns.{Columns}
 use Rattle.term_table.specs.declared.rows.TermRow.{TermRow}
-use Rattle.segment_fits.specs.Tested.{generation_at, standing_of, standings_of, no_standing, standing_at, has_form, AreColumnsShown, AreMarksShown, AreRowsShown, AreScopesKnown, IsField, IsShownTo, IsTextColumn, IsValueColumn}
+use Rattle.segment_fits.specs.Tested.{generation_at, standing_of, standings_of, no_standing, standing_at, has_form, AreColumnsShown, AreScopesKnown, IsField, IsShownTo, IsTextColumn, IsValueColumn}
 use Rattle.segment_fits.specs.declared.form.Form.{Form}
 use Rattle.segment_fits.specs.declared.form.Form.TheVariants.{Numbers, Keywords, Words}
 use Rattle.segment_fits.specs.declared.standing.Standing.{Standing}

@@ -1,5 +1,5 @@
 -- Lists of scopes that are blocks: one behind the other, and by other lists of the scopes around.
-use Rattle.std.proofs.Common.{◌≡◌, ◌⊎◌, inl, inr, ℕ, zero, suc, ◌+◌, ◌-◌, ◌<◌, ◌≤◌, Bool, true, false, ◌||◌, List, [], ◌∷◌, ◌++◌, length, get_or, Option, Some, None, IsSomeAnd, refl, sym, ap, subst, ◌∙◌, arith, eqb}
+use Rattle.std.proofs.Common.{◌≡◌, inl, inr, ℕ, zero, suc, ◌+◌, ◌-◌, ◌<◌, ◌≤◌, Bool, true, false, ◌||◌, List, [], ◌∷◌, ◌++◌, length, get_or, Option, Some, None, IsSomeAnd, refl, sym, ap, ◌∙◌, arith, eqb}
 use Rattle.std.specs.List.{All}
 use Rattle.std.proofs.lemmas.Bool.{cases_lt, true≢false}
 use Rattle.std.proofs.lemmas.List.{length-append, get_or_append_left, get_or-append-add}
@@ -89,14 +89,14 @@ blocks_first parents tree xs ys ends blocks = record {
         let is : scope_at xs last ≡ 0 = ends_at xs last ends there in
         elim (cases_lt doc last) [
           | inl before ↦ (
-              last,
-              record {
-                later = before;
-                within = omega (arith, there);
-                of_outer = is ∙ sym root;
-                first = λ between past earlier. ap (is_above parents (scope_at xs between)) root;
-              },
-            )
+            last,
+            record {
+              later = before;
+              within = omega (arith, there);
+              of_outer = is ∙ sym root;
+              first = λ between past earlier. ap (is_above parents (scope_at xs between)) root;
+            },
+          )
           | inr not_before ↦
               let same : doc ≡ last = omega (arith, not_before, there, h) in
               let none : enclosing parents (scope_at xs doc) ≡ None = ap (λ (k : ℕ). enclosing parents (scope_at xs k)) same ∙ ap (enclosing parents) is ∙ tree.root in

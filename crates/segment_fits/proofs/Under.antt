@@ -1,7 +1,7 @@
 -- Documents under their roots: each root has the documents behind the root before it, up to its own.
-use Rattle.std.proofs.Common.{◌≡◌, ℕ, zero, suc, ◌+◌, ◌<◌, ◌≤◌, ◌==◌, Bool, true, false, if◌then◌else◌, List, [], ◌∷◌, ◌++◌, Option, length, map, filter, get_or, refl, sym, ap, subst, ◌∙◌, append_assoc, append-nil, arith, eq-eqb, eqb-true}
+use Rattle.std.proofs.Common.{◌≡◌, ℕ, zero, suc, ◌+◌, ◌<◌, ◌≤◌, Bool, true, false, if◌then◌else◌, List, [], ◌∷◌, ◌++◌, Option, length, map, filter, get_or, refl, sym, ap, subst, ◌∙◌, append_assoc, append-nil, arith, eq-eqb, eqb-true}
 use Rattle.std.specs.List.{AllByRecursion, flat_map}
-use Rattle.std.proofs.lemmas.List.{length-append, map-append}
+use Rattle.std.proofs.lemmas.List.{map-append}
 use Rattle.block_bits.specs.Blocks.{IsBlocks}
 use Rattle.block_bits.specs.Scopes.{IsScopeTree}
 use Rattle.flattener.specs.Fits.{is_root}
@@ -84,8 +84,8 @@ module _ (P : FlatRoot → FlatDocument → Type 0) (r0 : FlatRoot) where
   under_by (flat ∷ flats) (root ∷ roots) each = (
     (each 0 (omega arith)).1,
     split (is_root flat)
-    (λ is. rw is (under_by flats roots (λ doc h. past_root flat flats root roots doc is (each (suc doc) (omega (arith, h))))))
-    (λ isnt. rw isnt (under_by flats (root ∷ roots) (λ doc h. past_other flat flats root roots doc isnt (each (suc doc) (omega (arith, h)))))),
+        (λ is. rw is (under_by flats roots (λ doc h. past_root flat flats root roots doc is (each (suc doc) (omega (arith, h))))))
+        (λ isnt. rw isnt (under_by flats (root ∷ roots) (λ doc h. past_other flat flats root roots doc isnt (each (suc doc) (omega (arith, h)))))),
   )
 
   to_root : (flat : FlatDocument) (flats : List FlatDocument) (root : FlatRoot) (roots : List FlatRoot) (doc : ℕ) → is_root flat ≡ true → P (get_or roots (roots_before doc flats) r0) (get_or flats doc no_document)

@@ -1,34 +1,28 @@
 -- A segment fits a mapping exactly where what is tested of it holds, given sources that are read back.
-use Rattle.std.proofs.Common.{◌≡◌, ℕ, zero, suc, ◌+◌, ◌-◌, ◌*◌, ◌<◌, ◌≤◌, ◌^◌, ◌==◌, Bool, true, false, List, [], ◌∷◌, ◌++◌, length, map, filter, take, get_or, Option, Some, None, IsSomeAnd, refl, sym, ap, subst, ◌∙◌, arith, eqb-true, inl, inr}
-use Rattle.std.specs.Prelude.{count_by}
-use Rattle.std.specs.List.{All, AllByRecursion, flat_map, range_with_len}
-use Rattle.std.proofs.lemmas.Bool.{cases_lt}
-use Rattle.std.proofs.lemmas.List.{get_or-map, length-map, map-append}
+use Rattle.std.proofs.Common.{◌≡◌, ℕ, ◌+◌, ◌-◌, ◌<◌, ◌≤◌, ◌^◌, List, [], ◌∷◌, length, get_or, Option, None, IsSomeAnd, refl, sym, ap, subst, ◌∙◌, arith, eqb-true}
+use Rattle.std.specs.List.{All, AllByRecursion, flat_map}
+use Rattle.std.proofs.lemmas.List.{get_or-map, map-append}
 use Rattle.std.proofs.lemmas.List.Elements.{All-from_recursion, recursion_from_All}
-use Rattle.std.proofs.lemmas.List.FromFn.{fill_by_all, get_or-map-range_with_len, length-map-range_with_len}
+use Rattle.std.proofs.lemmas.List.FromFn.{get_or-map-range_with_len, length-map-range_with_len}
 use Rattle.block_bits.specs.Blocks.{IsBlocks}
-use Rattle.block_bits.specs.Flags.{is_marked}
 use Rattle.block_bits.specs.Scopes.{IsScopeTree, enclosing}
 use Rattle.block_bits.specs.Seen.{scopes_seen}
-use Rattle.flattener.specs.Fits.{AreRootsOf, IsDocument, IsJoinOf, IsRootOf, IsSource, SegmentFits, is_root, parents_of}
+use Rattle.flattener.specs.Fits.{AreRootsOf, IsDocument, IsJoinOf, IsRootOf, IsSource, SegmentFits, parents_of}
 use Rattle.flattener.proofs.Nested.{enclosing_is, scopes_tree}
 use Rattle.mapping.specs.IsMapping.{IsMapping}
-use Rattle.mapping.specs.Mapping.{Mapping, around_of, outer}
+use Rattle.mapping.specs.Mapping.{Mapping, around_of}
 use Rattle.segment.specs.Flat.{FlatDocument, FlatRoot, flat_of, flat_root, flats_of, roots_of}
-use Rattle.segment.specs.Live.{root_of as block_root}
 use Rattle.segment_parts.specs.Agree.{AreColumns, HasParentId, IsId}
-use Rattle.segment_parts.specs.Parts.{root_flags}
 use Rattle.segment_parts.specs.declared.columns.Columns.{Columns}
 use Rattle.stored_sources.specs.Roots.{no_root, root_of}
-use Rattle.stored_sources.specs.declared.root.Root.{Root}
 use Rattle.tree_json.specs.Text.{compact}
 use Rattle.tree_json.specs.Value.{JsonValue}
-use Rattle.segment_fits.specs.Sources.{AreReadBack, IsReadBack}
-use Rattle.segment_fits.specs.Tested.{first_parents, generation_at, AreNested, AreRootsKnown, IsRootKnown, IsTested}
+use Rattle.segment_fits.specs.Sources.{AreReadBack}
+use Rattle.segment_fits.specs.Tested.{first_parents, generation_at, AreRootsKnown, IsTested}
 use Rattle.segment_fits.proofs.Documents.{to_documents, to_known, to_shown}
 use Rattle.segment_fits.proofs.Flags.{r0, before, count, flat_at, flats_long, generation_is, root_within, roots_long, scopes_within, AreScoped}
 use Rattle.segment_fits.proofs.Marked.{marked_some}
-use Rattle.segment_fits.proofs.Nesting.{AreAlike, blocks_alike, blocks_both}
+use Rattle.segment_fits.proofs.Nesting.{blocks_alike, blocks_both}
 use Rattle.segment_fits.proofs.Under.{scopes_of, roots_before, root_count, no_document, last_is_root, under_at, under_by, with_block, cut, AreOwn, AreUnder, IsCut, IsFront, IsUnderAt, LastIsRoot}
 
 -- ---- the scopes around, by a mapping and by its first scopes alone

@@ -1,4 +1,4 @@
-use Rattle.std.proofs.Common.{◌≡◌, ℕ, refl, sym, ◌∙◌}
+use Rattle.std.proofs.Common.{ℕ, refl, sym, ◌∙◌}
 use Rattle.std.proofs.lemmas.Bool.{false≢true}
 use Rattle.segment_fits.specs.Tested.{standing_at, IsShownTo}
 use Rattle.segment_fits.proofs.Loops.{mark_at, marks_all, marks_more}

@@ -1,4 +1,4 @@
-use Rattle.std.proofs.Common.{◌≡◌, List, sym, ap, subst, ◌∙◌}
+use Rattle.std.proofs.Common.{List, sym, subst, ◌∙◌}
 use Rattle.std.specs.List.{All}
 use Rattle.std.proofs.lemmas.Bool.{false≢true}
 use Rattle.stored_sources.specs.declared.root.Root.{Root}
@@ -21,7 +21,7 @@ returns c =
       λ holds.
           let back : AreReadBack c.args.segment.now = subst P c.sources.ensures.roots (c.in_ok-read.ensures.0 holds) in (
             segment_fits c.args.mapping.now c.scope_count-scopes.ensures.is_mapping c.args.segment.now c.docs-documents.ensures.agree c.scopes_are_of_documents.ensures.sets
-            c.scopes_are_of_documents.ensures.within c.scopes_are_of_documents.ensures.seen tests back,
+                c.scopes_are_of_documents.ensures.within c.scopes_are_of_documents.ensures.seen tests back,
             back,
           ),
       λ both. c.in_ok-read.ensures.1 (subst P (sym c.sources.ensures.roots) both.1),

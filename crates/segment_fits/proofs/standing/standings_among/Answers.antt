@@ -1,4 +1,4 @@
-use Rattle.std.proofs.Common.{◌≡◌, ℕ, ◌+◌, ◌<◌, List, [], ◌∷◌, ◌++◌, map, get_or, sym, ap, ◌∙◌, arith}
+use Rattle.std.proofs.Common.{◌≡◌, ℕ, ◌<◌, List, [], ◌∷◌, ◌++◌, map, get_or, sym, ap, ◌∙◌, arith}
 use Rattle.std.specs.List.{range_with_len}
 use Rattle.std.proofs.lemmas.List.FromFn.{map-range_with_len_more}
 use Rattle.segment.specs.Flat.{flat_of}
@@ -37,10 +37,10 @@ documents-preserved c =
     let generation : c.root_generation.result ≡ generation_at seg doc = c.root_generation.ensures ∙ ap (λ (k : ℕ). (root_of seg.roots k).generation) c.documents.invariant.1 in
     let front = map (standing_of seg) (range_with_len 0 doc) in (
       c.in_ok-push.ensures.items
-      ∙ ap (λ (xs : List Standing). let new : Standing = record { scope = c.scope_of-scope.result; generation = c.root_generation.result } in xs ++ new ∷ []) c.documents.invariant.0
-      ∙ ap (λ (s : ℕ). let new : Standing = record { scope = s; generation = c.root_generation.result } in front ++ new ∷ []) scope
-      ∙ ap (λ (g : ℕ). let new : Standing = record { scope = (flat_of seg doc).scope; generation = g } in front ++ new ∷ []) generation
-      ∙ sym (map-range_with_len_more (standing_of seg) 0 doc doc (omega arith)),
+          ∙ ap (λ (xs : List Standing). let new : Standing = record { scope = c.scope_of-scope.result; generation = c.root_generation.result } in xs ++ new ∷ []) c.documents.invariant.0
+          ∙ ap (λ (s : ℕ). let new : Standing = record { scope = s; generation = c.root_generation.result } in front ++ new ∷ []) scope
+          ∙ ap (λ (g : ℕ). let new : Standing = record { scope = (flat_of seg doc).scope; generation = g } in front ++ new ∷ []) generation
+          ∙ sym (map-range_with_len_more (standing_of seg) 0 doc doc (omega arith)),
       elim c.if-scope-eq0.branch [
         | then-scope-eq0 w ↦ omega (arith, w.root-is, c.documents.invariant.1, past_root seg own sets doc inside (sym scope ∙ w.if-scope-eq0.true))
         | else-scope-eq0 w ↦ omega (arith, w.root-is, c.documents.invariant.1, past_other seg own sets doc inside (λ zero_is. w.if-scope-eq0.false (scope ∙ zero_is)))
