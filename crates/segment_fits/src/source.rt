@@ -1,5 +1,5 @@
 //! Whether stored sources are read back as they were written.
-ghost use Rattle.std.specs.Prelude.{◌≡◌, ◌↔◌, ◌<◌, ℕ, List, length, IfOk, IsTrue};
+ghost use Rattle.std.specs.Prelude.{◌≡◌, ◌↔◌, ◌+◌, ◌<◌, ℕ, List, length, IfOk, IsTrue};
 ghost use Rattle.std.specs.List.{All};
 ghost use Rattle.stored_sources.specs.Roots.{source_of};
 ghost use Rattle.stored_sources.specs.declared.root.Root.{Root};
@@ -32,8 +32,8 @@ impl SourceReader {
         }
     }
 
-    /// Whether a root's source is the compact text of a JSON object (RFC 8259) that is read as that object. It counts as one
-    /// read of a source.
+    /// Whether a root's source is the compact text of a JSON object (RFC 8259) that is read as that object. It is one read of
+    /// a source.
     pub fn is_source<L: Ledger>(
         &mut self,
         alloc: Global,
@@ -42,11 +42,17 @@ impl SourceReader {
         steps: &mut Steps<L>,
     ) -> Result<bool, NoMemory>
         requires { root < length sources.now }
-        ensures { IfOk result (λ is. IsTrue is ↔ IsReadBack (source_of sources.now root)) }
+        ensures source { IfOk result (λ is. IsTrue is ↔ IsReadBack (source_of sources.now root)) }
+        ensures step { steps.new ≡ steps.old + 1 }
     {
         self.source.clear();
         sources.fetch(root, &mut self.source, steps)?;
-        is_read_back(alloc, &mut self.reader, self.source.as_slice(), &mut self.text)
+        is_read_back(
+            alloc,
+            &mut self.reader,
+            self.source.as_slice(),
+            &mut self.text,
+        )
     }
 }
 

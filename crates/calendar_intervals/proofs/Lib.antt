@@ -1,0 +1,3 @@
+mod Examples
+pub mod InOrder
+pub mod Ordinals
