@@ -2,6 +2,7 @@
 use disk::{Bytes, Choice, Disk, MemDisk, Pending, PieceChoice};
 use io_edges::{CallList, Failed, NoMemory};
 use std::alloc::Global;
+use std::process::Abort;
 use std::test::Fail;
 
 // What a stop leaves: `o` as if a write or cut hadn't been, `n` as if it was done, and any other byte is given for each byte of a range.
@@ -44,13 +45,10 @@ fn image(
     Ok(Some(disk.image(alloc, call, &kept)?))
 }
 
-#[test]
-fn stops(rt: HostRuntime) -> Result<(), Fail> {
-    let alloc = rt.alloc();
+// A disk whose calls 2 and 5 fail.
+fn recorded(rt: &impl Abort, alloc: Global) -> Result<MemDisk, Fail> {
     let bytes = Vec::from_slice(alloc, b"abcdef")?;
-    let mut fails = Vec::new(alloc);
-    fails.push(2)?;
-    fails.push(5)?;
+    let fails = vec![in alloc; 2, 5]?;
     let mut disk = MemDisk::over(alloc, bytes, CallList::of(fails))?;
     assert_eq!(rt; disk.write_at(1, b"XY"), Ok(())); // call 0
     assert_eq!(rt; disk.write_at(8, b"Z"), Ok(())); // call 1
@@ -60,34 +58,42 @@ fn stops(rt: HostRuntime) -> Result<(), Fail> {
     assert_eq!(rt; disk.sync(), Err(Failed)); // call 5
     assert_eq!(rt; disk.sync(), Ok(())); // call 6
     assert_eq!(rt; disk.write_at(5, b"!"), Ok(())); // call 7
-    assert_eq!(rt; disk.calls(), 8);
-    assert_eq!(rt; disk.no_room(), 0);
-    let rows: [(u64, &[u8], Option<&[u8]>); 16] = [
-        (0, b"o", Some(b"abcdef")),
-        (0, b"n", Some(b"aXYdef")),
-        (0, b"?", Some(b"a??def")),
-        (1, b"oo", Some(b"abcdef")),
-        (1, b"on", Some(b"abcdef\0\0Z")),
-        (1, b"?n", Some(b"a??def\0\0Z")),
-        (2, b"non", Some(b"wXYdef")),
-        (3, b"no?", Some(b"?XYdef")),
-        (4, b"noon", Some(b"aXYd")),
-        (4, b"nono", Some(b"wXYdef")),
-        (5, b"ooon", Some(b"abcd")),
-        (6, b"nnoo", Some(b"aXYdef\0\0Z")),
-        (7, b"o", Some(b"aXYd")),
-        (7, b"n", Some(b"aXYd\0!")),
-        (4, b"no", None),
-        (8, b"", None),
-    ];
-    'rows: for (call, kept, wanted) in rows {
-        let found = image(alloc, &disk, call, kept)?;
-        let same = match (&found, wanted) {
-            (Some(found), Some(wanted)) => found.as_slice() == wanted,
-            (None, None) => true,
-            _ => false,
+    assert_eq!(rt; (disk.calls(), disk.no_room()), (8, 0));
+    Ok(disk)
+}
+
+// Stops in calls of the recorded disk: the call, what the stop leaves of each write and cut, and the image, or - where that doesn't fit.
+const STOPS: &str = "\
+    0 o abcdef\n\
+    0 n aXYdef\n\
+    0 ? a??def\n\
+    1 oo abcdef\n\
+    1 on abcdef\0\0Z\n\
+    1 ?n a??def\0\0Z\n\
+    2 non wXYdef\n\
+    3 no? ?XYdef\n\
+    4 noon aXYd\n\
+    4 nono wXYdef\n\
+    4 no -\n\
+    5 ooon abcd\n\
+    6 nnoo aXYdef\0\0Z\n\
+    7 o aXYd\n\
+    7 n aXYd\0!";
+
+#[test]
+fn stops(rt: HostRuntime) -> Result<(), Fail> {
+    let disk = recorded(&rt, rt.alloc())?;
+    'stops: for line in STOPS.lines() {
+        let mut words = line.split_whitespace();
+        let (Some(call), Some(kept), Some(wanted)) = (words.next(), words.next(), words.next())
+        else {
+            panic!(rt; "a line has three words");
         };
-        assert!(rt; same, "a stop in call {call}");
+        let found = image(rt.alloc(), &disk, call.parse::<u64>()?, kept.as_bytes())?;
+        match found {
+            Some(found) => assert_eq!(rt; found.as_slice(), wanted.as_bytes(), "{line}"),
+            None => assert_eq!(rt; wanted, "-", "{line}"),
+        }
     }
     Ok(())
 }

@@ -171,10 +171,17 @@ fn a_record_is_changed(rt: HostRuntime) -> Result<(), Fail> {
     change_record(&rt, alloc, RECORD_BEFORE, &before)
 }
 
-/// Two bodies and a segment whose dead roots are 4 and another. The dynamic byte and that other index are to be put in.
-const GROWN: &[u8] = b"REC2\x07\0\0\0\0\0\0\0?\
-    \x02\0\0\0\x02\0\0\0{}\x02\0\0\0[]\
-    \x01\0\0\0\0\x08\0\0\0\0\0\0\x09\0\0\0\0\0\0\0\x02\0\0\0\x04\0\0\0?\0\0\0";
+/// A record of two bodies and a segment, with this dynamic byte, whose dead roots are 4 and that index.
+fn grown(alloc: Global, dynamic: u8, index: u8) -> Result<Vec<u8>, NoMemory> {
+    let mut bytes = Vec::new(alloc);
+    bytes.extend_from_slice(b"REC2\x07\0\0\0\0\0\0\0")?;
+    bytes.push(dynamic)?;
+    bytes.extend_from_slice(b"\x02\0\0\0\x02\0\0\0{}\x02\0\0\0[]\x01\0\0\0")?;
+    bytes.extend_from_slice(b"\0\x08\0\0\0\0\0\0\x09\0\0\0\0\0\0\0\x02\0\0\0\x04\0\0\0")?;
+    bytes.push(index)?;
+    bytes.extend_from_slice(b"\0\0\0")?;
+    Ok(bytes)
+}
 
 #[test]
 fn dead_roots_ascend(rt: HostRuntime) -> Result<(), Fail> {
@@ -187,10 +194,7 @@ fn dead_roots_ascend(rt: HostRuntime) -> Result<(), Fail> {
         (1, 3, false),
     ];
     'rows: for (dynamic, index, wanted) in rows {
-        let mut bytes = GROWN.to_vec(rt.alloc())?;
-        assert_eq!(rt; bytes.len(), 61);
-        bytes[12] = dynamic;
-        bytes[57] = index;
+        let bytes = grown(rt.alloc(), dynamic, index)?;
         let read = is_read(rt.alloc(), bytes.as_slice())?;
         assert_eq!(rt; read, wanted, "dynamic {dynamic}, index {index}");
     }
