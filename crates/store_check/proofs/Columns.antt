@@ -46,8 +46,8 @@ terms_ordered columns are =
     record {
       ascending = subst (IsStrictlySortedBy term_cmp) (sym (term_keys columns.terms)) are.parts.terms_are.ascending;
       some =
-        some_mapped row_group columns.terms
-        (each_then IsRow (λ (row : TermRow). 0 < length row.postings) (λ row is. is.some) columns.terms (recursion_from_All IsRow columns.terms are.parts.terms_are.rows_are));
+          some_mapped row_group columns.terms
+          (each_then IsRow (λ (row : TermRow). 0 < length row.postings) (λ row is. is.some) columns.terms (recursion_from_All IsRow columns.terms are.parts.terms_are.rows_are));
     }
 
 field_keys : {P Q : Type 0} (f : ℕ × P → ℕ × List Q) → ((column : ℕ × P) → (f column).0 ≡ column.0) → (columns : List (ℕ × P))
@@ -68,8 +68,8 @@ numbers_ordered columns are =
     record {
       ascending = sorted_from_strictly_increasing (keys columns.numbers) are.parts.numbers_are.ascending;
       some =
-        each_then IsNumberColumn (λ (column : ℕ × List (ℕ × List ℤ)). 0 < length column.1) (λ column is. is.entries.some) columns.numbers
-        (recursion_from_All IsNumberColumn columns.numbers are.parts.numbers_are.each);
+          each_then IsNumberColumn (λ (column : ℕ × List (ℕ × List ℤ)). 0 < length column.1) (λ column is. is.entries.some) columns.numbers
+          (recursion_from_All IsNumberColumn columns.numbers are.parts.numbers_are.each);
     }
 
 some_rows : (terms : List (ℕ × List ℕ)) (column : ℕ × List (ℕ × List ℕ)) → IsOrdinalColumn column → 0 < length (column_terms terms column).1
@@ -279,28 +279,28 @@ pub columns_once : (it : EntriesState) (one other : Columns) → AreKnown it one
 columns_once it one other known known' flats roots =
     let many : one.documents ≡ other.documents = sym known.long ∙ (ap length flats ∙ known'.long) in
     let terms : one.terms ≡ other.terms =
-      rows_once one.terms other.terms
-      (groups_once term_cmp term_order (map row_group one.terms) (map row_group other.terms) (terms_ordered one known.agree) (terms_ordered other known'.agree)
-      (λ term. known.say.terms_are term ∙ sym (known'.say.terms_are term))) in
+    rows_once one.terms other.terms
+    (groups_once term_cmp term_order (map row_group one.terms) (map row_group other.terms) (terms_ordered one known.agree) (terms_ordered other known'.agree)
+    (λ term. known.say.terms_are term ∙ sym (known'.say.terms_are term))) in
     let numbers : one.numbers ≡ other.numbers =
-      groups_once nat_cmp nat_order one.numbers other.numbers (numbers_ordered one known.agree) (numbers_ordered other known'.agree)
-      (λ field. known.say.numbers_are field ∙ sym (known'.say.numbers_are field)) in
+    groups_once nat_cmp nat_order one.numbers other.numbers (numbers_ordered one known.agree) (numbers_ordered other known'.agree)
+    (λ field. known.say.numbers_are field ∙ sym (known'.say.numbers_are field)) in
     let keywords : map (column_terms (terms_of one)) one.ordinals ≡ map (column_terms (terms_of other)) other.ordinals =
-      groups_once nat_cmp nat_order (map (column_terms (terms_of one)) one.ordinals) (map (column_terms (terms_of other)) other.ordinals)
-      (keywords_ordered one known.agree) (keywords_ordered other known'.agree)
-      (λ field. known.say.keywords_are field ∙ sym (known'.say.keywords_are field)) in
+    groups_once nat_cmp nat_order (map (column_terms (terms_of one)) one.ordinals) (map (column_terms (terms_of other)) other.ordinals)
+    (keywords_ordered one known.agree) (keywords_ordered other known'.agree)
+    (λ field. known.say.keywords_are field ∙ sym (known'.say.keywords_are field)) in
     let listed : terms_of one ≡ terms_of other = ap (map (λ (row : TermRow). row.term)) terms in
     let ordinals : one.ordinals ≡ other.ordinals =
-      map_once (column_terms (terms_of one)) (AreAllOf (terms_of one)) (column_once (terms_of one) known.agree.parts.terms_are.ascending) one.ordinals other.ordinals
-      (all_of one known.agree)
-      (subst (λ (ts : List (ℕ × List ℕ)). AllByRecursion (AreAllOf ts) other.ordinals) (sym listed) (all_of other known'.agree))
-      (keywords ∙ ap (λ (ts : List (ℕ × List ℕ)). map (column_terms ts) other.ordinals) (sym listed)) in
+    map_once (column_terms (terms_of one)) (AreAllOf (terms_of one)) (column_once (terms_of one) known.agree.parts.terms_are.ascending) one.ordinals other.ordinals
+    (all_of one known.agree)
+    (subst (λ (ts : List (ℕ × List ℕ)). AllByRecursion (AreAllOf ts) other.ordinals) (sym listed) (all_of other known'.agree))
+    (keywords ∙ ap (λ (ts : List (ℕ × List ℕ)). map (column_terms ts) other.ordinals) (sym listed)) in
     let texts : map marked_docs one.present ≡ map marked_docs other.present =
-      groups_once nat_cmp nat_order (map marked_docs one.present) (map marked_docs other.present) (texts_ordered one known.agree) (texts_ordered other known'.agree)
-      (λ field. known.say.texts_are field ∙ sym (known'.say.texts_are field)) in
+    groups_once nat_cmp nat_order (map marked_docs one.present) (map marked_docs other.present) (texts_ordered one known.agree) (texts_ordered other known'.agree)
+    (λ field. known.say.texts_are field ∙ sym (known'.say.texts_are field)) in
     let present : one.present ≡ other.present =
-      map_once marked_docs (λ (column : ℕ × List Bool). length column.1 ≡ one.documents) (mark_once one.documents) one.present other.present
-      (all_long one known.agree)
-      (subst (λ (n : ℕ). AllByRecursion (λ (column : ℕ × List Bool). length column.1 ≡ n) other.present) (sym many) (all_long other known'.agree))
-      texts in
+    map_once marked_docs (λ (column : ℕ × List Bool). length column.1 ≡ one.documents) (mark_once one.documents) one.present other.present
+    (all_long one known.agree)
+    (subst (λ (n : ℕ). AllByRecursion (λ (column : ℕ × List Bool). length column.1 ≡ n) other.present) (sym many) (all_long other known'.agree))
+    texts in
     columns_same one other many (sets_once one other known.agree known'.agree known.shown known'.shown many flats) (roots_once one.roots other.roots roots) terms ordinals numbers present

@@ -26,28 +26,28 @@ returns c = λ m fits fits' same.
     let agree' = c.docs-other_count.ensures.agree in
     let entries = with_blocks no_entries (blocks_of one) in
     let say =
-      c.segments_say_what_documents_carry.ensures m fits (each_flat IsOrdered one (λ doc. ordered one agree doc)) (each_flat IsSmall one (λ doc. small one agree doc))
-      (each_flat IsFit one (λ doc. fit one agree doc)) in
+    c.segments_say_what_documents_carry.ensures m fits (each_flat IsOrdered one (λ doc. ordered one agree doc)) (each_flat IsSmall one (λ doc. small one agree doc))
+    (each_flat IsFit one (λ doc. fit one agree doc)) in
     let say' =
-      c.segments_say_what_documents_carry-2.ensures m fits' (each_flat IsOrdered other (λ doc. ordered other agree' doc)) (each_flat IsSmall other (λ doc. small other agree' doc))
-      (each_flat IsFit other (λ doc. fit other agree' doc)) in
+    c.segments_say_what_documents_carry-2.ensures m fits' (each_flat IsOrdered other (λ doc. ordered other agree' doc)) (each_flat IsSmall other (λ doc. small other agree' doc))
+    (each_flat IsFit other (λ doc. fit other agree' doc)) in
     let flats : flats_of one ≡ flats_of other =
-      sym (c.fitting_segments_are_blocks.ensures.flats m one fits) ∙ (ap flats_in same ∙ c.fitting_segments_are_blocks.ensures.flats m other fits') in
+    sym (c.fitting_segments_are_blocks.ensures.flats m one fits) ∙ (ap flats_in same ∙ c.fitting_segments_are_blocks.ensures.flats m other fits') in
     let roots : roots_of one ≡ roots_of other =
-      sym (c.fitting_segments_are_blocks.ensures.same m one fits)
-      ∙ (ap (map (λ (block : BlockState). block.root)) same ∙ c.fitting_segments_are_blocks.ensures.same m other fits') in
+    sym (c.fitting_segments_are_blocks.ensures.same m one fits)
+    ∙ (ap (map (λ (block : BlockState). block.root)) same ∙ c.fitting_segments_are_blocks.ensures.same m other fits') in
     columns_once entries one other
-      (record {
-        agree = agree;
-        long = c.docs-count.ensures.flats ∙ c.docs-count.ensures.documents;
-        shown = record { sets = c.scopes_are_of_documents.ensures.sets; within = c.scopes_are_of_documents.ensures.within };
-        say = say;
-      })
-      (record {
-        agree = agree';
-        long = c.docs-other_count.ensures.flats ∙ c.docs-other_count.ensures.documents;
-        shown = record { sets = c.scopes_are_of_documents-2.ensures.sets; within = c.scopes_are_of_documents-2.ensures.within };
-        say = subst (λ (blocks : List BlockState). SayAtKeys (with_blocks no_entries blocks) other) (sym same) say';
-      })
-      flats
-      roots
+    (record {
+      agree = agree;
+      long = c.docs-count.ensures.flats ∙ c.docs-count.ensures.documents;
+      shown = record { sets = c.scopes_are_of_documents.ensures.sets; within = c.scopes_are_of_documents.ensures.within };
+      say = say;
+    })
+    (record {
+      agree = agree';
+      long = c.docs-other_count.ensures.flats ∙ c.docs-other_count.ensures.documents;
+      shown = record { sets = c.scopes_are_of_documents-2.ensures.sets; within = c.scopes_are_of_documents-2.ensures.within };
+      say = subst (λ (blocks : List BlockState). SayAtKeys (with_blocks no_entries blocks) other) (sym same) say';
+    })
+    flats
+    roots
