@@ -1,0 +1,4 @@
+mod Steps
+mod Lengths
+mod Rows
+mod Handed
