@@ -1,0 +1,80 @@
+-- What the first bytes of a file say is what the file says.
+use Rattle.std.proofs.Common.{◌≡◌, ℕ, ◌+◌, ◌==◌, ◌<◌, ◌≤◌, min, List, [], ◌∷◌, length, take, drop, Option, None, Some, refl, sym, ◌∙◌, ap, absurd, arith, subst}
+use Rattle.std.specs.Int.{from_le_bytes, w64}
+use Rattle.std.proofs.lemmas.List.{take-take, get_or-take, length-take}
+use Rattle.disk.specs.Torn.{same_before, bytes_inside}
+use Rattle.store_text.specs.Pieces.{Stands}
+use Rattle.store_text.specs.Header.{header_size, magic, slot_at, gate_at, open_byte, is_open, generation_in}
+use Rattle.store_text.specs.Read.{IsSlot, IsHeader}
+use Rattle.store_text.specs.declared.header.Side.{Side}
+use Rattle.store_text.specs.declared.header.Side.TheVariants.{A, B}
+use Rattle.store_text.specs.declared.header.Slot.{Slot}
+use Rattle.store_text.specs.declared.header.Header.{Header}
+use Rattle.commit_images.specs.Standing.{gate_inside}
+use Rattle.store_opening.specs.Beginning.{HasHeader, IsBeginning, IsOther, IsShort}
+
+-- ---- bytes and slots
+
+front_is : (n at count : ℕ) (file : List ℕ) → at + count ≤ n → take count (drop at (take n file)) ≡ take count (drop at file)
+front_is n at count file within = same_before at count n file (take n file) within (take-take n n file (omega arith))
+
+slot_inside : (side : Side) → slot_at side + 24 ≤ header_size
+slot_inside A = omega arith
+slot_inside B = omega arith
+
+front_open : (n : ℕ) (side : Side) (file : List ℕ) → header_size ≤ n → is_open side (take n file) ≡ is_open side file
+front_open n side file long =
+    ap (λ (byte : ℕ). byte == open_byte) (get_or-take n file (gate_at side) 0 (omega (arith, gate_inside side, long)))
+
+front_generation : (n : ℕ) (side : Side) (file : List ℕ) → header_size ≤ n → generation_in side (take n file) ≡ generation_in side file
+unfolding generation_in
+front_generation n side file long =
+    ap (from_le_bytes w64) (front_is n (slot_at side) 8 file (omega (arith, slot_inside side, long)))
+
+front_slot : (n : ℕ) (side : Side) (own : Slot) (file : List ℕ) → header_size ≤ n → IsSlot side own (take n file) → IsSlot side own file
+front_slot n side own file long is = record {
+  gate = is.gate ∙ front_open n side file long;
+  generation = is.generation ∙ front_generation n side file long;
+  stands = sym (front_is n (slot_at side) 24 file (omega (arith, slot_inside side, long))) ∙ is.stands;
+}
+
+-- ---- the beginning
+
+nil_is : (xs : List ℕ) → length xs ≡ 0 → xs ≡ []
+nil_is [] none = refl
+nil_is (x ∷ xs) none = absurd (omega (arith, none))
+
+begins_at : (n : ℕ) (file : List ℕ) (found : Option Header) → n ≡ min (length file) header_size → IsBeginning (take n file) found → IsBeginning file found
+begins_at n file None all is = nil_is file (omega (arith, ap length is, length-take n file, all))
+begins_at n file (Some header) all is =
+    let long : header_size ≤ n = omega (arith, is.long, length-take n file) in
+    record {
+      long = omega (arith, is.long, length-take n file);
+      magic_stands = sym (front_is n 0 8 file (omega (arith, long))) ∙ is.magic_stands;
+      says = record { a = front_slot n A header.a file long is.says.a; b = front_slot n B header.b file long is.says.b };
+    }
+
+other_at : (n : ℕ) (file : List ℕ) → n ≡ min (length file) header_size → IsOther (take n file) → IsOther file
+other_at n file all is = record {
+  some = λ (none : file ≡ []). is.some (nil_is (take n file) (omega (arith, length-take n file, ap length none)));
+  magic_lacks = λ (stands : Stands file magic).
+      is.magic_lacks (front_is n 0 8 file (omega (arith, bytes_inside 0 magic.bytes file (omega arith) stands, all)) ∙ stands);
+}
+
+short_at : (n : ℕ) (file : List ℕ) → n ≡ min (length file) header_size → IsShort (take n file) → IsShort file
+short_at n file all is = record {
+  magic_stands = sym (front_is n 0 8 file
+      (omega (arith, bytes_inside 0 magic.bytes (take n file) (omega arith) is.magic_stands, length-take n file))) ∙ is.magic_stands;
+  short = omega (arith, is.short, length-take n file, all);
+}
+
+-- the first bytes of a file, all of it or as many as a header has
+pub begins : (file front : List ℕ) (found : Option Header) → length front ≡ min (length file) header_size → take (length front) file ≡ front
+    → IsBeginning front found → IsBeginning file found
+begins file front found all whole is = begins_at (length front) file found all (subst (λ (it : List ℕ). IsBeginning it found) (sym whole) is)
+
+pub other : (file front : List ℕ) → length front ≡ min (length file) header_size → take (length front) file ≡ front → IsOther front → IsOther file
+other file front all whole is = other_at (length front) file all (subst (λ (it : List ℕ). IsOther it) (sym whole) is)
+
+pub short : (file front : List ℕ) → length front ≡ min (length file) header_size → take (length front) file ≡ front → IsShort front → IsShort file
+short file front all whole is = short_at (length front) file all (subst (λ (it : List ℕ). IsShort it) (sym whole) is)

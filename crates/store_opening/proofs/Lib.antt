@@ -1,0 +1,4 @@
+pub mod Looking
+pub mod Fronts
+pub mod Bodies
+pub mod Places
