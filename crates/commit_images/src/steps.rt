@@ -1,8 +1,8 @@
 //! The calls on a disk that make a commit, each as a step: what it keeps, and what a stop in it leaves.
 //!
 //! Their clauses are said of each last commit `active` under which the store keeps its images: where the disk tells its content
-//! behind the call, `KeepsCommit` before it gives a `Step` over it, both where it failed and where it didn't. Only closing and
-//! opening the gate are followed by a sync of their own and that of the slot; what extents are written is synced with the slot.
+//! behind the call, `KeepsCommit` before it gives a `Step` over it, both where it failed and where it didn't. Each but
+//! `write_extents` ends with a sync; what that wrote is synced with the slot.
 
 ghost use Rattle.std.specs.Prelude.{◌≡◌, ◌≤◌, ℕ, List, Option, Some, true, false, length, map, OnOk, OnErr};
 ghost use Rattle.io_edges.specs.Faults.{HasCause};
@@ -60,9 +60,9 @@ pub fn write_extents<S: Saying, D: Disk>(disk: &mut D, extents: &[Block]) -> Res
     Ok(())
 }
 
-/// Writes the idle slot, with a generation and the place and the length of a record, while its gate is closed, and syncs. Each image on the way shows the last commit. Behind it
-/// the slot stands in each image, and what stood to be read before it, so that a commit whose extents were written is ready.
-/// Failed only where one of the two calls failed.
+/// Writes the idle slot, with a generation and the place and the length of a record in bytes, while its gate is closed, and
+/// syncs. Each image on the way shows the last commit. Behind it the slot stands in each image, and what stood to be read before
+/// it, so that a commit whose extents were written is ready. Failed only where one of the two calls failed.
 pub fn write_slot<S: Saying, D: Disk>(
     disk: &mut D,
     side: Side,

@@ -1,5 +1,5 @@
 -- The number of scopes in the older form of a segment: four bytes, behind as many for the form and for the documents.
-use Rattle.std.proofs.Common.{◌≡◌, ℕ, zero, suc, ◌+◌, ◌<◌, ◌≤◌, ◌^◌, Bool, false, List, [], ◌∷◌, ◌++◌, length, drop, replicate, refl, sym, ap, ◌∙◌, append_assoc, arith}
+use Rattle.std.proofs.Common.{◌≡◌, ℕ, zero, suc, ◌+◌, ◌≤◌, Bool, false, List, [], ◌∷◌, ◌++◌, length, drop, replicate, refl, sym, ap, ◌∙◌, append_assoc, arith}
 use Rattle.std.specs.List.{flat_map}
 use Rattle.std.proofs.lemmas.List.{length-append, length-replicate}
 use Rattle.part_text.specs.Front.{first_u32}
@@ -7,7 +7,7 @@ use Rattle.part_text.specs.Reads.{first_u32-text, length-u32_text}
 use Rattle.part_text.specs.Text.{u32_text}
 use Rattle.segment_parts.specs.Text.{scope_text}
 use Rattle.segment_parts.specs.declared.columns.Columns.{Columns}
-use Rattle.segment.specs.Old.{old_magic, old_parts, old_text, behind_roots, no_documents, IsOldEncoding}
+use Rattle.segment.specs.Old.{old_magic, old_text, behind_roots, no_documents, IsOldEncoding}
 use Rattle.stored_sources.specs.Text.{old_root_text}
 
 drop_front : (xs ys : List ℕ) (n : ℕ) → n ≡ length xs → drop n (xs ++ ys) ≡ ys
@@ -53,6 +53,12 @@ pub long_enough : (columns : Columns) (bytes : List ℕ) → IsOldEncoding colum
 long_enough columns bytes old =
     let own = u32_text (length (all_scopes columns old.more)) in
     let rest = behind_count columns old.more in
-    omega (arith, ap length (old.text ∙ parts_are columns old.more),
-    length-append old_magic (u32_text columns.documents ++ (own ++ rest)), length-append (u32_text columns.documents) (own ++ rest), length-append own rest,
-    length-u32_text columns.documents, length-u32_text (length (all_scopes columns old.more)))
+    omega (
+      arith,
+      ap length (old.text ∙ parts_are columns old.more),
+      length-append old_magic (u32_text columns.documents ++ (own ++ rest)),
+      length-append (u32_text columns.documents) (own ++ rest),
+      length-append own rest,
+      length-u32_text columns.documents,
+      length-u32_text (length (all_scopes columns old.more)),
+    )

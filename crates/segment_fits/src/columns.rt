@@ -48,11 +48,7 @@ pub(crate) fn are_columns_shown(
     are_texts_shown(alloc, ground, segment)
 }
 
-fn are_numbers_shown(
-    alloc: Global,
-    ground: &Ground,
-    segment: &Segment,
-) -> Result<bool, NoMemory>
+fn are_numbers_shown(alloc: Global, ground: &Ground, segment: &Segment) -> Result<bool, NoMemory>
     requires ground { IsGround ground.now }
     requires documents { length ground.now.standings.now ≡ segment.now.documents }
     ensures { IfOk result (λ all. IsTrue all ↔ All (IsValueColumn ground.now.mapping.now ground.now.standings.now Form.Numbers) segment.now.numbers) }
@@ -67,11 +63,7 @@ fn are_numbers_shown(
     Ok(true)
 }
 
-fn are_keywords_shown(
-    alloc: Global,
-    ground: &Ground,
-    segment: &Segment,
-) -> Result<bool, NoMemory>
+fn are_keywords_shown(alloc: Global, ground: &Ground, segment: &Segment) -> Result<bool, NoMemory>
     requires ground { IsGround ground.now }
     requires documents { length ground.now.standings.now ≡ segment.now.documents }
     ensures { IfOk result (λ all. IsTrue all ↔ All (IsValueColumn ground.now.mapping.now ground.now.standings.now Form.Keywords) segment.now.ordinals) }
@@ -86,11 +78,7 @@ fn are_keywords_shown(
     Ok(true)
 }
 
-fn are_texts_shown(
-    alloc: Global,
-    ground: &Ground,
-    segment: &Segment,
-) -> Result<bool, NoMemory>
+fn are_texts_shown(alloc: Global, ground: &Ground, segment: &Segment) -> Result<bool, NoMemory>
     requires ground { IsGround ground.now }
     requires documents { length ground.now.standings.now ≡ segment.now.documents }
     ensures { IfOk result (λ all. IsTrue all ↔ All (IsTextColumn ground.now.mapping.now ground.now.standings.now) segment.now.present) }

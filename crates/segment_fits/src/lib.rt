@@ -7,13 +7,13 @@
 #![tactic(auto)]
 
 mod columns;
-mod fits;
+mod fitting;
 mod form;
 mod known;
 mod source;
 mod standing;
 
-pub use fits::fits;
+pub use fitting::fits;
 pub use source::SourceReader;
 use std::alloc::{AllocError, AllocFailed};
 

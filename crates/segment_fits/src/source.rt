@@ -46,7 +46,12 @@ impl SourceReader {
     {
         self.source.clear();
         sources.fetch(root, &mut self.source, steps)?;
-        is_read_back(alloc, &mut self.reader, self.source.as_slice(), &mut self.text)
+        is_read_back(
+            alloc,
+            &mut self.reader,
+            self.source.as_slice(),
+            &mut self.text,
+        )
     }
 }
 

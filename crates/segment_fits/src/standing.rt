@@ -28,6 +28,7 @@ pub(crate) fn standings(
     ensures standings { IfOk result (λ found. IfSome found (λ list. list.items ≡ standings_of segment.now)) }
     ensures none { IfOk result (λ found. IsNone found → ¬ AreNested mapping.now segment.now) }
 {
+    let _documents = segment.docs();
     let sets = segment.scopes();
     let count = sets.as_slice().len();
     if count > mapping.scope_count() as usize {

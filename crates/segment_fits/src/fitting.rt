@@ -20,12 +20,14 @@ use std::alloc::Global;
 pub fn fits(alloc: Global, mapping: &Mapping, segment: &Segment) -> Result<bool, NoMemory>
     ensures { IfOk result (λ fits. IsTrue fits ↔ SegmentFits mapping.now segment.now × AreReadBack segment.now) }
 {
-    let _count = mapping.scope_count();
+    let _scopes = mapping.scope_count();
     let _documents = segment.docs();
+    scopes_are_of_documents(segment);
     if !is_tested(alloc, mapping, segment)? {
         return Ok(false);
     }
-    are_read_back(alloc, &segment.sources())
+    let read = are_read_back(alloc, &segment.sources())?;
+    Ok(read)
 }
 
 /// Whether all but the sources is as the mapping has it.
@@ -52,6 +54,7 @@ fn are_documents_shown(
     requires few { length segment.now.scopes ≤ length mapping.now.scopes }
     ensures { IfOk result (λ are. IsTrue are ↔ AreScopesKnown mapping.now standings.now × AreColumnsShown mapping.now segment.now standings.now) }
 {
+    let _documents = segment.docs();
     scopes_are_of_documents(segment);
     if !are_scopes_known(mapping, standings) {
         return Ok(false);

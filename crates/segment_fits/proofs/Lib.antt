@@ -1,0 +1,9 @@
+mod Nesting
+mod Under
+mod Marked
+mod Flags
+mod Columned
+mod Documents
+mod Whole
+mod Loops
+mod Refused
