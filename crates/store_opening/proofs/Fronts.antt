@@ -1,7 +1,9 @@
 -- What the first bytes of a file say is what the file says.
-use Rattle.std.proofs.Common.{◌≡◌, ℕ, ◌+◌, ◌==◌, ◌<◌, ◌≤◌, min, List, [], ◌∷◌, length, take, drop, Option, None, Some, refl, sym, ◌∙◌, ap, absurd, arith, subst}
+use Rattle.std.proofs.Common.{◌≡◌, ℕ, ◌+◌, ◌==◌, ◌<◌, ◌≤◌, min, Bool, true, false, not, List, [], ◌∷◌, length, take, drop, Option, None, Some, refl, sym, ◌∙◌, ap, arith, subst}
 use Rattle.std.specs.Int.{from_le_bytes, w64}
+use Rattle.std.proofs.lemmas.Bool.{false≢true}
 use Rattle.std.proofs.lemmas.List.{take-take, get_or-take, length-take}
+use Rattle.disk.specs.Stops.{LenOf}
 use Rattle.disk.specs.Torn.{same_before, bytes_inside}
 use Rattle.store_text.specs.Pieces.{Stands}
 use Rattle.store_text.specs.Header.{header_size, magic, slot_at, gate_at, open_byte, is_open, generation_in}
@@ -11,6 +13,7 @@ use Rattle.store_text.specs.declared.header.Side.TheVariants.{A, B}
 use Rattle.store_text.specs.declared.header.Slot.{Slot}
 use Rattle.store_text.specs.declared.header.Header.{Header}
 use Rattle.commit_images.specs.Standing.{gate_inside}
+use Rattle.store_opening.specs.Looking.{IsRead}
 use Rattle.store_opening.specs.Beginning.{HasHeader, IsBeginning, IsOther, IsShort}
 
 -- ---- bytes and slots
@@ -78,3 +81,12 @@ other file front all whole is = other_at (length front) file all (subst (λ (it 
 
 pub short : (file front : List ℕ) → length front ≡ min (length file) header_size → take (length front) file ≡ front → IsShort front → IsShort file
 short file front all whole is = short_at (length front) file all (subst (λ (it : List ℕ). IsShort it) (sym whole) is)
+
+-- what was read of the first bytes
+pub begins_read : (file front : List ℕ) (found : Option Header) (whole : Bool) → not whole ≡ false → length front ≡ min (length file) header_size
+    → IsRead file 0 front whole → IsBeginning front found → IsBeginning file found
+begins_read file front found true ok all read is = begins file front found all read is
+begins_read file front found false ok all read is = absurd (false≢true (sym ok))
+
+pub len_known : (content : Option (List ℕ)) (file : List ℕ) (len : ℕ) → content ≡ Some file → LenOf content len → len ≡ length file
+len_known content file len known of_it = subst (λ (it : Option (List ℕ)). LenOf it len) known of_it

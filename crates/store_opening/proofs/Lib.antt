@@ -1,4 +1,6 @@
 pub mod Looking
 pub mod Fronts
-pub mod Bodies
+pub mod Grown
 pub mod Places
+pub mod Forms
+pub mod Found

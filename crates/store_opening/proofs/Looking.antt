@@ -1,8 +1,9 @@
 -- How calls that only look go on, one behind another, and what they read together.
-use Rattle.std.proofs.Common.{◌≡◌, ℕ, ◌+◌, ◌-◌, ◌<◌, ◌≤◌, List, ◌++◌, length, take, drop, Option, Result, Ok, Err, refl, sym, ◌∙◌, ap, subst, absurd, arith, length-drop}
+use Rattle.std.proofs.Common.{◌≡◌, ℕ, ◌+◌, ◌-◌, ◌<◌, ◌≤◌, List, ◌++◌, length, take, drop, Option, Some, Result, Ok, Err, IfSome, refl, sym, ◌∙◌, ap, subst, arith, length-drop}
 use Rattle.std.proofs.Math.Nat.{lt_of_not-le}
 use Rattle.std.proofs.Math.Seq.{take-add}
 use Rattle.std.proofs.lemmas.List.{take_all, drop-drop}
+use Rattle.std.specs.Vec.{Vec}
 use Rattle.disk.specs.Stops.{IsTold, Stays, Front, Within, Passes, Lasts}
 use Rattle.disk.specs.Torn.{bytes_inside}
 use Rattle.disk.specs.Moments.{passes_on, passes_with, passes_none}
@@ -35,13 +36,13 @@ pub looked_on : {first mid last : Option (List ℕ)} {before between after : Lis
     → Looked first mid before between start middle past now → Looked mid last between after middle end now since
     → Looked first last before after start end past since
 looked_on one two = record {
-  content = λ told. two.content told ∙ one.content (subst (λ it. IsTold it) (two.content told) told);
+  content = λ told. two.content told ∙ one.content (subst (λ (it : Option (List ℕ)). IsTold it) (two.content told) told);
   images = λ image is. one.images image (two.images image is);
-  allowed = λ told image is. two.allowed told image (one.allowed (subst (λ it. IsTold it) (two.content told) told) image is);
+  allowed = λ told image is. two.allowed told image (one.allowed (subst (λ (it : Option (List ℕ)). IsTold it) (two.content told) told) image is);
   time = passes_on one.time two.time (λ image is. is) one.images;
   lasts = λ told moment image earlier was.
       two.lasts told moment image (omega (arith, earlier, one.time.later))
-      (one.lasts (subst (λ it. IsTold it) (two.content told) told) moment image earlier was);
+      (one.lasts (subst (λ (it : Option (List ℕ)). IsTold it) (two.content told) told) moment image earlier was);
 }
 
 -- ---- what is read
@@ -86,3 +87,10 @@ too_far file at len some short = record { some = some; short = short }
 pub found_one : (file : List ℕ) (at len : ℕ) (bytes others : List ℕ) → IsFound file at len bytes → IsFound file at len others → bytes ≡ others
 found_one file at len bytes others one other =
     sym one.stands ∙ (ap (λ (n : ℕ). take n (drop at file)) (one.long ∙ sym other.long) ∙ other.stands)
+
+-- what is said of bytes that are there
+pub piece_of : {Z : Type 0} (content : Option (List ℕ)) (at len : ℕ) (found : Option (Vec ℕ Z)) (bytes : Vec ℕ Z) → found ≡ Some bytes
+    → IfSome found (λ it. (file : List ℕ) → content ≡ Some file → IsFound file at len it.items) → (file : List ℕ) → content ≡ Some file
+    → IsFound file at len bytes.items
+piece_of {Z = Y} content at len found bytes is piece =
+    subst (λ (o : Option (Vec ℕ Y)). IfSome o (λ it. (file : List ℕ) → content ≡ Some file → IsFound file at len it.items)) is piece

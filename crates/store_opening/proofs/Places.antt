@@ -33,8 +33,8 @@ places_of limit es are = λ k d inside. record {
   short = short_at limit (get_or es k d) (are.within k d inside);
 }
 
+beyond : (limit : ℕ) (es : List Extent) (k : ℕ) (e : Extent) → AreExtents limit es → k < length es → get_or es k e ≡ e → limit < end_of e → ⊥
+beyond limit es k e are inside is far = omega (arith, ap end_of is, are.within k e inside, far)
+
 pub none_beyond : (limit : ℕ) (es : List Extent) → AreExtents limit es → Any (λ (e : Extent). limit < end_of e) es → ⊥
-none_beyond limit es are any = beyond any.0 any.1 any.2 any.3 any.4
-  where
-    beyond : (k : ℕ) (e : Extent) → k < length es → get_or es k e ≡ e → limit < end_of e → ⊥
-    beyond k e inside is far = omega (arith, ap end_of is, are.within k e inside, far)
+none_beyond limit es are any = beyond limit es any.0 any.1 are any.2 any.3 any.4

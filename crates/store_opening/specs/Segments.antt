@@ -1,7 +1,9 @@
 -- Segments that stand in a file, in the form that is written or in that from before mappings grew.
-use Rattle.std.specs.Prelude.{◌≡◌, ℕ, ◌+◌, Bool, true, false, List, length}
+use Rattle.std.specs.Prelude.{◌≡◌, ℕ, ◌+◌, ◌<◌, ◌↔◌, Bool, true, false, List, length, slice_index_or, Contains}
+use Rattle.std.specs.List.{All}
 use Rattle.extent_pool.specs.declared.extent.Extent.{Extent}
 use Rattle.segment.specs.Encoding.{IsEncoding}
+use Rattle.segment.specs.Live.{LiveState, IsLiveOver}
 use Rattle.segment.specs.Old.{IsOldEncoding}
 use Rattle.segment_parts.specs.declared.columns.Columns.{Columns}
 use Rattle.segment_codec.specs.declared.CodecRefusal.{CodecRefusal}
@@ -30,3 +32,9 @@ pub record HasSegment (old : Bool) (scope_count : ℕ) (extent : Extent) (column
 abbrev pub refusal_of : CodecRefusal → OpenRefusal
 refusal_of NotASegment = Damaged
 refusal_of NoRoom = NoMemory
+
+-- the live bits of a segment of whose roots those of these indexes are dead
+pub record AreDead (columns : Columns) (live : LiveState) (dead : List ℕ) : Type 0 where
+  pub over : IsLiveOver columns live
+  pub inside : All (λ (root : ℕ). root < length columns.roots) dead
+  pub are : (root : ℕ) → root < length columns.roots → (slice_index_or live.roots root false ≡ false) ↔ Contains dead root

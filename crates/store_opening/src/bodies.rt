@@ -1,6 +1,6 @@
 //! The mapping that a record's bodies are texts of.
 
-ghost use Rattle.std.specs.Prelude.{◌≡◌, ◌∷◌, ◌++◌, [], ℕ, List, IfOk, IfSome, IsNone, IsTrue, ◌↔◌};
+ghost use Rattle.std.specs.Prelude.{◌≡◌, ◌∷◌, ◌++◌, ◌<◌, length, IfOk, IfSome, IsNone, IsTrue, ◌↔◌};
 ghost use Rattle.mapping.specs.Mapping.{Mapping};
 ghost use Rattle.mapping_growth.specs.Bodies.{AreBodies};
 ghost use Rattle.tree_json.specs.Text.{compact};
@@ -16,6 +16,7 @@ use tree_json::{Json, JsonReader, JsonRefusal, OutText, print};
 
 /// The mapping that grew by these bodies in order: each is the compact text of a value that is read back from it, and with each
 /// the bodies up to it are a mapping, within the limits of one. None exactly where there is no such mapping.
+#[tactic(auto, using(crate::proofs::Grown::grows))]
 pub fn mapping_of_bodies(
     alloc: Global,
     bodies: &[Body],
@@ -63,12 +64,14 @@ fn first_mapping(
 }
 
 /// The mapping with one body more, which adds something.
+#[tactic(auto, using(crate::proofs::Grown::refusals))]
 fn grown_mapping(
     alloc: Global,
     reader: &mut JsonReader,
     mapping: &Mapping,
     body: &[u8],
 ) -> Result<Option<Mapping>, NoMemory>
+    requires { 0 < length mapping.now.bodies }
     ensures mapping { IfOk result (λ found. IfSome found (IsGrownBy body.now mapping.now)) }
     ensures none { IfOk result (λ found. IsNone found → (m : Mapping) → IsGrownBy body.now mapping.now m → ⊥) }
 {

@@ -15,6 +15,7 @@ use std::alloc::Global;
 pub fn read_whole<D: Disk>(disk: &mut D, at: u64, into: &mut [u8]) -> Result<bool, Failed>
     requires { at + length into.old < 2 ^ 64 }
     ensures bytes { IfOk result (λ whole. (file : List ℕ) → D.content disk.old ≡ Some file → IsRead file at into.new whole) }
+    ensures long { length into.new ≡ length into.old }
     ensures content { OnOk result (D.content disk.new ≡ D.content disk.old) }
     ensures looked { Looked (D.content disk.old) (D.content disk.new) (D.image disk.old) (D.image disk.new) (D.moment disk.old) (D.moment disk.new) (D.image_since disk.old) (D.image_since disk.new) }
     ensures cause { HasCause (D.faults disk.old) (D.faults disk.new) result }
@@ -40,6 +41,7 @@ fn read_behind<D: Disk>(
     requires inside { done ≤ length into.old }
     requires below { at + length into.old < 2 ^ 64 }
     ensures bytes { IfOk result (λ count. (file : List ℕ) → D.content disk.old ≡ Some file → ReadsOn file at done count into.old into.new) }
+    ensures long { length into.new ≡ length into.old }
     ensures bound { IfOk result (λ count. done + count ≤ length into.new) }
     ensures content { OnOk result (D.content disk.new ≡ D.content disk.old) }
     ensures looked { Looked (D.content disk.old) (D.content disk.new) (D.image disk.old) (D.image disk.new) (D.moment disk.old) (D.moment disk.new) (D.image_since disk.old) (D.image_since disk.new) }

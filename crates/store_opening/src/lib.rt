@@ -6,6 +6,7 @@
 #![tactic(auto)]
 
 mod bodies;
+mod dead;
 mod device;
 mod extents;
 mod header;
@@ -14,6 +15,7 @@ mod refusal;
 mod segments;
 
 pub use bodies::mapping_of_bodies;
+pub use dead::live_bits_of;
 pub use device::{read_piece, read_whole};
 pub use extents::are_placed;
 pub use header::{counting_side, greatest_generation, read_header};

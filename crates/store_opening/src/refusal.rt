@@ -13,6 +13,12 @@ impl From<AllocError> for NoMemory {
     }
 }
 
+impl From<segment::NoMemory> for NoMemory {
+    fn from(_: segment::NoMemory) -> NoMemory {
+        NoMemory
+    }
+}
+
 impl From<tree_json::NoMemory> for NoMemory {
     fn from(_: tree_json::NoMemory) -> NoMemory {
         NoMemory

@@ -4,7 +4,7 @@ ghost use Rattle.std.specs.Prelude.{◌≡◌, ℕ, List, Some, IfOk, OnOk, IsEr
 ghost use Rattle.disk.specs.Stops.{LenOf};
 ghost use Rattle.segment_parts.specs.declared.columns.Columns.{Columns};
 ghost use Rattle.store_opening.specs.Looking.{Looked, HasOpenCause};
-ghost use Rattle.store_opening.specs.Segments.{HasSegment, IsSegmentText};
+ghost use Rattle.store_opening.specs.Segments.{HasSegment, IsOldText, IsSegmentText};
 
 use crate::device::read_piece;
 use crate::refusal::OpenRefusal;
@@ -51,10 +51,25 @@ fn segment_of(
     ensures fault { IsErrOf result OpenRefusal.DiskFault → ⊥ }
     ensures not_a_store { IsErrOf result OpenRefusal.NotAStore → ⊥ }
 {
-    if !old {
-        return Ok(decode(alloc, Bytes::of(bytes))?);
+    if old {
+        Ok(old_segment_of(alloc, bytes, scope_count)?)
+    } else {
+        Ok(decode(alloc, Bytes::of(bytes))?)
     }
-    if old_scope_count(bytes.as_slice()) != Some(scope_count) {
+}
+
+/// The segment that bytes of the form from before mappings grew are the text of, with so many scopes.
+#[tactic(auto, using(crate::proofs::Forms::forms))]
+fn old_segment_of(alloc: Global, bytes: Vec<u8>, scope_count: u32) -> Result<Segment, OpenRefusal>
+    ensures segment { IfOk result (λ segment. IsOldText scope_count segment bytes.items) }
+    ensures damaged { IsErrOf result OpenRefusal.Damaged → (columns : Columns) → IsOldText scope_count columns bytes.items → ⊥ }
+    ensures fault { IsErrOf result OpenRefusal.DiskFault → ⊥ }
+    ensures not_a_store { IsErrOf result OpenRefusal.NotAStore → ⊥ }
+{
+    let Some(count) = old_scope_count(bytes.as_slice()) else {
+        return Err(OpenRefusal::Damaged);
+    };
+    if count != scope_count {
         return Err(OpenRefusal::Damaged);
     }
     Ok(decode_old(alloc, Bytes::of(bytes))?)
