@@ -1,15 +1,20 @@
 -- How a mapping grows by the values that bodies are texts of.
-use Rattle.std.proofs.Common.{◌≡◌, ℕ, ◌+◌, ◌<◌, ◌≤◌, Bool, true, false, List, [], ◌∷◌, ◌++◌, length, get_or, drop, Option, None, Some, refl, sym, ◌∙◌, ap, subst, arith, append_assoc, append-nil, length-append}
+use Rattle.std.proofs.Common.{◌≡◌, ℕ, ◌+◌, ◌-◌, ◌<◌, ◌≤◌, Bool, true, false, List, [], ◌∷◌, ◌++◌, length, get_or, take, drop, Option, None, Some, IfSome, IsNone, refl, sym, ◌∙◌, ap, subst, arith, append_assoc, append-nil, length-append, length-drop}
 use Rattle.std.specs.List.{list_all, AllZip}
 use Rattle.std.proofs.lemmas.Bool.{false≢true}
 use Rattle.std.proofs.Math.ListN.{drop_of_length-le}
-use Rattle.std.proofs.lemmas.List.{drop_more}
+use Rattle.std.proofs.lemmas.List.{drop_more, take_all}
 use Rattle.std.proofs.lemmas.List.Folds.{list_all-append}
 use Rattle.mapping.specs.Mapping.{Mapping, mapping_of}
+use Rattle.mapping.specs.Growth.{IsGrown}
+use Rattle.mapping.specs.declared.mapping.Growth.{Growth}
+use Rattle.mapping.specs.declared.mapping.Growth.TheVariants.{Same}
 use Rattle.mapping_body.specs.Body.{is_body}
 use Rattle.mapping_growth.specs.Bodies.{AreBodies, AreNext, IsNext, adds, conflict_of, exceeded}
 use Rattle.tree_json.specs.Reading.{Reading, bad_json, fraction, value}
 use Rattle.tree_json.specs.Value.{JsonValue}
+use Rattle.tree_json.specs.View.{view}
+use Rattle.tree_json.specs.declared.value.Json.{Json}
 use Rattle.store_opening.specs.Read.{IsTextOf, AreGrown, IsFirst, IsGrownBy, IsMappingOf}
 
 -- ---- one body more
@@ -59,6 +64,14 @@ unfolding valued
 same_value body v w is it = ap (valued v) (sym is.reads ∙ it.reads)
 
 -- ---- refusals
+
+pub value_text : (body : List ℕ) (found : Option Json) (v : Json) → found ≡ Some v → IfSome found (λ it. IsTextOf (view it) body) → IsTextOf (view v) body
+value_text body found v is text = subst (λ (it : Option Json). IfSome it (λ x. IsTextOf (view x) body)) is text
+
+pub adds_none : (m : Mapping) (v : JsonValue) (growth : Growth) → growth ≡ Same → IsGrown m v growth → adds m.bodies v ≡ false
+adds_none m v growth is grown =
+    let same : IsGrown m v Same = subst (λ (it : Growth). IsGrown m v it) is grown in
+    same.2
 
 -- a body that adds nothing is none of a mapping
 pub not_same : (body : List ℕ) (old new : Mapping) (v : JsonValue) → 0 < length old.bodies → IsTextOf v body → adds old.bodies v ≡ false
@@ -211,5 +224,18 @@ grows_end bodies rest index m new dynamic end grows is =
     going_end bodies grows.now dynamic new grows.all
     (subst (λ (it : List (List ℕ)). Going bodies it grows.now) (drop_of_length-le rest end) grows.going)
     (is ∙ ap (λ (it : Mapping). mapping_of it.bodies dynamic) grows.says)
+
+pub bodies_are : (bodies : List (List ℕ)) (d first : List ℕ) → 1 ≤ length bodies → first ≡ d → d ≡ get_or bodies 0 d
+    → bodies ≡ first ∷ take (length bodies - 1) (drop 1 bodies)
+bodies_are bodies d first some same is =
+    drop_more bodies 0 d (omega (arith, some))
+    ∙ (ap (λ (it : List ℕ). it ∷ drop 1 bodies) (sym (same ∙ is))
+    ∙ ap (λ (it : List (List ℕ)). first ∷ it) (sym (take_all (length bodies - 1) (drop 1 bodies) (omega (arith, length-drop 1 bodies)))))
+
+pub none_of : {X : Type 0} (found : Option X) → found ≡ None → IsNone found
+none_of {X = Y} found is = subst (λ (o : Option Y). IsNone o) (sym is) refl
+
+pub some_of : {X : Type 0} (P : X → Type 0) (found : Option X) (x : X) → found ≡ Some x → IfSome found P → P x
+some_of {X = Y} P found x is all = subst (λ (o : Option Y). IfSome o P) is all
 
 pub ruleset grows = (grows_start, grows_some, grows_on, grows_none, first_none, grows_end)

@@ -4,3 +4,4 @@ pub mod Grown
 pub mod Places
 pub mod Forms
 pub mod Found
+pub mod Each

@@ -3,7 +3,7 @@ use Rattle.std.proofs.Common.{◌≡◌, ℕ, ◌+◌, ◌-◌, ◌<◌, ◌≤�
 use Rattle.std.proofs.Math.Nat.{lt_of_not-le}
 use Rattle.std.proofs.Math.Seq.{take-add}
 use Rattle.std.proofs.lemmas.List.{take_all, drop-drop}
-use Rattle.std.specs.Vec.{Vec}
+use Rattle.std.specs.Global.{Vec}
 use Rattle.disk.specs.Stops.{IsTold, Stays, Front, Within, Passes, Lasts}
 use Rattle.disk.specs.Torn.{bytes_inside}
 use Rattle.disk.specs.Moments.{passes_on, passes_with, passes_none}
@@ -89,8 +89,8 @@ found_one file at len bytes others one other =
     sym one.stands ∙ (ap (λ (n : ℕ). take n (drop at file)) (one.long ∙ sym other.long) ∙ other.stands)
 
 -- what is said of bytes that are there
-pub piece_of : {Z : Type 0} (content : Option (List ℕ)) (at len : ℕ) (found : Option (Vec ℕ Z)) (bytes : Vec ℕ Z) → found ≡ Some bytes
+pub piece_of : (content : Option (List ℕ)) (at len : ℕ) (found : Option (Vec ℕ)) (bytes : Vec ℕ) → found ≡ Some bytes
     → IfSome found (λ it. (file : List ℕ) → content ≡ Some file → IsFound file at len it.items) → (file : List ℕ) → content ≡ Some file
     → IsFound file at len bytes.items
-piece_of {Z = Y} content at len found bytes is piece =
-    subst (λ (o : Option (Vec ℕ Y)). IfSome o (λ it. (file : List ℕ) → content ≡ Some file → IsFound file at len it.items)) is piece
+piece_of content at len found bytes is piece =
+    subst (λ (o : Option (Vec ℕ)). IfSome o (λ it. (file : List ℕ) → content ≡ Some file → IsFound file at len it.items)) is piece

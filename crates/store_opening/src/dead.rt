@@ -32,9 +32,15 @@ fn are_below(count: u32, indexes: &[u32]) -> bool
     ensures { IsTrue result ↔ All (λ index. index < count) indexes.now }
 {
     'indexes: for index in indexes {
-        if *index >= count {
+        if !is_below(count, *index) {
             return false;
         }
     }
     true
+}
+
+fn is_below(count: u32, index: u32) -> bool
+    ensures { IsTrue result ↔ index < count }
+{
+    index < count
 }

@@ -2,6 +2,7 @@
 
 ghost use Rattle.std.specs.Prelude.{◌≡◌, ℕ, List, Some, IfOk, OnOk, IsErrOf};
 ghost use Rattle.disk.specs.Stops.{LenOf};
+ghost use Rattle.segment.specs.Old.{IsOldEncoding};
 ghost use Rattle.segment_parts.specs.declared.columns.Columns.{Columns};
 ghost use Rattle.store_opening.specs.Looking.{Looked, HasOpenCause};
 ghost use Rattle.store_opening.specs.Segments.{HasSegment, IsOldText, IsSegmentText};
@@ -11,7 +12,7 @@ use crate::refusal::OpenRefusal;
 use disk::Disk;
 use extent_pool::Extent;
 use segment::{Bytes, Segment};
-use segment_codec::{decode, decode_old, old_scope_count};
+use segment_codec::{CodecRefusal, decode, decode_old, old_scope_count};
 use std::alloc::Global;
 
 /// The segment whose bytes stand at an extent of the file, whose length is known. They are read once, into the vector that the
@@ -66,11 +67,26 @@ fn old_segment_of(alloc: Global, bytes: Vec<u8>, scope_count: u32) -> Result<Seg
     ensures fault { IsErrOf result OpenRefusal.DiskFault → ⊥ }
     ensures not_a_store { IsErrOf result OpenRefusal.NotAStore → ⊥ }
 {
-    let Some(count) = old_scope_count(bytes.as_slice()) else {
-        return Err(OpenRefusal::Damaged);
-    };
-    if count != scope_count {
-        return Err(OpenRefusal::Damaged);
+    match old_scope_count(bytes.as_slice()) {
+        Some(count) => if count == scope_count {
+            Ok(decoded_old(alloc, bytes)?)
+        } else {
+            Err(OpenRefusal::Damaged)
+        },
+        None => Err(OpenRefusal::Damaged),
     }
-    Ok(decode_old(alloc, Bytes::of(bytes))?)
+}
+
+/// The segment that bytes of the form from before mappings grew are the text of, with as many scopes as they have.
+fn decoded_old(alloc: Global, bytes: Vec<u8>) -> Result<Segment, OpenRefusal>
+    ensures segment { IfOk result (λ segment. IsOldEncoding segment bytes.items) }
+    ensures damaged { IsErrOf result OpenRefusal.Damaged → (columns : Columns) → IsOldEncoding columns bytes.items → ⊥ }
+    ensures fault { IsErrOf result OpenRefusal.DiskFault → ⊥ }
+    ensures not_a_store { IsErrOf result OpenRefusal.NotAStore → ⊥ }
+{
+    match decode_old(alloc, Bytes::of(bytes)) {
+        Ok(segment) => Ok(segment),
+        Err(CodecRefusal::NotASegment) => Err(OpenRefusal::Damaged),
+        Err(CodecRefusal::NoMemory) => Err(OpenRefusal::NoMemory),
+    }
 }
