@@ -57,30 +57,10 @@ begins_at n file (Some header) all is =
       says = record { a = front_slot n A header.a file long is.says.a; b = front_slot n B header.b file long is.says.b };
     }
 
-other_at : (n : ℕ) (file : List ℕ) → n ≡ min (length file) header_size → IsOther (take n file) → IsOther file
-other_at n file all is = record {
-  some = λ (none : file ≡ []). is.some (nil_is (take n file) (omega (arith, length-take n file, ap length none)));
-  magic_lacks = λ (stands : Stands file magic).
-      is.magic_lacks (front_is n 0 8 file (omega (arith, bytes_inside 0 magic.bytes file (omega arith) stands, all)) ∙ stands);
-}
-
-short_at : (n : ℕ) (file : List ℕ) → n ≡ min (length file) header_size → IsShort (take n file) → IsShort file
-short_at n file all is = record {
-  magic_stands = sym (front_is n 0 8 file
-      (omega (arith, bytes_inside 0 magic.bytes (take n file) (omega arith) is.magic_stands, length-take n file))) ∙ is.magic_stands;
-  short = omega (arith, is.short, length-take n file, all);
-}
-
 -- the first bytes of a file, all of it or as many as a header has
 pub begins : (file front : List ℕ) (found : Option Header) → length front ≡ min (length file) header_size → take (length front) file ≡ front
     → IsBeginning front found → IsBeginning file found
 begins file front found all whole is = begins_at (length front) file found all (subst (λ (it : List ℕ). IsBeginning it found) (sym whole) is)
-
-pub other : (file front : List ℕ) → length front ≡ min (length file) header_size → take (length front) file ≡ front → IsOther front → IsOther file
-other file front all whole is = other_at (length front) file all (subst (λ (it : List ℕ). IsOther it) (sym whole) is)
-
-pub short : (file front : List ℕ) → length front ≡ min (length file) header_size → take (length front) file ≡ front → IsShort front → IsShort file
-short file front all whole is = short_at (length front) file all (subst (λ (it : List ℕ). IsShort it) (sym whole) is)
 
 -- what was read of the first bytes
 pub begins_read : (file front : List ℕ) (found : Option Header) (whole : Bool) → not whole ≡ false → length front ≡ min (length file) header_size

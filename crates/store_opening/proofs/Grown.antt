@@ -19,34 +19,12 @@ use Rattle.store_opening.specs.Read.{IsTextOf, AreGrown, IsFirst, IsGrownBy, IsM
 
 -- ---- one body more
 
-next_more : (before rest : List JsonValue) (v : JsonValue) → AreNext before rest → IsNext (before ++ rest) v → AreNext before (rest ++ v ∷ [])
-next_more before [] v are is = (subst (λ (bs : List JsonValue). IsNext bs v) (append-nil before) is, tt)
-next_more before (b ∷ rest) v are is =
-    (are.0, next_more (before ++ b ∷ []) rest v are.1 (subst (λ (bs : List JsonValue). IsNext bs v) (sym (append_assoc before (b ∷ []) rest)) is))
-
 next_last : (before rest : List JsonValue) (v : JsonValue) → AreNext before (rest ++ v ∷ []) → IsNext (before ++ rest) v
 next_last before [] v are = subst (λ (bs : List JsonValue). IsNext bs v) (sym (append-nil before)) are.0
 next_last before (b ∷ rest) v are =
     subst (λ (bs : List JsonValue). IsNext bs v) (append_assoc before (b ∷ []) rest) (next_last (before ++ b ∷ []) rest v are.1)
 
--- values that are bodies of a mapping are so with one more, where it has its form, agrees and adds something within the limits
-pub bodies_more : (bs : List JsonValue) (v : JsonValue) → AreBodies bs → is_body v ≡ true → conflict_of bs v ≡ None → adds bs v ≡ true
-    → exceeded (bs ++ v ∷ []) ≡ None → AreBodies (bs ++ v ∷ [])
-bodies_more [] v are form agrees more limits = absurd (omega (arith, are.some))
-bodies_more (b ∷ bs) v are form agrees more limits = record {
-  some = omega arith;
-  forms = list_all-append is_body (b ∷ bs) (v ∷ []) ∙ rw (are.forms, form) refl;
-  next = next_more (b ∷ []) bs v are.next (record { agrees = agrees; adds_more = more });
-  limits = limits;
-}
-
-list_all_last : (bs : List JsonValue) (v : JsonValue) → list_all is_body (bs ++ v ∷ []) ≡ true → is_body v ≡ true
-list_all_last bs v all = grind (arith, all, list_all-append is_body bs (v ∷ []))
-
--- and only then
-pub last_body : (bs : List JsonValue) (v : JsonValue) → AreBodies (bs ++ v ∷ []) → is_body v ≡ true
-last_body bs v are = list_all_last bs v are.forms
-
+-- the last of values that are bodies of a mapping agrees with those before it and adds something
 pub last_next : (bs : List JsonValue) (v : JsonValue) → 0 < length bs → AreBodies (bs ++ v ∷ []) → IsNext bs v
 last_next [] v some are = absurd (omega (arith, some))
 last_next (b ∷ bs) v some are = next_last (b ∷ []) bs v are.next
