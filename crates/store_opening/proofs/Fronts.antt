@@ -1,20 +1,19 @@
 -- What the first bytes of a file say is what the file says.
-use Rattle.std.proofs.Common.{◌≡◌, ℕ, ◌+◌, ◌==◌, ◌<◌, ◌≤◌, min, Bool, true, false, not, List, [], ◌∷◌, length, take, drop, Option, None, Some, refl, sym, ◌∙◌, ap, arith, subst}
+use Rattle.std.proofs.Common.{◌≡◌, ℕ, ◌+◌, ◌==◌, ◌≤◌, min, Bool, true, false, not, List, [], ◌∷◌, length, take, drop, Option, None, Some, refl, sym, ◌∙◌, ap, arith, subst}
 use Rattle.std.specs.Int.{from_le_bytes, w64}
 use Rattle.std.proofs.lemmas.Bool.{false≢true}
 use Rattle.std.proofs.lemmas.List.{take-take, get_or-take, length-take}
 use Rattle.disk.specs.Stops.{LenOf}
-use Rattle.disk.specs.Torn.{same_before, bytes_inside}
-use Rattle.store_text.specs.Pieces.{Stands}
-use Rattle.store_text.specs.Header.{header_size, magic, slot_at, gate_at, open_byte, is_open, generation_in}
-use Rattle.store_text.specs.Read.{IsSlot, IsHeader}
+use Rattle.disk.specs.Torn.{same_before}
+use Rattle.store_text.specs.Header.{header_size, slot_at, gate_at, open_byte, is_open, generation_in}
+use Rattle.store_text.specs.Read.{IsSlot}
 use Rattle.store_text.specs.declared.header.Side.{Side}
 use Rattle.store_text.specs.declared.header.Side.TheVariants.{A, B}
 use Rattle.store_text.specs.declared.header.Slot.{Slot}
 use Rattle.store_text.specs.declared.header.Header.{Header}
 use Rattle.commit_images.specs.Standing.{gate_inside}
 use Rattle.store_opening.specs.Looking.{IsRead}
-use Rattle.store_opening.specs.Beginning.{HasHeader, IsBeginning, IsOther, IsShort}
+use Rattle.store_opening.specs.Beginning.{IsBeginning}
 
 -- ---- bytes and slots
 

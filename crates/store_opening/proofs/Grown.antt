@@ -1,16 +1,14 @@
 -- How a mapping grows by the values that bodies are texts of.
-use Rattle.std.proofs.Common.{◌≡◌, ℕ, ◌+◌, ◌-◌, ◌<◌, ◌≤◌, Bool, true, false, List, [], ◌∷◌, ◌++◌, length, get_or, take, drop, Option, None, Some, IfSome, IsNone, refl, sym, ◌∙◌, ap, subst, arith, append_assoc, append-nil, length-append, length-drop}
-use Rattle.std.specs.List.{list_all, AllZip}
+use Rattle.std.proofs.Common.{◌≡◌, ℕ, ◌+◌, ◌-◌, ◌<◌, ◌≤◌, Bool, false, List, [], ◌∷◌, ◌++◌, length, get_or, take, drop, Option, None, Some, IfSome, IsNone, refl, sym, ◌∙◌, ap, subst, arith, append_assoc, append-nil, length-append, length-drop}
+use Rattle.std.specs.List.{AllZip}
 use Rattle.std.proofs.lemmas.Bool.{false≢true}
 use Rattle.std.proofs.Math.ListN.{drop_of_length-le}
 use Rattle.std.proofs.lemmas.List.{drop_more, take_all}
-use Rattle.std.proofs.lemmas.List.Folds.{list_all-append}
 use Rattle.mapping.specs.Mapping.{Mapping, mapping_of}
 use Rattle.mapping.specs.Growth.{IsGrown}
 use Rattle.mapping.specs.declared.mapping.Growth.{Growth}
 use Rattle.mapping.specs.declared.mapping.Growth.TheVariants.{Same}
-use Rattle.mapping_body.specs.Body.{is_body}
-use Rattle.mapping_growth.specs.Bodies.{AreBodies, AreNext, IsNext, adds, conflict_of, exceeded}
+use Rattle.mapping_growth.specs.Bodies.{AreBodies, AreNext, IsNext, adds, conflict_of}
 use Rattle.tree_json.specs.Reading.{Reading, bad_json, fraction, value}
 use Rattle.tree_json.specs.Value.{JsonValue}
 use Rattle.tree_json.specs.View.{view}

@@ -1,13 +1,11 @@
 -- How calls that only look go on, one behind another, and what they read together.
-use Rattle.std.proofs.Common.{◌≡◌, ℕ, ◌+◌, ◌-◌, ◌<◌, ◌≤◌, List, ◌++◌, length, take, drop, Option, Some, Result, Ok, Err, IfSome, refl, sym, ◌∙◌, ap, subst, arith, length-drop}
-use Rattle.std.proofs.Math.Nat.{lt_of_not-le}
+use Rattle.std.proofs.Common.{◌≡◌, ℕ, ◌+◌, List, ◌++◌, take, drop, Option, Some, IfSome, sym, ◌∙◌, ap, subst, arith}
 use Rattle.std.proofs.Math.Seq.{take-add}
-use Rattle.std.proofs.lemmas.List.{take_all, drop-drop}
+use Rattle.std.proofs.lemmas.List.{drop-drop}
 use Rattle.std.specs.Global.{Vec}
-use Rattle.disk.specs.Stops.{IsTold, Stays, Front, Within, Passes, Lasts}
-use Rattle.disk.specs.Torn.{bytes_inside}
-use Rattle.disk.specs.Moments.{passes_on, passes_with, passes_none}
-use Rattle.store_opening.specs.Looking.{Looked, ReadsOn, IsFound, IsPastEnd}
+use Rattle.disk.specs.Stops.{IsTold}
+use Rattle.disk.specs.Moments.{passes_on}
+use Rattle.store_opening.specs.Looking.{Looked, ReadsOn, IsFound}
 
 -- ---- what is left
 

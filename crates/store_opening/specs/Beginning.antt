@@ -1,5 +1,5 @@
 -- What the beginning of a file says.
-use Rattle.std.specs.Prelude.{◌≡◌, ◌≢◌, ℕ, ◌<◌, ◌≤◌, max, Bool, true, false, if◌then◌else◌, List, [], length, Option, None, Some}
+use Rattle.std.specs.Prelude.{◌≡◌, ◌≢◌, ℕ, ◌<◌, ◌≤◌, false, if◌then◌else◌, List, [], length, Option, None, Some}
 use Rattle.store_text.specs.Pieces.{Stands}
 use Rattle.store_text.specs.Header.{header_size, magic, is_open}
 use Rattle.store_text.specs.Read.{IsHeader}

@@ -1,8 +1,8 @@
 -- What calls that only look leave of a disk, what they read, and why opening is refused.
-use Rattle.std.specs.Prelude.{◌≡◌, ℕ, ◌+◌, ◌<◌, ◌≤◌, ⊤, Bool, true, false, List, length, take, drop, Option, Result, MatchResult}
+use Rattle.std.specs.Prelude.{◌≡◌, ℕ, ◌+◌, ◌<◌, ⊤, Bool, true, false, List, length, take, drop, Option, Result, MatchResult}
 use Rattle.io_edges.specs.Faults.{Rose}
 use Rattle.disk.specs.Stops.{IsTold, Front, Within, Passes, Lasts}
-use Rattle.store_text.specs.Pieces.{Piece, Stands}
+use Rattle.store_text.specs.Pieces.{Stands}
 use Rattle.store_opening.specs.declared.refusal.OpenRefusal.{OpenRefusal}
 use Rattle.store_opening.specs.declared.refusal.OpenRefusal.TheVariants.{DiskFault, NotAStore, Damaged, NoMemory}
 

@@ -1,4 +1,4 @@
-use Rattle.std.proofs.Common.{◌≡◌, ℕ, List, length, min, arith}
+use Rattle.std.proofs.Common.{◌≡◌, length, min, arith}
 use Rattle.store_text.specs.Header.{header_size}
 use Rattle.store_opening.proofs.Fronts.{begins_read, len_known}
 use Rattle.store_opening.proofs.header.read_header.Goals as goal

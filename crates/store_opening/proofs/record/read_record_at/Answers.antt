@@ -1,4 +1,3 @@
-use Rattle.std.proofs.Common.{◌≡◌}
 use Rattle.store_opening.proofs.Looking.{piece_of}
 use Rattle.store_opening.proofs.Found.{record_of, record_found}
 use Rattle.store_opening.proofs.record.read_record_at.Goals as goal

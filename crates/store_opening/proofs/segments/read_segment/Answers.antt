@@ -1,4 +1,3 @@
-use Rattle.std.proofs.Common.{◌≡◌}
 use Rattle.store_opening.proofs.Looking.{piece_of}
 use Rattle.store_opening.proofs.Found.{segment_found}
 use Rattle.store_opening.proofs.segments.read_segment.Goals as goal
