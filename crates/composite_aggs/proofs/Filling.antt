@@ -1,5 +1,5 @@
 -- The steps of filling a histogram: where it begins and ends, the walk over its starts, and the buckets that are taken.
-use Rattle.std.proofs.Common.{◌≡◌, ℕ, zero, suc, ◌+◌, ◌-◌, ◌<◌, ◌≤◌, ◌⊎◌, inl, inr, Bool, true, false, not, ◌&&◌, ◌||◌, cond, List, [], ◌∷◌, ◌++◌, map, filter, take, drop, reverse, get_or, length, length-append, refl, sym, ap, ◌∙◌, append_assoc, arith, ℤ, ◌<ℤ◌, ◌≤ℤ◌, int_lt}
+use Rattle.std.proofs.Common.{◌≡◌, ℕ, zero, suc, ◌+◌, ◌-◌, ◌<◌, ◌≤◌, inl, inr, Bool, true, false, not, ◌&&◌, ◌||◌, cond, List, [], ◌∷◌, ◌++◌, map, filter, take, drop, reverse, get_or, length, length-append, refl, sym, ap, ◌∙◌, append_assoc, arith, ℤ, ◌<ℤ◌, ◌≤ℤ◌, int_lt}
 use Rattle.std.specs.Prelude.{Option, Some, None, slice_get, Contains, Result, Ok, Err, IfOk, OnOk, IfErr}
 use Rattle.std.specs.List.{find, list_any}
 use Rattle.std.specs.List.Sorted.{IsStrictlySortedBy}
@@ -7,7 +7,7 @@ use Rattle.std.specs.Ordering.{int_cmp}
 use Rattle.std.specs.declared.cmp.Ordering.TheVariants.{Less}
 use Rattle.std.proofs.lemmas.Bool.{false≢true}
 use Rattle.std.proofs.lemmas.Int.{ints}
-use Rattle.std.proofs.lemmas.List.{length-map, reverse-append, reverse-reverse}
+use Rattle.std.proofs.lemmas.List.{length-map, reverse-append}
 use Rattle.tree_objects.specs.declared.field_value.FieldValue.{FieldValue}
 use Rattle.calendar_intervals.specs.Starts.{starts, next_of}
 use Rattle.calendar_intervals.specs.declared.interval.Interval.{Interval}
@@ -17,7 +17,7 @@ use Rattle.composite_aggs.specs.Kept.{Ascends, bucket_of}
 use Rattle.composite_aggs.specs.declared.kept.KeyPlaces.{KeyPlaces}
 use Rattle.composite_aggs.specs.declared.refusal.PageRefusal.{PageRefusal}
 use Rattle.composite_aggs.specs.declared.refusal.PageRefusal.TheVariants.{TooManyBuckets, TooManyCombinations, NoMemory}
-use Rattle.composite_aggs.proofs.Spread.{IsIn, Sorted, contains, is_in, one_more, only_first, sorted_is}
+use Rattle.composite_aggs.proofs.Spread.{IsIn, contains, is_in, one_more, only_first, sorted_is}
 use Rattle.composite_aggs.proofs.Gathered.{lower_is}
 use Rattle.composite_aggs.proofs.Histograms.{each_map, same_filter, start_less, not_less}
 use Rattle.composite_aggs.proofs.Keys.{Ascend, less_on, less_once, same_itself, less_apart}
@@ -143,9 +143,9 @@ span interval (b ∷ bs) k a z ascends all at e g =
     let after : is_lower (start_key z) (start_key a) ≡ false = ap (is_lower (start_key z)) (sym first_is) ∙ last_not_before (keys_in bs) b.key k [] (start_key z) rising within last.1 in
     let order : a ≤ℤ z = not_less z a (sym (start_less z a) ∙ after) in
     let lies : (s : ℤ) → lies_between keys s ≡ lies_from_to a z s = λ s.
-      (let left : list_any (λ y. not (is_lower (start_key s) y)) keys ≡ not (int_lt s a) = first_most (start_key s) b.key (keys_in bs) rising ∙ ap (λ y. not (is_lower (start_key s) y)) first_is ∙ ap not (start_less s a) in
-      let right : list_any (λ y. not (is_lower y (start_key s))) keys ≡ not (int_lt z s) = last_most (start_key s) keys k [] (start_key z) rising long last.1 ∙ ap not (start_less z s) in
-      ap (λ (t : Bool). t && list_any (λ y. not (is_lower y (start_key s))) keys) left ∙ ap (λ (t : Bool). not (int_lt s a) && t) right) in
+    (let left : list_any (λ y. not (is_lower (start_key s) y)) keys ≡ not (int_lt s a) = first_most (start_key s) b.key (keys_in bs) rising ∙ ap (λ y. not (is_lower (start_key s) y)) first_is ∙ ap not (start_less s a) in
+    let right : list_any (λ y. not (is_lower y (start_key s))) keys ≡ not (int_lt z s) = last_most (start_key s) keys k [] (start_key z) rising long last.1 ∙ ap not (start_less z s) in
+    ap (λ (t : Bool). t && list_any (λ y. not (is_lower y (start_key s))) keys) left ∙ ap (λ (t : Bool). not (int_lt s a) && t) right) in
     (first.2, last.2, order, same_filter (lies_between keys) (lies_from_to a z) (starts interval) lies)
 
 none_spread : (interval : Interval) → spread interval [] ≡ []
@@ -237,9 +237,10 @@ last_first olds news b e = ap (λ l. map bucket_of (reverse l)) e ∙ ap (map bu
 pub taken : (s : ℤ) (olds news : Kept) (b : KeyPlaces) → olds ≡ news ++ b ∷ [] → is_first s (map bucket_of (reverse olds)) ≡ true → (bucket_of b ≡ first_of s (map bucket_of (reverse olds))) × (map bucket_of (reverse news) ≡ left_of s (map bucket_of (reverse olds)))
 taken s olds news b e held =
     let front = last_first olds news b e in
-    let same : is_same_key b.key (start_key s) ≡ true = sym (ap (is_first s) front) ∙ held in
-    (sym (ap (first_of s) front ∙ ap (λ (t : Bool). cond t (bucket_of b) (empty s)) same),
-    sym (ap (left_of s) front ∙ ap (λ (t : Bool). cond t (map bucket_of (reverse news)) (bucket_of b ∷ map bucket_of (reverse news))) same))
+    let same : is_same_key b.key (start_key s) ≡ true = sym (ap (is_first s) front) ∙ held in (
+      sym (ap (first_of s) front ∙ ap (λ (t : Bool). cond t (bucket_of b) (empty s)) same),
+      sym (ap (left_of s) front ∙ ap (λ (t : Bool). cond t (map bucket_of (reverse news)) (bucket_of b ∷ map bucket_of (reverse news))) same),
+    )
 
 pub not_taken : (s : ℤ) (bs : List Bucket) → is_first s bs ≡ false → (first_of s bs ≡ empty s) × (left_of s bs ≡ bs)
 not_taken s [] e = (refl, refl)

@@ -1,25 +1,25 @@
 -- What a histogram counts: intervals by start, and with those between them.
-use Rattle.std.proofs.Common.{◌≡◌, ℕ, zero, suc, ◌+◌, ◌-◌, ◌<◌, ◌≤◌, ◌⊎◌, inl, inr, Bool, true, false, not, ◌&&◌, ◌||◌, cond, List, [], ◌∷◌, ◌++◌, map, filter, take, drop, reverse, get_or, length, length-take, refl, sym, ap, ◌∙◌, arith, ℤ, ◌<ℤ◌, ◌≤ℤ◌, int_lt}
-use Rattle.std.specs.Prelude.{Option, Some, None, option_map, slice_get, Contains}
-use Rattle.std.specs.List.{cons_option, filter_map, find, flat_map, last_or, list_any, enumerate_from}
+use Rattle.std.proofs.Common.{◌≡◌, ℕ, suc, ◌+◌, ◌<◌, ◌≤◌, ◌⊎◌, inl, inr, Bool, true, false, not, ◌&&◌, ◌||◌, cond, List, [], ◌∷◌, ◌++◌, map, filter, take, length, length-take, refl, sym, ap, ◌∙◌, arith, ℤ, ◌<ℤ◌, ◌≤ℤ◌, int_lt}
+use Rattle.std.specs.Prelude.{Option, Some, None, option_map, Contains}
+use Rattle.std.specs.List.{cons_option, flat_map, last_or, list_any, enumerate_from}
 use Rattle.std.proofs.lemmas.Bool.{false≢true}
 use Rattle.std.proofs.lemmas.Int.{ints}
 use Rattle.std.proofs.lemmas.List.{length-map}
 use Rattle.tree_objects.specs.declared.field_value.FieldValue.{FieldValue}
 use Rattle.tree_objects.specs.declared.field_value.FieldValue.TheVariants.{Number, Written}
-use Rattle.calendar_intervals.specs.Starts.{starts, start_of, next_of, years_end}
+use Rattle.calendar_intervals.specs.Starts.{starts, start_of, years_end}
 use Rattle.calendar_intervals.specs.declared.interval.Interval.{Interval}
-use Rattle.query_ast.specs.Compare.{each_once, each_once_but, in_order}
-use Rattle.composite_aggs.specs.Composite.{Keyed, key_order, is_lower, is_same_key, shows_key, keyed, keys_shown, full_list, is_behind, page_behind, start_key, interval_key, start_keys, lies_between, filled, histogram_of}
-use Rattle.composite_aggs.specs.Spread.{AreStarts, IsFillCause, IsStartKey, empty, first_number, first_of, is_first, key_in, keys_in, left_of, lies_from_to, merged, number_at, spread, starts_from_to}
-use Rattle.composite_aggs.specs.Kept.{Ascends, bucket_of}
+use Rattle.query_ast.specs.Compare.{each_once, each_once_but}
+use Rattle.composite_aggs.specs.Composite.{Keyed, key_order, is_lower, is_same_key, shows_key, keyed, keys_shown, full_list, is_behind, page_behind, start_key, start_keys, lies_between, filled, histogram_of}
+use Rattle.composite_aggs.specs.Spread.{AreStarts, IsFillCause, IsStartKey, empty, first_of, keys_in, left_of, merged, spread}
+use Rattle.composite_aggs.specs.Kept.{bucket_of}
 use Rattle.composite_aggs.specs.declared.kept.KeyPlaces.{KeyPlaces}
 use Rattle.composite_aggs.specs.declared.refusal.PageRefusal.{PageRefusal}
 use Rattle.composite_aggs.specs.declared.refusal.PageRefusal.TheVariants.{TooManyBuckets, TooManyCombinations, NoMemory}
 use Rattle.composite_aggs.specs.Rows.{IsHistogramCause, date_keys, index_of, places_of}
 use Rattle.composite_aggs.proofs.Spread.{IsIn, Sorted, contains, is_in}
-use Rattle.composite_aggs.proofs.Gathered.{lower_is, none_shows}
-use Rattle.composite_aggs.proofs.Keys.{Ascend, all_in_order, any_key, keys_ascend, less_apart, less_back, less_on, less_once, one_ascending, same_is, same_itself}
+use Rattle.composite_aggs.proofs.Gathered.{none_shows}
+use Rattle.composite_aggs.proofs.Keys.{Ascend, all_in_order, any_key, keys_ascend, less_apart, less_back, one_ascending, same_is, same_itself}
 use Rattle.composite_aggs.proofs.Lists.{Each, by_test, each_as, each_take}
 use Rattle.composite_aggs.proofs.Steps.{all_taken}
 use Rattle.composite_aggs.proofs.Values.{key_total, key_exact}

@@ -169,5 +169,8 @@ fn empty_bucket(alloc: Global, start: i64) -> Result<KeyPlaces, PageRefusal>
     let value = FieldValue::Number(start);
     let key = [&value];
     let key = owned_key(alloc, key.as_slice())?;
-    Ok(KeyPlaces { key, places: Vec::new(alloc) })
+    Ok(KeyPlaces {
+        key,
+        places: Vec::new(alloc),
+    })
 }

@@ -6,8 +6,8 @@
 //! rows, `histogram` answers `histogram_of` them, and `pages_are_the_full_list` says that pages miss no bucket. Begin with `pages`.
 #![tactic(auto)]
 
-mod compare;
 mod between;
+mod compare;
 mod intervals;
 mod kept;
 mod law;

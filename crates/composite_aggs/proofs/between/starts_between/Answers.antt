@@ -1,8 +1,7 @@
-use Rattle.std.proofs.Common.{rules, ◌≡◌, ◌<ℤ◌, ◌≤ℤ◌, ap, sym, ◌∙◌, arith}
+use Rattle.std.proofs.Common.{rules, ◌<ℤ◌, ◌≤ℤ◌, sym, arith}
 use Rattle.std.specs.Int.{w64}
 use Rattle.std.proofs.lemmas.Int.{ints, to_z-of_z}
 use mir.Val.{SFits, of_z, to_z}
-use Rattle.calendar_intervals.specs.Starts.{next_of}
 use Rattle.composite_aggs.proofs.Filling.{no_next, walk_begins, walk_goes_on, walk_too_long}
 use Rattle.composite_aggs.proofs.between.starts_between.Goals as goal
 
@@ -19,9 +18,13 @@ starts-preserved c =
     let next : (to_z w64 c.starts.at-bits) <ℤ n = c.in-Some.ensures.begins.1 in
     let lower : to_z w64 (of_z w64 c.args.least) ≤ℤ (to_z w64 c.starts.at-bits) = c.starts.invariant.2 in
     let up_to : n ≤ℤ c.args.greatest = c.in-Some.ensures.least c.args.greatest c.requires.greatest (grind (arith, ints)) in
-    rw (to_z-of_z w64 n fits, high)
-    (walk_goes_on c.args.interval (to_z w64 (of_z w64 c.args.least)) (to_z w64 c.starts.at-bits) n c.starts.walk.items c.push.new.self.items (c.starts_ascend.ensures c.args.interval) lower c.starts.invariant.0 c.in_ok-push.ensures.items c.in-Some.ensures.begins.0 next c.in-Some.ensures.least,
-    c.in-Some.ensures.begins.0, grind (arith, ints), up_to, omega arith)
+    rw (to_z-of_z w64 n fits, high) (
+      walk_goes_on c.args.interval (to_z w64 (of_z w64 c.args.least)) (to_z w64 c.starts.at-bits) n c.starts.walk.items c.push.new.self.items (c.starts_ascend.ensures c.args.interval) lower c.starts.invariant.0 c.in_ok-push.ensures.items c.in-Some.ensures.begins.0 next c.in-Some.ensures.least,
+      c.in-Some.ensures.begins.0,
+      grind (arith, ints),
+      up_to,
+      omega arith,
+    )
 
 pub returns-in-None-clause-walk : goal.returns-in-None-clause-walk
 returns-in-None-clause-walk c =
