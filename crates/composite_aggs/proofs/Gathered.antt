@@ -23,7 +23,7 @@ Bucket = Keyed ℕ
 
 -- ---- orders of two keys, as tests
 
-lower_is : (a b : Key) → key_order a b ≡ Less → is_lower a b ≡ true
+pub lower_is : (a b : Key) → key_order a b ≡ Less → is_lower a b ≡ true
 lower_is a b h = ap is_lt h
 
 higher_is : (a b : Key) → key_order a b ≡ Greater → is_lower b a ≡ true
@@ -225,7 +225,7 @@ module _ {R : Type 0} (keys : ℕ × R → List Key) where
   neither true b h = absurd (false≢true (sym h))
   neither false b h = (refl, h)
 
-  none_shows : (rows : List (ℕ × R)) (x : Key) → list_any (is_same_key x) (flat_map keys rows) ≡ false → base rows x ≡ []
+  pub none_shows : (rows : List (ℕ × R)) (x : Key) → list_any (is_same_key x) (flat_map keys rows) ≡ false → base rows x ≡ []
   none_shows [] x h = refl
   none_shows (row ∷ rows) x h =
       let parts = neither (shows_key keys x row) (list_any (is_same_key x) (flat_map keys rows)) (sym (any_append x (keys row) (flat_map keys rows)) ∙ h) in

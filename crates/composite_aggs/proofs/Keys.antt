@@ -128,7 +128,7 @@ module _ {K : Type 0} (R : K → K → Ordering) (o : IsTotalOrder R) (exact : (
   all_placed P x (y ∷ ys) p h =
       by_test (less y x) (λ behind. rw behind (h.0, all_placed P x ys p h.1)) (λ before. rw before (p, h))
 
-  all_in_order : (P : K → Type 0) (xs : List K) → Each P xs → Each P (in_order less xs)
+  pub all_in_order : (P : K → Type 0) (xs : List K) → Each P xs → Each P (in_order less xs)
   all_in_order P [] h = tt
   all_in_order P (x ∷ xs) h = all_placed P x (in_order less xs) h.0 (all_in_order P xs h.1)
 

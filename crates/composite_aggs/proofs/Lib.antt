@@ -1,6 +1,9 @@
+pub mod Filling
 pub mod Gathered
+pub mod Histograms
 pub mod Keys
 pub mod Lists
+pub mod Spread
 pub mod Steps
 pub mod Values
 pub mod Walks

@@ -271,7 +271,7 @@ drop_suc [] i d h = absurd (omega arith)
 drop_suc (x ∷ xs) zero d h = refl
 drop_suc (x ∷ xs) (suc i) d h = drop_suc xs i d (omega arith)
 
-drop_at : {A : Type 0} (xs : List A) (i : ℕ) (d : A) → i < length xs → drop i xs ≡ get_or xs i d ∷ drop (i + 1) xs
+pub drop_at : {A : Type 0} (xs : List A) (i : ℕ) (d : A) → i < length xs → drop i xs ≡ get_or xs i d ∷ drop (i + 1) xs
 drop_at xs i d h = drop_suc xs i d h ∙ ap (λ n. get_or xs i d ∷ drop n xs) (let e : suc i ≡ i + 1 = omega arith in e)
 
 or_none : (b : Bool) → (b || false) ≡ b

@@ -5,3 +5,4 @@ pub mod Rows
 pub mod Walk
 -- Of this `bucket_of` leads from a Rust type to its mathematics and is to be believed too; the rest serves proofs alone.
 pub mod Kept
+pub mod Spread

@@ -23,7 +23,7 @@ pub struct Row {
 /// (the composite aggregation of the Elasticsearch reference). A key has one value of each source.
 ///
 /// No more than `size` buckets are kept at any time. `TooManyCombinations` comes exactly where some row shows more than
-/// 10,000 combinations.
+/// 10,000 combinations, and `TooManyBuckets` never.
 pub fn page(
     alloc: Global,
     rows: &[Row],
