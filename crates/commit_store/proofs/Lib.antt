@@ -1,0 +1,17 @@
+mod Lists
+mod Sizes
+mod Planned
+mod Planning
+mod Rooms
+mod Small
+mod Apart
+mod Recorded
+mod Blocks
+mod Once
+mod Good
+mod Standing
+mod Writing
+mod Committed
+mod Closing
+mod Finishing
+mod Results
