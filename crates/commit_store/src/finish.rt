@@ -5,7 +5,7 @@ ghost use Rattle.std.specs.Option.{is_none};
 ghost use Rattle.io_edges.specs.Faults.{HasCause, Rose};
 ghost use Rattle.disk.specs.Stops.{IsTold};
 ghost use Rattle.commit_images.specs.Keeping as keeping;
-ghost use Rattle.commit_images.specs.Steps.{IsReady, ShowsAsOr, ShowsLast, Step};
+ghost use Rattle.commit_images.specs.Steps.{IsReady, ShowsEither, ShowsLast, Step};
 ghost use Rattle.store_text.specs.Header.{slot};
 ghost use Rattle.commit_images.specs.Commits.{slot_of};
 ghost use Rattle.commit_images.specs.Writes.{piece_of as block_piece};
@@ -13,7 +13,7 @@ ghost use Rattle.commit_store.specs.Saying.{StoreCommit, IsGood, FoundAs};
 ghost use Rattle.commit_store.specs.Known.{KeepsStore};
 ghost use Rattle.commit_store.specs.Preparing.{IsCommittable, IsPreparedBy, IsPreparedFor, IsCommitOf, SaysView, IsLeft, PlannedSegment, committed, known_of, moves, piece_of, room_of, stays, with_closed};
 ghost use Rattle.commit_store.specs.Planned.{all_planned, planned_seen};
-ghost use Rattle.commit_store.specs.Stepping.{IsStep, FoundAsOr, Holds};
+ghost use Rattle.commit_store.specs.Stepping.{IsDone, IsStep, FoundAsOrView, Holds, HoldsEither};
 ghost use Rattle.commit_store.specs.Ready.{IsWriting, IsWrittenBy};
 
 use crate::known::KnownSegment;
@@ -83,18 +83,18 @@ impl Store {
         ensures committed { OnOk result (self.new ≡ committed self.old prepared) }
         ensures left { OnErr result (IsLeft self.old self.new) }
 
-        // Behind it the commit is the last one, and each image holds it.
+        // Behind it the commit is the last one, and each image holds it; a stop on the way leaves the one or the other.
         ensures done { OnOk result (IsTold (D.content disk.new) → (found : Option StoreCommit) (c : StoreCommit) → IsCommitOf self.old prepared c
             → KeepsStore self.old found (D.image disk.old)
-            → IsStep self.new found (Some c) (FoundAsOr self.old.limit (D.image disk.old) c) (D.image disk.new)
+            → IsStep self.new found (Some c) (HoldsEither self.old.limit found c) (D.image disk.new)
             (D.moment disk.old) (D.moment disk.new) (D.image_since disk.old) (D.image_since disk.new)) }
         ensures holds { OnOk result (IsTold (D.content disk.new) → (found : Option StoreCommit) (c : StoreCommit) → IsCommitOf self.old prepared c
             → KeepsStore self.old found (D.image disk.old) → (image : List ℕ) → D.image disk.new image → Holds self.old.limit c image) }
 
-        // Where it fails all images keep the last commit, and a stop on the way may leave either.
+        // Where it fails all images keep the last commit.
         ensures failed { OnErr result (IsTold (D.content disk.new) → (found : Option StoreCommit) (c : StoreCommit) → IsCommitOf self.old prepared c
             → KeepsStore self.old found (D.image disk.old)
-            → IsStep self.new found found (FoundAsOr self.old.limit (D.image disk.old) c) (D.image disk.new)
+            → IsStep self.new found found (HoldsEither self.old.limit found c) (D.image disk.new)
             (D.moment disk.old) (D.moment disk.new) (D.image_since disk.old) (D.image_since disk.new)) }
         ensures told { IsTold (D.content disk.new) → IsTold (D.content disk.old) }
         ensures no_memory { IsErrOf result FinishRefusal.NoMemory → (disk.new ≡ disk.old) × (self.new ≡ self.old) }
@@ -142,6 +142,19 @@ impl Store {
         view: &View,
     ) -> Result<(), CommitRefusal>
         requires { IsCommittable self.old mapping.now next view.now }
+        ensures done { OnOk result (IsTold (D.content disk.new) → (found : Option StoreCommit) → KeepsStore self.old found (D.image disk.old)
+            → IsDone self.old.limit self.new found mapping.now next view.now (FoundAsOrView self.old.limit (D.image disk.old) mapping.now next view.now) (D.image disk.new)
+            (D.moment disk.old) (D.moment disk.new) (D.image_since disk.old) (D.image_since disk.new)) }
+
+        // Where it fails all images keep the last commit.
+        ensures failed { OnErr result (IsTold (D.content disk.new) → (found : Option StoreCommit) → KeepsStore self.old found (D.image disk.old)
+            → IsStep self.new found found (FoundAsOrView self.old.limit (D.image disk.old) mapping.now next view.now) (D.image disk.new)
+            (D.moment disk.old) (D.moment disk.new) (D.image_since disk.old) (D.image_since disk.new)) }
+        ensures left { OnErr result (IsLeft self.old self.new) }
+        ensures full { IsErrOf result CommitRefusal.StoreFull → (self.old.tried ≡ LAST_GENERATION) ⊎ (room_of self.old mapping.now view.now ≡ None) }
+        ensures last_generation { self.old.tried ≡ LAST_GENERATION → IsErrOf result CommitRefusal.StoreFull × (disk.new ≡ disk.old) }
+        ensures told { IsTold (D.content disk.new) → IsTold (D.content disk.old) }
+        ensures fault { IsErrOf result CommitRefusal.DiskFault → Rose (D.faults disk.old) (D.faults disk.new) }
     {
         let prepared = self.prepared(disk, mapping, next, view)?;
         self.finished(disk, prepared)?;
@@ -162,14 +175,14 @@ impl Store {
         ensures left { OnErr result (IsLeft self.old self.new) }
         ensures done { OnOk result (IsTold (D.content disk.new) → (found : Option StoreCommit) (c : StoreCommit)
             → IsWriting self.old (map block_piece blocks.now) place found c (D.image disk.old)
-            → Step (IsGood self.old.limit) found (Some c) (keeping.is_first found) (ShowsAsOr (IsGood self.old.limit) (D.image disk.old) c) (D.image disk.new)
+            → Step (IsGood self.old.limit) found (Some c) (keeping.is_first found) (ShowsEither (IsGood self.old.limit) found c) (D.image disk.new)
             (D.moment disk.old) (D.moment disk.new) (D.image_since disk.old) (D.image_since disk.new)) }
         ensures holds { OnOk result (IsTold (D.content disk.new) → (found : Option StoreCommit) (c : StoreCommit)
             → IsWriting self.old (map block_piece blocks.now) place found c (D.image disk.old)
             → (image : List ℕ) → D.image disk.new image → Holds self.old.limit c image) }
         ensures failed { OnErr result (IsTold (D.content disk.new) → (found : Option StoreCommit) (c : StoreCommit)
             → IsWriting self.old (map block_piece blocks.now) place found c (D.image disk.old)
-            → Step (IsGood self.old.limit) found found self.new.closed (ShowsAsOr (IsGood self.old.limit) (D.image disk.old) c) (D.image disk.new)
+            → Step (IsGood self.old.limit) found found self.new.closed (ShowsEither (IsGood self.old.limit) found c) (D.image disk.new)
             (D.moment disk.old) (D.moment disk.new) (D.image_since disk.old) (D.image_since disk.new)) }
         ensures told { IsTold (D.content disk.new) → IsTold (D.content disk.old) }
         ensures cause { HasCause (D.faults disk.old) (D.faults disk.new) result }

@@ -15,7 +15,7 @@ use Rattle.commit_store.specs.Preparing.{PlannedSegment, PreparedState, committe
 use Rattle.commit_store.specs.Ready.{IsWriting}
 use Rattle.commit_store.specs.Rows.{record_planned, record_prepared, written_pieces}
 use Rattle.commit_store.specs.Saying.{IsGood}
-use Rattle.commit_store.specs.Stepping.{FoundAsOr, IsStep}
+use Rattle.commit_store.specs.Stepping.{HoldsEither, IsStep}
 use Rattle.commit_store.proofs.Closing.{last_left}
 use Rattle.commit_store.proofs.Committed.{committed_is, last_committed, with_commit}
 use Rattle.commit_store.proofs.Results.{on_err}
@@ -50,7 +50,7 @@ returns-in_err-written-clause-failed g c =
       knows = last_left c.args.self.now c.written.new.self found c.in_err-written.ensures.left keeps.last;
       step =
           subst
-          (λ (it : ℕ). Step (IsGood it) found found c.written.new.self.closed (FoundAsOr c.args.self.now.limit (g.D.Disk.image c.args.disk.now) own) (g.D.Disk.image c.written.new.disk)
+          (λ (it : ℕ). Step (IsGood it) found found c.written.new.self.closed (HoldsEither c.args.self.now.limit found own) (g.D.Disk.image c.written.new.disk)
           (g.D.Disk.moment c.args.disk.now) (g.D.Disk.moment c.written.new.disk) (g.D.Disk.image_since c.args.disk.now) (g.D.Disk.image_since c.written.new.disk))
           (sym c.in_err-written.ensures.left.limit) (c.in_err-written.ensures.failed told found own writing);
     })
@@ -128,14 +128,14 @@ returns-clause-done g c = λ told found own commit keeps.
     ∙ ap (λ (it : List KnownSegment). with_commit (record { limit = now.limit; side = now.side; known = now.known; named = now.named; tried = now.tried + 1; closed = is_none now.side }) (idle_side now.side) it c.in_ok-named.named.extents) known
     ∙ ap (λ (it : List Extent). with_commit (record { limit = now.limit; side = now.side; known = now.known; named = now.named; tried = now.tried + 1; closed = is_none now.side }) (idle_side now.side) (map known_of c.args.prepared.segments) it) named in
     subst
-    (λ (it : StoreState). IsStep it found (Some own) (FoundAsOr now.limit (g.D.Disk.image c.args.disk.now) own) (g.D.Disk.image c.written.new.disk) (g.D.Disk.moment c.args.disk.now)
+    (λ (it : StoreState). IsStep it found (Some own) (HoldsEither now.limit found own) (g.D.Disk.image c.written.new.disk) (g.D.Disk.moment c.args.disk.now)
     (g.D.Disk.moment c.written.new.disk) (g.D.Disk.image_since c.args.disk.now) (g.D.Disk.image_since c.written.new.disk))
     (sym same)
     (record {
       knows = last_committed now c.args.prepared own c.requires commit;
       step =
           subst
-          (λ (it : Bool). Step (IsGood now.limit) found (Some own) it (FoundAsOr now.limit (g.D.Disk.image c.args.disk.now) own) (g.D.Disk.image c.written.new.disk) (g.D.Disk.moment c.args.disk.now)
+          (λ (it : Bool). Step (IsGood now.limit) found (Some own) it (HoldsEither now.limit found own) (g.D.Disk.image c.written.new.disk) (g.D.Disk.moment c.args.disk.now)
           (g.D.Disk.moment c.written.new.disk) (g.D.Disk.image_since c.args.disk.now) (g.D.Disk.image_since c.written.new.disk))
           (sym writing.first) (c.in_ok-written.ensures.done told found own writing);
     })

@@ -4,7 +4,7 @@ use Rattle.store_text.specs.declared.header.Side.{Side}
 use Rattle.commit_images.specs.Commits.{slot_of}
 use Rattle.commit_images.specs.Keeping as keeping
 use Rattle.commit_images.specs.Keeping.{is_first}
-use Rattle.commit_images.specs.Steps.{IsReady, ShowsAsOr, Step}
+use Rattle.commit_images.specs.Steps.{IsReady, ShowsEither, Step}
 use Rattle.commit_store.specs.Known.{StoreState}
 use Rattle.commit_store.specs.Preparing.{idle_side}
 use Rattle.commit_store.specs.Saying.{IsGood}
@@ -18,7 +18,7 @@ returns-in_err-make_ready-clause-failed g c =
     let limit : ℕ = c.args.self.now.limit in
     let side : c.idle_slot-side.result ≡ keeping.idle found = c.idle_slot-side.ensures ∙ ap (λ (it : StoreState). idle_side it.side) c.self.view_is ∙ writing.side in
     subst
-    (λ (it : Bool). Step (IsGood limit) found found it (ShowsAsOr (IsGood limit) (g.D.Disk.image c.args.disk.now) new) (g.D.Disk.image c.make_ready.new.disk) (g.D.Disk.moment c.args.disk.now)
+    (λ (it : Bool). Step (IsGood limit) found found it (ShowsEither (IsGood limit) found new) (g.D.Disk.image c.make_ready.new.disk) (g.D.Disk.moment c.args.disk.now)
     (g.D.Disk.moment c.make_ready.new.disk) (g.D.Disk.image_since c.args.disk.now) (g.D.Disk.image_since c.make_ready.new.disk))
     (sym (ap (λ (it : StoreState). it.closed) c.self.view_is ∙ c.requires.closed))
     (part_step limit found new (g.D.Disk.image c.args.disk.now) (g.D.Disk.image c.make_ready.new.disk) (g.D.Disk.moment c.args.disk.now) (g.D.Disk.moment c.make_ready.new.disk)
