@@ -72,10 +72,11 @@ pub record SameBody {X : Type 0} (c d : Commit X) : Type 0 where
   pub generation : c.generation ≡ d.generation
   pub body : c.body ≡ d.body
 
--- A good commit is one that a slot can name, and its slot and its record tell all the rest of it.
+-- A good commit is one that a slot can name, and its slot, its record and what stands in the file where its segments are tell all
+-- the rest of it.
 pub record AreToldByRecords {X : Type 0} (IsGood : Commit X → Type 0) : Type 0 where
   pub placed : (c : Commit X) → IsGood c → IsPlaced c
-  pub rest : (c d : Commit X) → IsGood c → IsGood d → SameBody c d → c ≡ d
+  pub rest : (file : List ℕ) (c d : Commit X) → IsGood c → IsGood d → SameBody c d → AllStand c.segments file → AllStand d.segments file → c ≡ d
 
 -- all of a commit but its open gate
 abbrev pub but_gate : {X : Type 0} → Commit X → List Piece

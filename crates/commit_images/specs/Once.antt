@@ -100,5 +100,6 @@ found_once IsGood file None (Some d) told found others = absurd (none_shows IsGo
 found_once IsGood file (Some c) None told found others = absurd (none_shows IsGood file c others found)
 found_once {X = Y} IsGood file (Some c) (Some d) told found others =
     ap (λ (it : Commit Y). Some it)
-    (told.rest c d found.good others.good
-    (same_body IsGood file c d (told.placed c found.good) (told.placed d others.good) found others))
+    (told.rest file c d found.good others.good
+    (same_body IsGood file c d (told.placed c found.good) (told.placed d others.good) found others)
+    found.stand.1.1.1.1 others.stand.1.1.1.1)

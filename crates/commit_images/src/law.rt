@@ -11,8 +11,8 @@ ghost use Rattle.commit_images.specs.Keeping.{ArePlaced, AreToldByRecords, IsKno
 use crate::saying::Saying;
 use disk::Disk;
 
-/// Two commits that one file shows have the same slot, generation and record; and where those determine a good commit, the file
-/// shows at most one, or none.
+/// Two commits that one file shows have the same slot, generation and record; and where those, with what stands in the file where
+/// its segments are, determine a good commit, the file shows at most one, or none.
 pub fn a_file_shows_one_commit<S: Saying>()
     ensures body { (limit : ℕ) (file : List ℕ) (c d : Commit S.Said) → IsPlaced c → IsPlaced d → Finds (S.IsGood limit) file c → Finds (S.IsGood limit) file d
         → SameBody c d }
