@@ -1,0 +1,2 @@
+-- What a reader must believe: when a value is what is read of its text.
+pub mod Texts
