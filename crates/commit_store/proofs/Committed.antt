@@ -13,10 +13,10 @@ use Rattle.commit_store.specs.Known.{StoreState, IsStore, IsKnownSegment, IsOfSe
 use Rattle.commit_store.specs.Preparing.{PlannedSegment, PreparedState, IsCommitOf, IsPreparedBy, committed, known_of, piece_of, stored_of}
 use Rattle.commit_store.specs.Saying.{StoredSegment, StoreCommit, AreExtents, IsNewSegment, IsOfForm, IsSegmentOf, extent_of, extents_of, mapping_said}
 
-abbrev IsLong : PlannedSegment → Type 0
+abbrev pub IsLong : PlannedSegment → Type 0
 IsLong segment = segment.extent.len ≡ length (segment_text segment.entry.columns)
 
-planned_extents : (segments : List PlannedSegment) → AllByRecursion IsLong segments
+pub planned_extents : (segments : List PlannedSegment) → AllByRecursion IsLong segments
     → map extent_of (map (λ (it : StoredSegment). it.piece) (map stored_of segments)) ≡ map (λ (segment : PlannedSegment). segment.extent) segments
 planned_extents [] long = refl
 planned_extents (segment ∷ segments) long =

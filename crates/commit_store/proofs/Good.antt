@@ -168,15 +168,15 @@ new_forms (segment ∷ segments) sound = (record { are = sound.0.agree; text = r
 
 -- ---- the extents
 
-first_part : (P : Extent → Type 0) (ones others : List Extent) → AllByRecursion P (ones ++ others) → AllByRecursion P ones
+pub first_part : (P : Extent → Type 0) (ones others : List Extent) → AllByRecursion P (ones ++ others) → AllByRecursion P ones
 first_part P [] others all = tt
 first_part P (one ∷ ones) others all = (all.0, first_part P ones others all.1)
 
-second_part : (P : Extent → Type 0) (ones others : List Extent) → AllByRecursion P (ones ++ others) → AllByRecursion P others
+pub second_part : (P : Extent → Type 0) (ones others : List Extent) → AllByRecursion P (ones ++ others) → AllByRecursion P others
 second_part P [] others all = all
 second_part P (one ∷ ones) others all = second_part P ones others all.1
 
-known_among : (P : Extent → Type 0) (side : Option Side) (known : List KnownSegment) (named : List Extent) → AreNamed side known named → AllByRecursion P named → AllByRecursion P (known_extents known)
+pub known_among : (P : Extent → Type 0) (side : Option Side) (known : List KnownSegment) (named : List Extent) → AreNamed side known named → AllByRecursion P named → AllByRecursion P (known_extents known)
 known_among P None known named are all = subst (λ (it : List KnownSegment). AllByRecursion P (known_extents it)) (sym are.0) tt
 known_among P (Some side) known [] are all = absurd are
 known_among P (Some side) known (extent ∷ extents) (inl none) all = subst (λ (it : List KnownSegment). AllByRecursion P (known_extents it)) (sym none) tt

@@ -7,7 +7,7 @@ mod Small
 mod Apart
 mod Recorded
 mod Blocks
-mod Once
+pub mod Once
 mod Good
 mod Standing
 mod Writing
@@ -15,3 +15,5 @@ mod Committed
 mod Closing
 mod Finishing
 mod Results
+mod Offers
+mod Moving

@@ -120,7 +120,7 @@ known_one P (it ∷ known) id own all found = by_id (has_id id it) refl (known_o
     by_id true same more = subst P (ap (λ (one : Option KnownSegment). unwrap_or one it) (ap (λ (b : Bool). cond b (Some it) (known_as known id)) (sym same) ∙ found)) all.0
     by_id false same more = more (ap (λ (b : Bool). cond b (Some it) (known_as known id)) (sym same) ∙ found)
 
-known_all : (P : Extent → Type 0) (known : List KnownSegment) (id : ℕ) (own : KnownSegment) → AllByRecursion P (known_extents known) → known_as known id ≡ Some own → P own.extent
+pub known_all : (P : Extent → Type 0) (known : List KnownSegment) (id : ℕ) (own : KnownSegment) → AllByRecursion P (known_extents known) → known_as known id ≡ Some own → P own.extent
 known_all P [] id own all found = absurd (none-some own found)
 known_all P (it ∷ known) id own all found = by_id (has_id id it) refl (known_all P known id own all.1)
   where

@@ -30,7 +30,7 @@ use Rattle.commit_store.specs.Ready.{Among, IsWriting, IsWrittenBy}
 use Rattle.commit_store.specs.Rows.{planned_row, record_piece, record_prepared, written_pieces}
 use Rattle.commit_store.specs.Saying.{StoredSegment, Saying, StoreCommit, IsGood, IsNewSegment, IsOfForm, extent_of, row_of, record_of}
 
-some_once : {A : Type 0} (one other : A) → Some one ≡ Some other → one ≡ other
+pub some_once : {A : Type 0} (one other : A) → Some one ≡ Some other → one ≡ other
 some_once one other same = ap (λ it. unwrap_or it one) same
 
 -- ---- the slot

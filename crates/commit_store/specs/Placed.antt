@@ -2,13 +2,14 @@
 use Rattle.std.specs.Prelude.{◌≡◌, ℕ, Bool, true, false, List, [], ◌∷◌, ◌++◌, length, Option, None, Some, option_map}
 use Rattle.std.specs.List.{AllByRecursion}
 use Rattle.std.specs.List.Sorted.{IsPermutation}
-use Rattle.extent_pool.specs.Extents.{Pool}
-use Rattle.extent_pool.specs.Placing.{fit, placed}
+use Rattle.extent_pool.specs.Extents.{AreDisjoint, AreInOrder, Pool}
+use Rattle.extent_pool.specs.Placing.{better, fit, placed}
 use Rattle.extent_pool.specs.declared.extent.Extent.{Extent}
 use Rattle.segment.specs.Live.{EntryState}
 use Rattle.segment_parts.specs.Agree.{AreColumns}
 use Rattle.segment_parts.specs.Text.{segment_text}
 use Rattle.commit_store.specs.declared.known.KnownSegment.{KnownSegment}
+use Rattle.commit_store.specs.Moving.{moved_into, named_planned}
 use Rattle.commit_store.specs.Preparing.{PlannedSegment, new_sizes, planned, planned_as}
 
 -- the extents that new entries get in a pool
@@ -54,3 +55,19 @@ pub record IsPlanning (known : List KnownSegment) (left all : List EntryState) (
   pub taken : IsPermutation (extents ++ old.taken) now.taken
   pub limit : now.limit ≡ old.limit
   pub sound : AllByRecursion IsSound segments
+
+-- ---- moves
+
+-- a segment has the better extent that a pool has for it, which is taken then
+pub record IsTakenFor (extent : Extent) (old new : PlannedSegment) (before after : Pool) : Type 0 where
+  pub better_is : better before.limit before.taken (named_planned old) ≡ Some extent
+  pub segment : new ≡ moved_into extent old
+  pub taken : IsPermutation (extent ∷ before.taken) after.taken
+  pub limit : after.limit ≡ before.limit
+  pub in_order : AreInOrder after.limit after.taken
+  pub disjoint : AreDisjoint after.taken
+
+-- a segment was moved, or the pool has no better extent for it
+abbrev pub IsMoved : Bool → PlannedSegment → PlannedSegment → Pool → Pool → Type 0
+IsMoved true old new before after = (extent : Extent) × IsTakenFor extent old new before after
+IsMoved false old new before after = (better before.limit before.taken (named_planned old) ≡ None) × (new ≡ old) × (after ≡ before)

@@ -54,7 +54,7 @@ impl Store {
 
         // There is no generation left, and then no call is made; or there is no room.
         ensures full { IsErrOf result CommitRefusal.StoreFull → (self.old.tried ≡ LAST_GENERATION) ⊎ (room_of self.old mapping.now view.now ≡ None) }
-        ensures last_generation { self.old.tried ≡ LAST_GENERATION → IsErrOf result CommitRefusal.StoreFull × (disk.new ≡ disk.old) }
+        ensures last_generation { self.old.tried ≡ LAST_GENERATION → IsErrOf result CommitRefusal.StoreFull × (disk.new ≡ disk.old) × (self.new ≡ self.old) }
 
         ensures step { IsTold (D.content disk.new) → (found : Option StoreCommit) → KeepsStore self.old found (D.image disk.old)
             → IsStep self.new found found (FoundAs self.old.limit (D.image disk.old)) (D.image disk.new)

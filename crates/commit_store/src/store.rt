@@ -60,6 +60,14 @@ impl Store {
         }
     }
 
+    /// The greatest length of the store's file, in bytes. Takes no memory.
+    pub fn limit(&self) -> u64
+        ensures limit { result ≡ self.now.limit }
+        ensures store { IsStore self.now }
+    {
+        self.limit
+    }
+
     /// The end of the last extent that the last commit names, in bytes; that of the header where there is none. Takes no memory.
     pub fn named_end(&self) -> u64
         ensures end { result ≡ end_named self.now.named }

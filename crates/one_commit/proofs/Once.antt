@@ -1,4 +1,4 @@
--- A record tells the bodies and the marks that a commit says, and the bytes at the places that it names tell the segments.
+-- A record tells the marks of the roots that are live, and the bytes at the places that it names tell the segments.
 use Rattle.std.proofs.Common.{◌≡◌, ℕ, ◌+◌, ◌≤◌, Bool, true, false, List, [], ◌∷◌, length, map, take, drop, refl, sym, ◌∙◌, ap, subst, arith}
 use Rattle.std.specs.List.{AllByRecursion}
 use Rattle.mapping.specs.Mapping.{Mapping}
@@ -8,10 +8,7 @@ use Rattle.segment_parts.specs.Whole.{segment_once}
 use Rattle.segment_parts.specs.declared.columns.Columns.{Columns}
 use Rattle.store_text.specs.Pieces.{Piece, Stands, AllStand}
 use Rattle.store_text.specs.declared.record.Row.{Row}
-use Rattle.tree_json.specs.Reading.{Reading, bad_json, fraction, reading, value}
-use Rattle.tree_json.specs.Text.{compact}
-use Rattle.tree_json.specs.Value.{JsonValue}
-use Rattle.commit_store.specs.Saying.{StoredSegment, IsSegmentOf, IsReadBack, dead_from, dead_of, row_of}
+use Rattle.commit_store.specs.Saying.{StoredSegment, IsSegmentOf, dead_from, dead_of, row_of}
 
 -- ---- marks
 
@@ -46,30 +43,6 @@ same_marks_from index (false ∷ one) (true ∷ other) long same = absurd (not_h
 
 pub same_marks : (one other : List Bool) → length one ≡ length other → dead_of one ≡ dead_of other → one ≡ other
 same_marks one other long same = same_marks_from 0 one other long same
-
--- ---- bodies
-
-abbrev value_in : JsonValue → Reading → JsonValue
-value_in none (value v) = v
-value_in none bad_json = none
-value_in none fraction = none
-
-value_once : (one other : JsonValue) → value one ≡ value other → one ≡ other
-value_once one other same = ap (value_in one) same
-
-abbrev first_or : List ℕ → List (List ℕ) → List ℕ
-first_or none [] = none
-first_or none (it ∷ more) = it
-
-pub same_bodies : (ones others : List JsonValue) → AllByRecursion IsReadBack ones → AllByRecursion IsReadBack others → map compact ones ≡ map compact others → ones ≡ others
-same_bodies [] [] read reads same = refl
-same_bodies [] (other ∷ others) read reads same = absurd (omega (arith, ap length same))
-same_bodies (one ∷ ones) [] read reads same = absurd (omega (arith, ap length same))
-same_bodies (one ∷ ones) (other ∷ others) read reads same =
-    let first : compact one ≡ compact other = ap (first_or (compact one)) same in
-    let body : one ≡ other = value_once one other (sym read.0 ∙ ap reading first ∙ reads.0) in
-    let more : ones ≡ others = same_bodies ones others read.1 reads.1 (ap (drop 1) same) in
-    ap (λ (it : JsonValue). it ∷ ones) body ∙ ap (λ (it : List JsonValue). other ∷ it) more
 
 -- ---- segments
 

@@ -17,7 +17,8 @@ use Rattle.tree_json.specs.Value.{JsonValue}
 use Rattle.commit_images.specs.Keeping.{AreToldByRecords, IsBehind, IsPlaced, SameBody}
 use Rattle.commit_store.specs.Known.{greatest_limit}
 use Rattle.commit_store.specs.Saying.{Saying, StoredSegment, StoreCommit, IsGood, IsNewSegment, IsOfForm, IsOldSegment, IsSegmentOf, extent_of, mapping_said, record_of, row_of}
-use Rattle.one_commit.proofs.Once.{new_once, same_bodies, same_segments}
+use Rattle.commit_store.proofs.Once.{same_bodies}
+use Rattle.one_commit.proofs.Once.{new_once, same_segments}
 use Rattle.one_commit.proofs.Old.{OneOldRoot, old_once}
 
 -- ---- its slot can name it
