@@ -4,7 +4,7 @@ use Rattle.std.specs.List.{AllByRecursion, flat_map}
 use Rattle.std.proofs.lemmas.List.Elements.{All-contains_itself, recursion_from_All, All-from_recursion, All-take, All-drop}
 use Rattle.layout.proofs.Goes.{split}
 use Rattle.layout.proofs.Merging.{all_first, all_second, all_both, all_filter, settled_by}
-use Rattle.layout.specs.Layout.{Marked, SegmentOf, OpenMerge, Layout, is_live, item_in, live_in, alive, segment_of, merged_range, live_of_range, remade, with_buffer_last, sealed, staying, killed_if, killed_in, with_room, buffer_size, with_change}
+use Rattle.layout.specs.Layout.{Marked, SegmentOf, OpenMerge, Layout, is_live, item_in, live_in, live_items, alive, segment_of, merged_range, live_of_range, remade, with_buffer_last, sealed, staying, killed_if, killed_in, with_room, buffer_size, with_change}
 use Rattle.layout.specs.Merges.{closed, finished, forced, forced_from, forced_count, with_merge}
 use Rattle.layout_ids.specs.Items.{items_in, items_of}
 
@@ -47,6 +47,11 @@ module _ {A : Type 0} (P : A → Type 0) where
   live_flat : (segments : List (SegmentOf A)) → AllByRecursion Within segments → AllByRecursion P (flat_map live_in segments)
   live_flat [] all = tt
   live_flat (segment ∷ segments) all = all_both P (live_in segment) (flat_map live_in segments) (live_within segment.items all.0) (live_flat segments all.1)
+
+  pub live_all : (layout : Layout A) → AllByRecursion P (items_of layout) → AllByRecursion P (live_items layout)
+  live_all layout all =
+      let own = are_all layout all in
+      all_both P (flat_map live_in layout.segments) layout.buffer (live_flat layout.segments own.segments) own.buffer
 
   alive_within : (xs : List A) → AllByRecursion P xs → AllByRecursion P (map item_in (map alive xs))
   alive_within [] all = tt

@@ -1,2 +1,2 @@
-mod Keeping
-mod Items
+pub mod Keeping
+pub mod Items

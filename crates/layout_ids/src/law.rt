@@ -6,7 +6,8 @@ ghost use Rattle.layout_ids.specs.Ids.{KeepsItems};
 ghost use Rattle.layout_ids.specs.Items.{items_of};
 
 /// Sealing, a change and merges give a segment whose items are others an id that no segment had before: a segment with an id
-/// that was given already has the items that the segment with this id had, dead ones included.
+/// that was given already has the items that the segment with this id had, dead ones included; and where segments had ids that
+/// were given, they have such ids still.
 pub fn segments_keep_their_items<A>()
     ensures sealed { (layout : Layout A) → KeepsItems layout (sealed layout) }
     ensures changed { (goes : A → Bool) (new : List A) (layout : Layout A) → KeepsItems layout (with_change goes new layout) }
