@@ -1,0 +1,10 @@
+mod Candidates
+mod Ids
+mod Ones
+mod Offering
+mod Matching
+mod Named
+mod Steps
+mod AfterMoves
+mod Cutting
+mod Results
