@@ -1,3 +1,3 @@
 mod Once
-mod Old
+pub mod Old
 mod Told

@@ -4,3 +4,12 @@ pub mod Grown
 pub mod Forms
 pub mod Found
 pub mod Each
+pub mod Fewer
+pub mod Owned
+pub mod OneSegment
+pub mod Numbered
+pub mod DeadRoots
+pub mod Sourced
+pub mod Said
+pub mod Led
+pub mod Refusing

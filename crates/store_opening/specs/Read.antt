@@ -1,7 +1,6 @@
 -- What the bytes behind a header give: a record, the values that its bodies are texts of, and places that it may name.
 use Rattle.std.specs.Prelude.{◌≡◌, ℕ, ◌%◌, ◌≤◌, ◌<◌, Bool, false, List, [], ◌∷◌, ◌++◌, length}
-use Rattle.std.specs.List.{All, AllZip}
-use Rattle.extent_pool.specs.Extents.{end_of, AreDisjoint}
+use Rattle.std.specs.List.{AllZip}
 use Rattle.extent_pool.specs.declared.extent.TheConstants.{UNIT}
 use Rattle.extent_pool.specs.declared.extent.Extent.{Extent}
 use Rattle.mapping.specs.Mapping.{Mapping, mapping_of}
@@ -58,16 +57,7 @@ pub record IsGrownBy (body : List ℕ) (old new : Mapping) : Type 0 where
 
 -- ---- extents
 
--- Extents that a store of at most so many bytes may name: each begins at a unit behind the header, has a byte or more and ends, in
--- whole units, within the limit, and no byte belongs to two of them.
-pub record AreExtents (limit : ℕ) (extents : List Extent) : Type 0 where
-  pub aligned : All (λ (extent : Extent). extent.at % UNIT ≡ 0) extents
-  pub behind : All (λ (extent : Extent). header_size ≤ extent.at) extents
-  pub some : All (λ (extent : Extent). 1 ≤ extent.len) extents
-  pub within : All (λ (extent : Extent). end_of extent ≤ limit) extents
-  pub disjoint : AreDisjoint extents
-
--- such a place of one extent, but for what it may share with others, no longer than the store
+-- a place that a store of at most so many bytes may name, but for what it may share with others, no longer than the store
 pub record IsPlace (limit : ℕ) (extent : Extent) : Type 0 where
   pub aligned : extent.at % UNIT ≡ 0
   pub behind : header_size ≤ extent.at

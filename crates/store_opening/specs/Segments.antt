@@ -28,6 +28,12 @@ pub record HasSegment (old : Bool) (scope_count : ℕ) (extent : Extent) (column
   pub found : IsFound file extent.at extent.len bytes
   pub is : IsSegmentText old scope_count columns bytes
 
+-- bytes of so many are those of the columns, in either form
+pub record HasText (old : Bool) (scope_count len : ℕ) (columns : Columns) : Type 0 where
+  pub bytes : List ℕ
+  pub long : length bytes ≡ len
+  pub is : IsSegmentText old scope_count columns bytes
+
 -- bytes that are no segment's are damage
 abbrev pub refusal_of : CodecRefusal → OpenRefusal
 refusal_of NotASegment = Damaged
@@ -38,3 +44,7 @@ pub record AreDead (columns : Columns) (live : LiveState) (dead : List ℕ) : Ty
   pub over : IsLiveOver columns live
   pub inside : All (λ (root : ℕ). root < length columns.roots) dead
   pub are : (root : ℕ) → root < length columns.roots → (slice_index_or live.roots root false ≡ false) ↔ Contains dead root
+
+-- bytes of one form, with so many scopes, are those of one segment at most
+abbrev pub AreOnce : Type 0
+AreOnce = (old : Bool) (scope_count : ℕ) (one other : Columns) (bytes : List ℕ) → IsSegmentText old scope_count one bytes → IsSegmentText old scope_count other bytes → one ≡ other

@@ -62,6 +62,7 @@ pub fn read_piece<D: Disk>(
 ) -> Result<Option<Vec<u8>>, OpenRefusal>
     requires { LenOf (D.content disk.old) file_len }
     ensures piece { IfOk result (λ found. IfSome found (λ bytes. (file : List ℕ) → D.content disk.old ≡ Some file → IsFound file at len bytes.items)) }
+    ensures long { IfOk result (λ found. IfSome found (λ bytes. length bytes.items ≡ len)) }
     ensures none { IfOk result (λ found. IsNone found → (file bytes : List ℕ) → D.content disk.old ≡ Some file → IsFound file at len bytes → ⊥) }
     ensures content { OnOk result (D.content disk.new ≡ D.content disk.old) }
     ensures looked { Looked (D.content disk.old) (D.content disk.new) (D.image disk.old) (D.image disk.new) (D.moment disk.old) (D.moment disk.new) (D.image_since disk.old) (D.image_since disk.new) }

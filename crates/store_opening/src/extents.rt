@@ -2,7 +2,8 @@
 
 ghost use Rattle.std.specs.Prelude.{◌≤◌, ◌^◌, ◌↔◌, IfOk, IsTrue};
 ghost use Rattle.std.specs.List.{All};
-ghost use Rattle.store_opening.specs.Read.{AreExtents, IsPlace};
+ghost use Rattle.commit_store.specs.Saying.{AreExtents};
+ghost use Rattle.store_opening.specs.Read.{IsPlace};
 
 use crate::refusal::NoMemory;
 use extent_pool::{Extent, ExtentList, ExtentPool, PoolRefusal, UNIT};

@@ -1,22 +1,32 @@
 //! Opening a store's file: its header, the record that the counting slot leads to, the mapping and the segments that it names.
 //!
-//! It stands on `disk`, on `store_text` and `commit_images` for what a file shows, on `mapping`, `extent_pool` and `segment_codec`. The contract
-//! that others use is that of each reader: it gives what stands in the file, or refuses with `Damaged` where nothing good stands
-//! there, and leaves the disk as it was. Begin reading with `specs/Looking.antt` and `specs/Beginning.antt`, then `header.rt`.
+//! It stands on `commit_store` and `commit_images` for what a file shows, on `disk` and `store_text`, on `mapping` and
+//! `segment_fits`, `segment_codec` and `segment_view`, and on `index_core` for what blocks are. The contract that others use is
+//! that of each reader: it gives what stands in the file, or refuses with `Damaged` where nothing good stands there, and leaves
+//! the disk as it was. Begin reading with `specs/Looking.antt`, `specs/Beginning.antt` and `specs/Entries.antt`, then `header.rt`
+//! and `commit.rt`.
 #![tactic(auto)]
 
+mod blocks;
 mod bodies;
+mod commit;
 mod dead;
 mod device;
+mod entries;
 mod extents;
 mod header;
+mod live_ids;
+mod once;
 mod record;
 mod refusal;
 mod segments;
 
+pub use blocks::are_blocks;
 pub use bodies::mapping_of_bodies;
+pub use commit::{CommitRead, read_commit};
 pub use dead::live_bits_of;
 pub use device::{read_piece, read_whole};
+pub use entries::read_entries;
 pub use extents::are_placed;
 pub use header::{counting_side, greatest_generation, read_header};
 pub use record::read_record_at;

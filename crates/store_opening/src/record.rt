@@ -2,6 +2,7 @@
 
 ghost use Rattle.std.specs.Prelude.{◌≡◌, ℕ, List, Some, IfOk, OnOk, IsErrOf};
 ghost use Rattle.disk.specs.Stops.{LenOf};
+ghost use Rattle.store_text.specs.Record.{IsRecord};
 ghost use Rattle.store_text.specs.declared.record.RecordText.{RecordText};
 ghost use Rattle.store_opening.specs.Looking.{Looked, HasOpenCause};
 ghost use Rattle.store_opening.specs.Read.{HasRecord};
@@ -23,6 +24,7 @@ pub fn read_record_at<D: Disk>(
 ) -> Result<RecordText, OpenRefusal>
     requires { LenOf (D.content disk.old) file_len }
     ensures record { IfOk result (λ it. (file : List ℕ) → D.content disk.old ≡ Some file → HasRecord at len it file) }
+    ensures numbers { IfOk result IsRecord }
     ensures damaged { IsErrOf result OpenRefusal.Damaged → (file : List ℕ) (it : RecordText) → D.content disk.old ≡ Some file → HasRecord at len it file → ⊥ }
     ensures not_a_store { IsErrOf result OpenRefusal.NotAStore → ⊥ }
     ensures content { OnOk result (D.content disk.new ≡ D.content disk.old) }

@@ -19,6 +19,18 @@ impl From<segment::NoMemory> for NoMemory {
     }
 }
 
+impl<T: Drop> From<AllocFailed<T>> for NoMemory {
+    fn from(_: AllocFailed<T>) -> NoMemory {
+        NoMemory
+    }
+}
+
+impl From<segment_view::NoMemory> for NoMemory {
+    fn from(_: segment_view::NoMemory) -> NoMemory {
+        NoMemory
+    }
+}
+
 impl From<tree_json::NoMemory> for NoMemory {
     fn from(_: tree_json::NoMemory) -> NoMemory {
         NoMemory
@@ -78,6 +90,28 @@ impl From<store_text::NoMemory> for OpenRefusal {
     ghost from_gives = { λ _ e. e ≡ NoMemory };
 
     fn from(_: store_text::NoMemory) -> OpenRefusal {
+        OpenRefusal::NoMemory
+    }
+}
+
+impl From<segment_view::NoMemory> for OpenRefusal {
+    ghost use Rattle.std.specs.Prelude.{◌≡◌};
+    ghost use Rattle.store_opening.specs.declared.refusal.OpenRefusal.TheVariants.{NoMemory};
+
+    ghost from_gives = { λ _ e. e ≡ NoMemory };
+
+    fn from(_: segment_view::NoMemory) -> OpenRefusal {
+        OpenRefusal::NoMemory
+    }
+}
+
+impl From<segment_fits::NoMemory> for OpenRefusal {
+    ghost use Rattle.std.specs.Prelude.{◌≡◌};
+    ghost use Rattle.store_opening.specs.declared.refusal.OpenRefusal.TheVariants.{NoMemory};
+
+    ghost from_gives = { λ _ e. e ≡ NoMemory };
+
+    fn from(_: segment_fits::NoMemory) -> OpenRefusal {
         OpenRefusal::NoMemory
     }
 }

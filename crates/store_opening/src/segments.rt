@@ -5,7 +5,7 @@ ghost use Rattle.disk.specs.Stops.{LenOf};
 ghost use Rattle.segment.specs.Old.{IsOldEncoding};
 ghost use Rattle.segment_parts.specs.declared.columns.Columns.{Columns};
 ghost use Rattle.store_opening.specs.Looking.{Looked, HasOpenCause};
-ghost use Rattle.store_opening.specs.Segments.{HasSegment, IsOldText, IsSegmentText};
+ghost use Rattle.store_opening.specs.Segments.{HasSegment, HasText, IsOldText, IsSegmentText};
 
 use crate::device::read_piece;
 use crate::refusal::OpenRefusal;
@@ -28,6 +28,7 @@ pub fn read_segment<D: Disk>(
 ) -> Result<Segment, OpenRefusal>
     requires { LenOf (D.content disk.old) file_len }
     ensures segment { IfOk result (λ segment. (file : List ℕ) → D.content disk.old ≡ Some file → HasSegment old scope_count extent segment file) }
+    ensures text { IfOk result (HasText old scope_count extent.len) }
     ensures damaged { IsErrOf result OpenRefusal.Damaged → (file : List ℕ) (columns : Columns) → D.content disk.old ≡ Some file → HasSegment old scope_count extent columns file → ⊥ }
     ensures not_a_store { IsErrOf result OpenRefusal.NotAStore → ⊥ }
     ensures content { OnOk result (D.content disk.new ≡ D.content disk.old) }
