@@ -1,4 +1,5 @@
 pub mod Chosen
 pub mod Clauses
+mod Examples
 pub mod Settled
 pub mod Written

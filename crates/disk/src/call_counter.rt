@@ -1,19 +1,18 @@
 //! The numbers of a disk's calls.
 
-ghost use Rattle.std.specs.Prelude.{◌≡◌, IfOk};
+ghost use Rattle.std.specs.Prelude.{◌≡◌};
 ghost use Rattle.io_edges.specs.Calls.{is_listed};
 ghost use Rattle.disk.specs.Record.{counted_call};
 
-use io_edges::{CallList, MemSource, NoMemory, Source};
-use std::alloc::Global;
+use io_edges::CallList;
 use std::marker::Model;
 
-/// Numbers the calls from 0, and knows which of them are to fail.
-///
-/// The reads of a source in memory are numbered and fail in just this way, so they are what counts.
+/// Numbers the calls from 0, and knows which of them are to fail and how many of these were made.
 #[derive(Drop)]
 pub(crate) struct CallCounter {
-    reads: MemSource,
+    fails: CallList,
+    call: u64,
+    failed: u64,
 }
 
 impl Model for CallCounter {
@@ -21,17 +20,19 @@ impl Model for CallCounter {
 
     ghost Value = { CallCount };
 
-    ghost view = { λ c. record { fails = c.reads.fails; call = c.reads.call; failed = c.reads.faults } };
+    ghost view = { λ c. record { fails = c.fails; call = c.call; failed = c.failed } };
 }
 
 impl CallCounter {
     /// The next call has the number 0.
-    pub(crate) fn over(alloc: Global, fails: CallList) -> Result<CallCounter, NoMemory>
-        ensures { IfOk result (λ count. count ≡ record { fails = fails; call = 0; failed = 0 }) }
+    pub(crate) fn over(fails: CallList) -> CallCounter
+        ensures { result ≡ record { fails = fails; call = 0; failed = 0 } }
     {
-        Ok(CallCounter {
-            reads: MemSource::over(alloc, Vec::new(alloc), fails)?,
-        })
+        CallCounter {
+            fails,
+            call: 0,
+            failed: 0,
+        }
     }
 
     /// Counts a call, and answers whether it is to fail.
@@ -39,6 +40,12 @@ impl CallCounter {
         ensures listed { result ≡ is_listed self.old.fails self.old.call }
         ensures counted { self.new ≡ counted_call self.old }
     {
-        self.reads.read(&mut []).is_err()
+        let call = self.call;
+        self.call = call.saturating_add(1);
+        if !self.fails.lists(call) {
+            return false;
+        }
+        self.failed = self.failed.saturating_add(1);
+        true
     }
 }

@@ -48,7 +48,7 @@ impl MemDisk {
     {
         Ok(MemDisk {
             file: RecordedFile::over(alloc, bytes)?,
-            count: CallCounter::over(alloc, fails)?,
+            count: CallCounter::over(fails),
             no_room: 0,
         })
     }

@@ -12,7 +12,7 @@ use Rattle.reply_text.specs.declared.refusal.Refusal.{Refusal}
 use Rattle.reply_text.specs.declared.reply.Reply.{Reply}
 use Rattle.reply_text.specs.declared.reply.Reply.TheVariants as reply
 use Rattle.engine.specs.Answers.{answered_by, reply_bytes}
-use Rattle.engine.specs.Faithful.{AreFaithful, StandsUnder}
+use Rattle.index_trees.specs.Faithful.{AreFaithful, StandsUnder}
 use Rattle.engine.specs.Parts.{Ends, IsAcceptance, IsRefusal, answered_of}
 use Rattle.engine.specs.declared.engine.Answered.{Answered}
 use Rattle.engine.specs.declared.engine.Answered.TheVariants.{Written, Refused, NoMemory}
@@ -32,7 +32,6 @@ same_faithful mapping index index' state f next same = record {
   stands = subst (λ (kept : Layout BlockState). StandsUnder mapping kept state.layout) (sym same) f.stands;
   laid = f.laid;
   numbered = f.numbered;
-  stored = f.stored;
 }
 
 pub sealed_faithful : (m : Mapping) (index index' : IndexState) (state : State) → AreFaithful (Some m) index state → index'.next ≡ index.next → layout_kept index' ≡ sealed (layout_kept index)
@@ -43,7 +42,6 @@ sealed_faithful m index index' state f next same = record {
   stands = same_kept m (sealed (layout_kept index)) (layout_kept index') (sealed state.layout) same (sealed_stands m (layout_kept index) state.layout f.stands);
   laid = sealed_keeps state.layout ∙ f.laid;
   numbered = f.numbered;
-  stored = f.stored;
 }
 
 -- ---- replies
@@ -56,30 +54,33 @@ refused mapping index state why out f text = record {
   may = inl (record { reply_is = refl; state_is = refl });
   faithful = f;
   points = refl;
+  kept = refl;
   told = refl;
   text = text;
 }
 
-pub accepted : (mapping : Option Mapping) (index : IndexState) (state after : State) (given : Reply) (out : List ℕ) → AreFaithful mapping index after → after.points ≡ state.points → answered_by given ≡ Written → out ≡ reply_text given
+pub accepted : (mapping : Option Mapping) (index : IndexState) (state after : State) (given : Reply) (out : List ℕ) → AreFaithful mapping index after → after.points ≡ state.points → after.kept ≡ state.kept → answered_by given ≡ Written → out ≡ reply_text given
     → Ends state (outcome_of state (answers given after)) Written out mapping index
-accepted mapping index state after given out f same told text = record {
+accepted mapping index state after given out f same stored told text = record {
   reply = given;
   after = after;
   may = inl (record { reply_is = refl; state_is = refl });
   faithful = f;
   points = same;
+  kept = stored;
   told = sym told;
   text = text;
 }
 
-pub told : (mapping : Option Mapping) (index : IndexState) (state after : State) (answered : Answered) (given : Reply) (out : List ℕ) → AreFaithful mapping index after → after.points ≡ state.points → reply_bytes answered out ≡ out
+pub told : (mapping : Option Mapping) (index : IndexState) (state after : State) (answered : Answered) (given : Reply) (out : List ℕ) → AreFaithful mapping index after → after.points ≡ state.points → after.kept ≡ state.kept → reply_bytes answered out ≡ out
     → answered ≡ answered_by given → out ≡ reply_text given → Ends state (outcome_of state (answers given after)) answered out mapping index
-told mapping index state after answered given out f same written told_so text = record {
+told mapping index state after answered given out f same stored written told_so text = record {
   reply = given;
   after = after;
   may = inl (record { reply_is = refl; state_is = refl });
   faithful = f;
   points = same;
+  kept = stored;
   told = told_so;
   text = written ∙ text;
 }
@@ -93,6 +94,7 @@ lacking mapping index state outcome out f = record {
   may = inr (inl (record { reply_is = refl; state_is = inl refl }));
   faithful = f;
   points = refl;
+  kept = refl;
   told = refl;
   text = refl;
 }
@@ -104,6 +106,7 @@ lacking_sealed m index state outcome out f = record {
   may = inr (inl (record { reply_is = refl; state_is = inr refl }));
   faithful = f;
   points = refl;
+  kept = refl;
   told = refl;
   text = refl;
 }
@@ -152,7 +155,7 @@ refusal_ends mapping index state answer why (Err none) out f e said = lacking ma
 pub acceptance_ends : (mapping : Option Mapping) (index : IndexState) (state : State) (answer : Answer) (given : Reply) (result : Result Ended memory.NoMemory) (out : List ℕ) → AreFaithful mapping index state
     → answer ≡ answers given state → answered_by given ≡ Written → IsAcceptance given result out → Ends state (outcome_of state answer) (answered_of result) out mapping index
 acceptance_ends mapping index state answer given (Ok Accepted) out f e told_so said =
-    subst (λ it. Ends state (outcome_of state it) Written out mapping index) (sym e) (accepted mapping index state state given out f refl told_so said)
+    subst (λ it. Ends state (outcome_of state it) Written out mapping index) (sym e) (accepted mapping index state state given out f refl refl told_so said)
 acceptance_ends mapping index state answer given (Ok ended.Refused) out f e told_so said = absurd said
 acceptance_ends mapping index state answer given (Err none) out f e told_so said = lacking mapping index state (outcome_of state answer) out f
 

@@ -1,14 +1,13 @@
 -- How writes end, by what became of the change.
 use Rattle.std.proofs.Common.{◌≡◌, true, false, ℕ, List, [], ◌∷◌, Option, Some, None, Result, Ok, Err, option_map, unwrap_or, refl, sym, ap, subst, inl, inr, Bool, ◌∙◌}
 use Rattle.std.proofs.lemmas.List.Elements.{All-cons, All-nil}
-use Rattle.std.specs.List.{All}
+use Rattle.commit_store.specs.Saying.{HasSource}
 use Rattle.flattener.specs.Block.{BlockState, root_of_tree}
 use Rattle.flattener.specs.Fits.{BlockFits}
 use Rattle.flattener.specs.Seen.{block_seen}
 use Rattle.index_core.specs.Kept.{IndexFits, IndexState, block_number, has_block_id, layout_kept, live_block}
 use Rattle.index_core.specs.Write.{IsNext, has_nothing, written}
 use Rattle.index_core.specs.declared.op.WriteOp.TheVariants.{Put, Take}
-use Rattle.layout.specs.Layout.{live_items}
 use Rattle.machine.specs.Answer.{first_of, outcome_of}
 use Rattle.machine.specs.State.{State}
 use Rattle.machine.specs.Write.{added_body, put_result, put_source}
@@ -23,15 +22,16 @@ use Rattle.tree_json.specs.Value.{JsonValue}
 use Rattle.tree_objects.specs.Tree.{Tree}
 use Rattle.write_plan.specs.Planned.{IsPlanned, refusals_of}
 use Rattle.write_plan.specs.declared.plan.Plan.{Plan}
-use Rattle.engine.specs.Faithful.{AreFaithful}
-use Rattle.engine.specs.Kept.{HasValue, IsIndexOf}
+use Rattle.index_trees.specs.Faithful.{AreFaithful}
+use Rattle.engine.specs.Kept.{IsIndexOf}
 use Rattle.engine.specs.Parts.{Ends, Grows, IsChanged, Leaves, answered_of, delete_step, mapping_put}
 use Rattle.engine.specs.declared.engine.Answered.TheVariants as answered
 use Rattle.engine.specs.declared.no_memory.NoMemory as memory
 use Rattle.engine.specs.declared.reply.Ended.{Ended}
 use Rattle.engine.specs.declared.reply.Ended.TheVariants.{Accepted, Refused}
 use Rattle.engine.proofs.Answering.{lacking_room, stays_or_seals}
-use Rattle.engine.proofs.Leaving.{leaves_same, leaves_sealed, values_changed, values_left}
+use Rattle.engine.proofs.Items.{Carries, carries_changed, carries_same}
+use Rattle.engine.proofs.Leaving.{leaves_same, leaves_sealed}
 use Rattle.engine.proofs.Standing.{SameBlocks}
 use Rattle.engine.proofs.Taking.{take_full, take_made}
 use Rattle.engine.proofs.Writing.{put_full, put_made}
@@ -56,15 +56,16 @@ put_ends same limits m m' id source plan tree index index' state (Err none) out 
 pub put_leaves : (m m' : Mapping) (id : List ℕ) (source : JsonValue) (plan : Plan) (index index' : IndexState) (result : Result Ended memory.NoMemory) (out out' : List ℕ) → IsMapping m → IsIndexOf m index
     → IsPlanned m id source index.next plan → IsChanged result (Put plan.block) index index' out out' → m' ≡ mapping_put result m plan.grown → IndexFits (unwrap_or plan.grown m) index'
     → index'.objects ≡ index.objects → Leaves (answered_of result) (Some m) (Some m') m' index index'
-put_leaves m m' id source plan index index' (Ok Accepted) out out' is index_of p changed grown fits objects = record {
-  kept = record {
-    fits = subst (λ (it : Mapping). IndexFits it index') (sym grown) fits;
-    values = values_changed (has_block_id plan.block.root.id) (block_seen plan.block ∷ []) (layout_kept index) (layout_kept index') index_of.values
-        (All-cons HasValue (block_seen plan.block) [] (source, p.text) (All-nil HasValue)) changed.0.layout;
-  };
-  objects = objects;
-  stays = tt;
-}
+put_leaves m m' id source plan index index' (Ok Accepted) out out' is index_of p changed grown fits objects =
+    let has : HasSource (block_seen plan.block) = record { source = source; text = p.text.text; reads = p.text.reads } in
+    let carries = carries_changed (has_block_id plan.block.root.id) (block_seen plan.block ∷ []) (layout_kept index) (layout_kept index')
+    (All-cons HasSource (block_seen plan.block) [] has (All-nil HasSource)) changed.0.layout in
+    record {
+      kept = record { fits = subst (λ (it : Mapping). IndexFits it index') (sym grown) fits; values = carries.values index_of.values };
+      objects = objects;
+      items = carries.items;
+      stays = tt;
+    }
 put_leaves m m' id source plan index index' (Ok Refused) out out' is index_of p changed grown fits objects =
     subst (λ (it : Mapping). Leaves answered.Refused (Some m) (Some it) it index index') (sym grown)
     (subst (λ (at : IndexState). Leaves answered.Refused (Some m) (Some m) m index at) (sym changed.same) (leaves_same answered.Refused m index index_of))
@@ -93,20 +94,17 @@ take_ends limits m id index index' state number (Ok Refused) out out' most f som
 take_ends limits m id index index' state number (Err none) out out' most f some changed text =
     lacking_room m index index' state _ out' f changed.next (stays_or_seals (layout_kept index) (layout_kept index') changed.layout)
 
-taken_values : (id : List ℕ) (index index' : IndexState) (b : Bool) → has_nothing (Take id) index ≡ b → All HasValue (live_items (layout_kept index)) → layout_kept index' ≡ written (Take id) index
-    → All HasValue (live_items (layout_kept index'))
-taken_values id index index' true nothing all e =
-    values_left (layout_kept index) (layout_kept index') all (inl (e ∙ rw nothing refl))
-taken_values id index index' false nothing all e =
-    values_changed (has_block_id id) [] (layout_kept index) (layout_kept index') all (All-nil HasValue) (e ∙ rw nothing refl)
+taken_carries : (id : List ℕ) (index index' : IndexState) (b : Bool) → has_nothing (Take id) index ≡ b → layout_kept index' ≡ written (Take id) index → Carries (layout_kept index) (layout_kept index')
+taken_carries id index index' true nothing e =
+    carries_same (layout_kept index) (layout_kept index') (e ∙ rw nothing refl)
+taken_carries id index index' false nothing e =
+    carries_changed (has_block_id id) [] (layout_kept index) (layout_kept index') (All-nil HasSource) (e ∙ rw nothing refl)
 
 pub take_leaves : (m : Mapping) (id : List ℕ) (index index' : IndexState) (result : Result Ended memory.NoMemory) (out out' : List ℕ) → IsIndexOf m index
     → IsChanged result (Take id) index index' out out' → IndexFits m index' → index'.objects ≡ index.objects → Leaves (answered_of result) (Some m) (Some m) m index index'
-take_leaves m id index index' (Ok Accepted) out out' index_of changed fits objects = record {
-  kept = record { fits = fits; values = taken_values id index index' (has_nothing (Take id) index) refl index_of.values changed.0.layout };
-  objects = objects;
-  stays = tt;
-}
+take_leaves m id index index' (Ok Accepted) out out' index_of changed fits objects =
+    let carries = taken_carries id index index' (has_nothing (Take id) index) refl changed.0.layout in
+    record { kept = record { fits = fits; values = carries.values index_of.values }; objects = objects; items = carries.items; stays = tt }
 take_leaves m id index index' (Ok Refused) out out' index_of changed fits objects =
     subst (λ (at : IndexState). Leaves answered.Refused (Some m) (Some m) m index at) (sym changed.same) (leaves_same answered.Refused m index index_of)
 take_leaves m id index index' (Err none) out out' index_of changed fits objects =

@@ -33,7 +33,7 @@ use Rattle.tree_json.specs.Value.{JsonValue}
 use Rattle.search_page.specs.Searched.{AreSearched}
 use Rattle.tree_objects.specs.Tree.{IsLiveList, Tree}
 use Rattle.engine.specs.Answers.{answered_by, reply_bytes}
-use Rattle.engine.specs.Faithful.{AreFaithful, EntriesStandFor, Indexed, block_in, tree_in}
+use Rattle.index_trees.specs.Faithful.{AreFaithful, EntriesStandFor, Indexed, block_in, tree_in}
 use Rattle.engine.specs.Parts.{Ends, IsRefusedAs, answered_of}
 use Rattle.engine.specs.declared.no_memory.NoMemory as memory
 use Rattle.engine.specs.declared.reply.Ended.{Ended}
@@ -161,7 +161,7 @@ pub found_ends : (limits : Limits) (m : Mapping) (search : SearchBody) (index in
     → IfOk result (λ ends. answered_of (Ok ends) ≡ answered_by (within limits (found_by m live search))) → OnOk result (out ≡ reply_text (within limits (found_by m live search)))
     → Ends state (outcome_of state (search_over limits m search (Some live) (sealed_state state))) (answered_of result) out (Some m) index'
 found_ends limits m search index index' state live (Ok ends) out f next seals told_so text =
-    told (Some m) index' state (sealed_state state) (answered_of (Ok ends)) (within limits (found_by m live search)) out (sealed_faithful m index index' state f next seals) refl (its_bytes ends out) told_so text
+    told (Some m) index' state (sealed_state state) (answered_of (Ok ends)) (within limits (found_by m live search)) out (sealed_faithful m index index' state f next seals) refl refl (its_bytes ends out) told_so text
 found_ends limits m search index index' state live (Err none) out f next seals told_so text =
     lacking_sealed m index' state _ out (sealed_faithful m index index' state f next seals)
 

@@ -1,8 +1,11 @@
--- Blocks stand for trees; replies and want of memory; sealing; writes, and the sources of updates; mapping lines; searches; what
--- holds whatever the state; points in time; merges and rows; what is asked for; and the names of inner hits.
+-- Blocks stand for trees; replies and want of memory; sealing; items that stay, and what a store knows of them; writes, and the
+-- sources of updates; mapping lines; searches; what holds whatever the state; points in time; merges and rows; what isn't asked
+-- of the store; what is asked for; commits, compactions and trims; and the names of inner hits.
 pub mod Standing
 pub mod Answering
 pub mod Sealing
+pub mod Items
+pub mod Known
 pub mod Writing
 pub mod Taking
 pub mod Updating
@@ -15,5 +18,7 @@ pub mod Pages
 pub mod Pointing
 pub mod Opening
 pub mod Merging
+pub mod Plain
 pub mod Asking
+pub mod Committing
 pub mod Naming

@@ -14,7 +14,7 @@ use Rattle.reply_text.specs.declared.refusal.Refusal.{Refusal}
 use Rattle.reply_text.specs.declared.reply.Reply.TheVariants as reply
 use Rattle.tree_json.specs.Value.{JsonValue}
 use Rattle.tree_objects.specs.Tree.{Tree}
-use Rattle.engine.specs.Faithful.{AreFaithful}
+use Rattle.index_trees.specs.Faithful.{AreFaithful}
 use Rattle.engine.specs.Parts.{Ends}
 use Rattle.engine.specs.declared.engine.Answered.TheVariants as answered
 use Rattle.engine.proofs.Answering.{accepted, sealed_faithful}
@@ -47,9 +47,8 @@ first_accepted body mapping index state m out none f nothing first is text =
       stands = record { indexed = empty_layout; trees = ap sealed own.stands ∙ empty_sealed; blocks = nothing };
       laid = sealed_keeps state.layout ∙ own.laid;
       numbered = record { live = own.numbered.live; below = own.numbered.below };
-      stored = own.stored;
     } in
-    subst (λ answer. Ends state (outcome_of state answer) answered.Written out (Some m) index) (sym e) (accepted (Some m) index state after reply.Mapped out faithful refl refl text)
+    subst (λ answer. Ends state (outcome_of state answer) answered.Written out (Some m) index) (sym e) (accepted (Some m) index state after reply.Mapped out faithful refl refl refl text)
 
 -- ---- a further line
 
@@ -70,6 +69,5 @@ further_accepted same body m m' index index' state out is is' further f next sea
       stands = grown_stands same m m' is is' (subst (HasFurtherBodies m) (sym grown) further) (layout_kept index') (sealed state.layout) g.stands;
       laid = g.laid;
       numbered = record { live = f.numbered.live; below = f.numbered.below };
-      stored = f.stored;
     } in
-    subst (λ answer. Ends state (outcome_of state answer) answered.Written out (Some m') index') (sym e) (accepted (Some m') index' state after reply.Mapped out faithful refl refl text)
+    subst (λ answer. Ends state (outcome_of state answer) answered.Written out (Some m') index') (sym e) (accepted (Some m') index' state after reply.Mapped out faithful refl refl refl text)

@@ -1,7 +1,6 @@
 -- Commands on the layout: merges, merges by a factor and rows. What the machine does to trees, the index does to their blocks.
 use Rattle.std.proofs.Common.{◌≡◌, ◌==◌, ℕ, false, cond, List, map, Option, Some, None, unwrap_or, IfOk, IfSome, OnOk, Result, Ok, Err, refl, sym, ap, subst, ◌∙◌, arith}
 use Rattle.std.proofs.lemmas.Bool.Decides.{nat_tests}
-use Rattle.std.proofs.lemmas.List.Elements.{All-same}
 use Rattle.flattener.specs.Block.{BlockState}
 use Rattle.index_core.specs.Kept.{IndexFits, IndexState, block_number, layout_kept}
 use Rattle.layout.specs.As.{layout_as}
@@ -26,14 +25,15 @@ use Rattle.request_form.specs.Formed.{IsFactor}
 use Rattle.segment_builder.specs.Blocks.{block_objects}
 use Rattle.tree_objects.specs.Tree.{Tree}
 use Rattle.engine.specs.Answers.{answered_by}
-use Rattle.engine.specs.Faithful.{AreFaithful, Indexed, StandsFor, block_in, tree_in}
-use Rattle.engine.specs.Kept.{HasValue, IsIndexOf}
+use Rattle.index_trees.specs.Faithful.{AreFaithful, Indexed, StandsFor, block_in, tree_in}
+use Rattle.engine.specs.Kept.{IsIndexOf}
 use Rattle.engine.specs.Parts.{Ends, IsRefusal, Leaves, answered_of}
 use Rattle.engine.specs.declared.engine.Answered.TheVariants.{Written}
 use Rattle.engine.specs.declared.no_memory.NoMemory as memory
 use Rattle.engine.specs.declared.reply.Ended.{Ended}
 use Rattle.engine.proofs.Answering.{accepted, lacking_sealed, refusal_ends, sealed_faithful, told}
 use Rattle.engine.proofs.Finding.{its_bytes}
+use Rattle.engine.proofs.Items.{carries_factor, carries_merged}
 use Rattle.engine.proofs.Standing.{number_same, objects_in as objects_same, same_kept, sealed_stands}
 
 -- ---- a reply to what was done is no refusal
@@ -111,22 +111,15 @@ merge_done m command index index' state given out f next is text =
       stands = r.stands;
       laid = lives_on command (sealed state.layout) r.layout given r.is ∙ sealed_keeps state.layout ∙ f.laid;
       numbered = f.numbered;
-      stored = f.stored;
     } in
     subst (λ answer. Ends state (outcome_of state answer) Written out (Some m) index') (sym (ap (answer_of (sealed_state state)) r.is))
-    (accepted (Some m) index' state after given out faithful refl (subst Tells r.is (merged_tells command (sealed state.layout))) text)
+    (accepted (Some m) index' state after given out faithful refl refl (subst Tells r.is (merged_tells command (sealed state.layout))) text)
 
 pub merge_leaves : (m : Mapping) (command : MergeCommand) (index index' : IndexState) (given : Reply) → IsIndexOf m index → IndexFits m index' → index'.objects ≡ index.objects
     → merged_by command (sealed (layout_kept index)) ≡ relaid given (layout_kept index') → Leaves Written (Some m) (Some m) m index index'
-merge_leaves m command index index' given index_of fits objects is = record {
-  kept = record {
-    fits = fits;
-    values = All-same HasValue (live_items (layout_kept index')) (live_items (layout_kept index))
-        (lives_on command (sealed (layout_kept index)) (layout_kept index') given is ∙ sealed_keeps (layout_kept index)) index_of.values;
-  };
-  objects = objects;
-  stays = tt;
-}
+merge_leaves m command index index' given index_of fits objects is =
+    let carries = carries_merged command (layout_kept index) (layout_kept index') given is in
+    record { kept = record { fits = fits; values = carries.values index_of.values }; objects = objects; items = carries.items; stays = tt }
 
 pub merge_refused : (m : Mapping) (command : MergeCommand) (index index' : IndexState) (state : State) (why : Refusal) (result : Result Ended memory.NoMemory) (out : List ℕ) → AreFaithful (Some m) index state
     → merged_by command (sealed (layout_kept index)) ≡ declined why → index' ≡ index → IsRefusal why result out
@@ -161,20 +154,14 @@ factor_done m factor index index' state out is f next seals text =
       stands = same_kept m (sealed (with_factor factor (layout_kept index))) (layout_kept index') (sealed layout) kept (sealed_stands m (with_factor factor (layout_kept index)) layout s);
       laid = sealed_keeps layout ∙ f.laid;
       numbered = f.numbered;
-      stored = f.stored;
     } in
-    accepted (Some m) index' state after (reply.AutoMerge (unwrap_or factor 0)) out faithful refl refl text
+    accepted (Some m) index' state after (reply.AutoMerge (unwrap_or factor 0)) out faithful refl refl refl text
 
 pub factor_leaves : (m : Mapping) (factor : Option ℕ) (index index' : IndexState) → IsIndexOf m index → IndexFits m index' → index'.objects ≡ index.objects
     → layout_kept index' ≡ sealed (with_factor factor (layout_kept index)) → Leaves Written (Some m) (Some m) m index index'
-factor_leaves m factor index index' index_of fits objects seals = record {
-  kept = record {
-    fits = fits;
-    values = All-same HasValue (live_items (layout_kept index')) (live_items (layout_kept index)) (ap live_items seals ∙ sealed_keeps (with_factor factor (layout_kept index))) index_of.values;
-  };
-  objects = objects;
-  stays = tt;
-}
+factor_leaves m factor index index' index_of fits objects seals =
+    let carries = carries_factor factor (layout_kept index) (layout_kept index') seals in
+    record { kept = record { fits = fits; values = carries.values index_of.values }; objects = objects; items = carries.items; stays = tt }
 
 -- ---- rows
 
@@ -198,7 +185,7 @@ unfolding segments_step
 rows_end limits m index index' state given (Ok ends) out f next seals rows told_so text =
     let faithful = sealed_faithful m index index' state f next seals in
     let is : given ≡ layout_reply m (sealed state.layout) = rows ∙ rows_same m (layout_kept index') (sealed state.layout) faithful.stands in
-    told (Some m) index' state (sealed_state state) (answered_of (Ok ends)) (within limits (layout_reply m (sealed state.layout))) out faithful refl (its_bytes ends out)
+    told (Some m) index' state (sealed_state state) (answered_of (Ok ends)) (within limits (layout_reply m (sealed state.layout))) out faithful refl refl (its_bytes ends out)
     (told_so ∙ ap (λ (it : Reply). answered_by (within limits it)) is) (text ∙ ap (λ (it : Reply). reply_text (within limits it)) is)
 rows_end limits m index index' state given (Err none) out f next seals rows told_so text =
     lacking_sealed m index' state _ out (sealed_faithful m index index' state f next seals)

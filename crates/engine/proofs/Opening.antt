@@ -14,7 +14,7 @@ use Rattle.reply_text.specs.declared.refusal.Refusal.TheVariants.{TooManyPits, U
 use Rattle.reply_text.specs.declared.reply.Reply.{Reply}
 use Rattle.reply_text.specs.declared.reply.Reply.TheVariants as reply
 use Rattle.engine.specs.Answers.{answered_by}
-use Rattle.engine.specs.Faithful.{AreFaithful, PointsStand, PointsStandFor}
+use Rattle.index_trees.specs.Faithful.{AreFaithful, PointsStand, PointsStandFor}
 use Rattle.engine.specs.Parts.{Ends, EndsWith, IsRefusal, answered_of}
 use Rattle.engine.specs.declared.engine.Answered.{Answered}
 use Rattle.engine.specs.declared.engine.Answered.TheVariants.{Written, NoMemory}
@@ -34,6 +34,7 @@ ends_with mapping index points state outcome answered out stand e = record {
   may = e.may;
   faithful = e.faithful;
   stand = subst (PointsStandFor mapping points) (sym e.points) stand;
+  kept = e.kept;
   told = e.told;
   text = e.text;
 }
@@ -45,8 +46,9 @@ done_with m index points state others given out f stand told_so text = record {
   reply = given;
   after = with_points others (sealed_state state);
   may = inl (record { reply_is = refl; state_is = refl });
-  faithful = record { mapped = f.mapped; next = f.next; stands = f.stands; laid = f.laid; numbered = f.numbered; stored = f.stored };
+  faithful = record { mapped = f.mapped; next = f.next; stands = f.stands; laid = f.laid; numbered = f.numbered };
   stand = stand;
+  kept = refl;
   told = sym told_so;
   text = text;
 }

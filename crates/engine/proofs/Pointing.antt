@@ -12,7 +12,7 @@ use Rattle.point_in_time.specs.Points as kept
 use Rattle.point_in_time.specs.Points.{KeptPoint, KeptPoints, entries_at, entries_under, is_full, is_open, is_other, with_point, without_point}
 use Rattle.segment.specs.Live.{EntryState}
 use Rattle.tree_objects.specs.Tree.{Tree}
-use Rattle.engine.specs.Faithful.{EntriesStandFor, PointStandsFor, PointsStand}
+use Rattle.index_trees.specs.Faithful.{EntriesStandFor, PointStandsFor, PointsStand}
 use Rattle.engine.specs.Kept.{PointsFit}
 use Rattle.engine.proofs.Updating.{found_holds}
 

@@ -17,7 +17,7 @@ use Rattle.segment.specs.Live.{EntryState}
 use Rattle.segment_builder.specs.Blocks.{block_objects as objects_at, objects_of}
 use Rattle.tree_objects.specs.Object.{block_objects}
 use Rattle.tree_objects.specs.Tree.{Tree, has_id}
-use Rattle.engine.specs.Faithful.{EntriesStandFor, Indexed, StandsFor, block_in, tree_in}
+use Rattle.index_trees.specs.Faithful.{EntriesStandFor, Indexed, StandsFor, block_in, tree_in}
 
 pub map-map : {A B C : Type 0} (g : B → C) (f : A → B) (xs : List A) → map g (map f xs) ≡ map (λ x. g (f x)) xs
 map-map g f [] = refl

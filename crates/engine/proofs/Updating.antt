@@ -4,9 +4,11 @@ use Rattle.std.proofs.lemmas.List.Elements.{All-head, All-tail}
 use Rattle.std.specs.List.{All, find}
 use Rattle.std.specs.Prelude.{IfSome}
 use Rattle.flattener.specs.Block.{BlockState}
-use Rattle.index_core.specs.Kept.{IndexState, block_number, has_block_id, live_block, live_kept}
+use Rattle.commit_store.specs.Saying.{HasSource}
+use Rattle.index_core.specs.Kept.{IndexState, block_number, has_block_id, layout_kept, live_block, live_kept}
 use Rattle.index_core.specs.Write.{source_of}
 use Rattle.json_merge.specs.Merged.{into_object, merged, merged_members}
+use Rattle.layout_ids.specs.Items.{AllItems}
 use Rattle.machine.specs.Write.{updated_source}
 use Rattle.request_form.specs.Command.{Changes, update}
 use Rattle.request_form.specs.Formed.{HasSources, IsSourceValue}
@@ -15,7 +17,7 @@ use Rattle.tree_json.specs.Value.{JsonValue, Members, null, bool, whole, text, l
 use Rattle.tree_json.specs.View.{view}
 use Rattle.tree_json.specs.declared.value.Json.{Json}
 use Rattle.write_plan.specs.Update.{IsTextOf, IsUpdated}
-use Rattle.engine.specs.Kept.{HasValue}
+use Rattle.engine.proofs.Items.{live_values}
 
 -- ---- the live source
 
@@ -28,15 +30,15 @@ found_holds {A} P test (y ∷ ys) x all found =
     by true later e = let same : y ≡ x = cc in subst P same (All-head P y ys all)
     by false later e = later e
 
-value_of : (found : Option BlockState) → ((block : BlockState) → found ≡ Some block → HasValue block) → is_some found ≡ true → (live : JsonValue) × IsTextOf (source_of found) live
+value_of : (found : Option BlockState) → ((block : BlockState) → found ≡ Some block → HasSource block) → is_some found ≡ true → (live : JsonValue) × IsTextOf (source_of found) live
 value_of None all some = absurd (cc)
-value_of (Some block) all some = all block refl
+value_of (Some block) all some = let has = all block refl in (has.source, record { text = has.text; reads = has.reads })
 
 -- the source of the block that is live under an id is the text of a value
-pub live_value : (id bytes : List ℕ) (index : IndexState) → All HasValue (live_kept index) → is_some (live_block id index) ≡ true → bytes ≡ source_of (live_block id index)
+pub live_value : (id bytes : List ℕ) (index : IndexState) → AllItems HasSource (layout_kept index) → is_some (live_block id index) ≡ true → bytes ≡ source_of (live_block id index)
     → (live : JsonValue) × IsTextOf bytes live
 live_value id bytes index all some is =
-    let here = value_of (live_block id index) (λ block found. found_holds HasValue (has_block_id id) (live_kept index) block all found) some in
+    let here = value_of (live_block id index) (λ block found. found_holds HasSource (has_block_id id) (live_kept index) block (live_values (layout_kept index) all) found) some in
     (here.0, subst (λ (own : List ℕ). IsTextOf own here.0) (sym is) here.1)
 
 pub some_block : (id : List ℕ) (index : IndexState) (number : ℕ) → Some number ≡ option_map block_number (live_block id index) → is_some (live_block id index) ≡ true

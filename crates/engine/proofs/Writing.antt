@@ -26,7 +26,7 @@ use Rattle.tree_json.specs.Value.{JsonValue}
 use Rattle.tree_objects.specs.Tree.{Tree, without}
 use Rattle.write_plan.specs.Planned.{IsPlanned, mapping_after, refusals_of, tree_of}
 use Rattle.write_plan.specs.declared.plan.Plan.{Plan}
-use Rattle.engine.specs.Faithful.{AreFaithful, Indexed, StandsFor, block_in, tree_in}
+use Rattle.index_trees.specs.Faithful.{AreFaithful, Indexed, StandsFor, block_in, tree_in}
 use Rattle.engine.specs.Parts.{Ends, IsMade}
 use Rattle.engine.specs.declared.engine.Answered.TheVariants as answered
 use Rattle.engine.proofs.Answering.{accepted, refused}
@@ -175,7 +175,6 @@ put_faithful same m id source plan index index' state is f p made =
       stands = record { indexed = changed_so.indexed; trees = changed_so.trees; blocks = kept ∙ changed_so.blocks };
       laid = change_laid id (tree ∷ []) state f.laid;
       numbered = record { live = numbered.0; below = numbered.1 };
-      stored = f.stored;
     }
 
 pub put_made : SameBlocks → (limits : Limits) (m m' : Mapping) (id : List ℕ) (source : JsonValue) (plan : Plan) (tree : Option Tree) (index index' : IndexState) (state : State) (out : List ℕ) → IsMapping m
@@ -194,4 +193,4 @@ put_made same limits m m' id source plan tree index index' state out is most f p
     subst (λ (it : Mapping). AreFaithful (Some it) index' after) (sym (grown ∙ q.grown)) (put_faithful same m id source plan index index' state is f q made) in
     let said : out ≡ reply_text (reply.Written id n (put_result tree)) = text ∙ ap (λ k. reply_text (reply.Written id k (put_result tree))) (sym f.next) in
     subst (λ answer. Ends state (outcome_of state answer) answered.Written out (Some m') index') (sym e)
-    (accepted (Some m') index' state after (reply.Written id n (put_result tree)) out faithful refl refl said)
+    (accepted (Some m') index' state after (reply.Written id n (put_result tree)) out faithful refl refl refl said)

@@ -1,5 +1,8 @@
 -- How an engine answers a request.
-use Rattle.std.specs.Prelude.{◌≡◌, ◌⊎◌, ◌+◌, ◌≤◌, ℕ, List}
+use Rattle.std.specs.Prelude.{◌≡◌, ◌⊎◌, ◌+◌, ◌≤◌, ℕ, List, Option}
+use Rattle.commit_store.specs.Known.{StoreState, KeepsStore}
+use Rattle.commit_store.specs.Saying.{StoreCommit}
+use Rattle.disk.specs.Stops.{IsTold}
 use Rattle.line_reader.specs.Request.{Request}
 use Rattle.machine.specs.Answer.{Outcome}
 use Rattle.machine.specs.May.{AreSizesFor, MayEnd}
@@ -12,6 +15,7 @@ use Rattle.reply_text.specs.declared.reply.Reply.TheVariants as reply
 use Rattle.engine.specs.Faithful.{IsFaithful}
 use Rattle.engine.specs.Kept.{EngineState}
 use Rattle.engine.specs.Reads.{most_reads}
+use Rattle.engine.specs.Storing.{HasDiskCause, StoreTurn, is_tried}
 use Rattle.engine.specs.declared.engine.Answered.{Answered}
 use Rattle.engine.specs.declared.engine.Answered.TheVariants.{Written, Refused, NoMemory}
 
@@ -54,13 +58,17 @@ pub record Answers (before : State) (outcome : Outcome) (answered : Answered) (o
   pub told : answered ≡ answered_by reply
   pub text : reply_bytes answered out ≡ reply_text reply
 
--- The request is answered as the machine may, and no more sources are read than the request may read. Where it was answered,
--- the segments that are written take the bytes that the machine counts.
-pub record AnswersTo (limits : Limits) (before : State) (request : Request) (answered : Answered) (out : List ℕ) (reads reads' : ℕ) (engine : EngineState) : Type 0 where
+-- What is asked for is answered as the machine may. Where it was answered, the segments that are written take the bytes that the
+-- machine counts; and where the store kept a commit, or none, and the disk tells its bytes, the store is as the reply says.
+pub record AnswersTo (limits : Limits) (before : State) (request : Request) (answered : Answered) (out : List ℕ) (reads reads' : ℕ) (stored : StoreState) (engine : EngineState)
+    (content' : Option (List ℕ)) (image image' : List ℕ → Type 0) (from to : ℕ) (past since : ℕ → List ℕ → Type 0) (faults faults' : ℕ) : Type 0 where
   pub sizes : List ℕ
   pub answers : Answers before (step limits sizes before (asked_for request)) answered out engine
   pub are : (answers.reply ≡ reply.OutOfMemory) ⊎ AreSizesFor (asked_for request) before sizes
   pub few : reads' ≤ reads + most_reads before request
+  pub stores : IsTold content' → (found : Option StoreCommit) → KeepsStore stored found image
+      → StoreTurn (is_tried (asked_for request)) answers.reply answers.after.content engine.stored image image' from to past since
+  pub cause : HasDiskCause answers.reply faults faults'
 
 -- what holds where a request wasn't done
 abbrev pub IfNotDone : Answered → Type 0 → Type 0

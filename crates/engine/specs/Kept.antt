@@ -1,35 +1,33 @@
 -- What an engine keeps.
 use Rattle.std.specs.Prelude.{◌≡◌, ◌≤◌, ◌⊎◌, ℕ, Option, Some, None, IfSome}
 use Rattle.std.specs.List.{All}
-use Rattle.flattener.specs.Block.{BlockState}
+use Rattle.commit_store.specs.Known.{StoreState}
+use Rattle.commit_store.specs.Saying.{HasSource}
 use Rattle.flattener.specs.Fits.{ViewFits}
-use Rattle.index_core.specs.Kept.{IndexState, IndexFits, layout_kept, live_kept}
+use Rattle.index_core.specs.Kept.{IndexState, IndexFits, layout_kept}
 use Rattle.join_ordinals.specs.Ordinals.{AreOrdinals, Ordinals}
 use Rattle.layout.specs.Layout.{empty_layout, sealed}
+use Rattle.layout_ids.specs.Items.{AllItems}
 use Rattle.machine.specs.Limit.{AreLimits}
 use Rattle.machine.specs.declared.limits.Limits.{Limits}
 use Rattle.mapping.specs.Mapping.{Mapping}
 use Rattle.point_in_time.specs.Points.{KeptPoint, KeptPoints, entries_under, no_points}
-use Rattle.tree_json.specs.Value.{JsonValue}
-use Rattle.write_plan.specs.Update.{IsTextOf}
+use Rattle.store_commands.specs.Commands.{AreKnown}
 use Rattle.engine.specs.declared.ordinals.KeptOrdinals.{KeptOrdinals}
 
--- the limits, the mapping, where there is one, the index, the points in time, and how many requests it was handed
+-- the limits, the mapping, where there is one, the index, the points in time, the store, and how many requests it was handed
 pub record EngineState : Type 0 where
   pub limits : Limits
   pub mapping : Option Mapping
   pub index : IndexState
   pub points : KeptPoints
+  pub stored : StoreState
   pub calls : ℕ
 
--- the source of a block is the compact text of a value, and is read as that
-abbrev pub HasValue : BlockState → Type 0
-HasValue block = (v : JsonValue) × IsTextOf block.root.source v
-
--- the index is one that the mapping can have made, and each live source is read back
+-- the index is one that the mapping can have made, and each source in it, of a dead root too, is read back
 pub record IsIndexOf (m : Mapping) (index : IndexState) : Type 0 where
   pub fits : IndexFits m index
-  pub values : All HasValue (live_kept index)
+  pub values : AllItems HasSource (layout_kept index)
 
 -- without a mapping nothing is kept
 abbrev pub IsUnder : Option Mapping → IndexState → Type 0
@@ -56,13 +54,15 @@ pub record AreKeptFor (index : IndexState) (points : KeptPoints) (ordinals : Kep
   pub point : IfPoint points ordinals.point
 
 -- what holds of every engine, and of the ordinals that it keeps
-pub record IsEngine (kept : EngineState) (known : KeptOrdinals) : Type 0 where
+pub record IsEngine (kept : EngineState) (own : KeptOrdinals) : Type 0 where
   pub limits : AreLimits kept.limits
   pub objects : kept.index.objects ≡ kept.limits.objects
   pub under : IsUnder kept.mapping kept.index
   pub points : ArePointsUnder kept.mapping kept.points
   pub opened : kept.points.opened ≤ kept.calls
-  pub ordinals : AreKeptFor kept.index kept.points known
+  pub limit : kept.stored.limit ≡ kept.limits.store_bytes
+  pub known : AreKnown (layout_kept kept.index) kept.stored.known
+  pub ordinals : AreKeptFor kept.index kept.points own
 
 -- what is kept is as it was, or the buffer is sealed
 pub record StaysOrSeals (kept kept' : EngineState) : Type 0 where

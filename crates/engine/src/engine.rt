@@ -1,26 +1,29 @@
 //! The engine: one request, one reply.
 
-ghost use Rattle.std.specs.Prelude.{◌≡◌, ◌≤◌, ◌<◌, ◌+◌, ◌^◌, [], true, None, Option, IfOk, IfSome};
+ghost use Rattle.std.specs.Prelude.{◌≡◌, ◌≤◌, ◌<◌, ◌+◌, ◌^◌, [], true, Option, IfOk, IfSome};
+ghost use Rattle.std.specs.List.{All};
 ghost use Rattle.layout_commands.specs.Ends.{IsFormed as IsMergeFormed};
 ghost use Rattle.machine.specs.Answer.{mapped, outcome_of, sealing};
 ghost use Rattle.machine.specs.Limit.{AreLimits};
 ghost use Rattle.machine.specs.Merging.{merge_step};
 ghost use Rattle.machine.specs.State.{State};
-ghost use Rattle.point_in_time.specs.Points.{no_points};
 ghost use Rattle.line_reader.specs.View.{first_line_of, source_line_of};
-ghost use Rattle.machine.specs.Step.{action_step, asked_step, built, refusal_formed};
+ghost use Rattle.machine.specs.Step.{action_step, refusal_formed};
 ghost use Rattle.reply_text.specs.declared.refusal.Refusal.TheVariants.{NoMapping as no_mapping};
 ghost use Rattle.request_form.specs.Asked.{asked_of, asks};
-ghost use Rattle.request_form.specs.Command.{automerge as merges_by, close_pit as closes, map_body as maps, open_pit as opens, refresh as refreshes, search as searches, segments as shows_segments, write as writes};
+ghost use Rattle.request_form.specs.Command.{automerge as merges_by, close_pit as closes, commit as commits, compact as compacts, map_body as maps, open_pit as opens, refresh as refreshes, search as searches, segments as shows_segments, trim as trims, write as writes};
 ghost use Rattle.request_form.specs.Formed.{IsFactor, IsFormed};
 ghost use Rattle.request_form.specs.Seen.{action_view, operation_view, write_view};
 ghost use Rattle.search_form.specs.Form.{is_search_body};
 ghost use Rattle.tree_json.specs.Output.{room_of};
 ghost use Rattle.tree_json.specs.View.{view};
+ghost use Rattle.disk.specs.Stops.{IsTold};
+ghost use Rattle.index_core.specs.Kept.{made_by};
 ghost use Rattle.engine.specs.Answers.{Answers, AnswersTo, IfNotDone};
 ghost use Rattle.engine.specs.Faithful.{IsFaithful};
+ghost use Rattle.engine.specs.Found.{IsFittingUnder, opened_engine};
 ghost use Rattle.engine.specs.Kept.{StaysOrSeals};
-ghost use Rattle.engine.specs.Parts.{IsActionFormed, IsCounted, IsRefusal, answered_of};
+ghost use Rattle.engine.specs.Parts.{AnswersAsked, IsActionFormed, IsCounted, IsRefusal, answered_of};
 ghost use Rattle.engine.specs.Reads.{hits_of, reads_asked, reads_by, reads_of};
 ghost use Rattle.engine.specs.View.{request_of};
 
@@ -32,10 +35,12 @@ use crate::refresh::refresh;
 use crate::reply::{Ended, refuse};
 use crate::search::search;
 use crate::segments::{merge_by_factor, merge_segments, show_segments};
+use crate::storing;
 use crate::write::write_tree;
+use commit_store::Store;
+use disk::Disk;
 use flattener::further_bodies_leave_blocks;
 use index_core::IndexCore;
-use io_edges::Disk;
 use line_reader::{FirstLine, SourceLine};
 use machine::{Limits, MergeCommand};
 use mapping::Mapping;
@@ -45,11 +50,13 @@ use request_form::{
     Action, FormRefusal, NoAction, Write, asked, merges_are_formed, searches_are_formed,
     writes_are_formed,
 };
+use segment_builder::fitting_segments_are_blocks;
 use segment_view::View;
 use source_steps::Steps;
 use std::alloc::Global;
 use std::marker::Model;
 use std::sync::ledger::Ledger;
+use store_commands::known_segments_stay_known;
 use tree_json::{Json, JsonReader, OutText};
 
 /// The answer to a request.
@@ -57,13 +64,14 @@ use tree_json::{Json, JsonReader, OutText};
 pub enum Answered {
     /// The request was done, and its reply was written.
     Written,
-    /// The request was refused, which was written. Nothing has changed but that the buffer may be sealed.
+    /// The request was refused, which was written. Nothing has changed but that the buffer may be sealed, and that a commit may
+    /// have been tried.
     Refused,
     /// There was no memory. Nothing has changed but that the buffer may be sealed.
     NoMemory,
 }
 
-/// The index with its mapping, and what answers requests on it.
+/// The index with its mapping, what answers requests on it, and the store that keeps it.
 #[derive(Drop)]
 pub struct Engine {
     alloc: Global,
@@ -72,6 +80,7 @@ pub struct Engine {
     mapping: Option<Mapping>,
     index: IndexCore,
     points: PointsInTime,
+    store: Store,
     /// Those that are kept from one search to the next.
     ordinals: KeptOrdinals,
     calls: u64,
@@ -91,6 +100,7 @@ impl Model for Engine {
       mapping = engine.mapping;
       index = engine.index;
       points = engine.points;
+      stored = engine.store;
       calls = engine.calls;
     } };
 
@@ -99,29 +109,38 @@ impl Model for Engine {
       mapping = engine.mapping;
       index = engine.index;
       points = engine.points;
+      stored = engine.store;
       calls = engine.calls;
     }) engine.ordinals };
 }
 
 impl Engine {
-    /// An engine without a mapping and without trees.
-    pub fn over(alloc: Global, limits: &Limits) -> Result<Engine, NoMemory>
-        requires { AreLimits limits.now }
-        ensures { IfOk result (λ engine. engine ≡ record {
-          limits = limits.now;
-          mapping = None;
-          index = record { entries = []; buffer = []; made = 0; next = 0; objects = limits.now.objects; merges = []; started = 0; factor = None };
-          points = no_points;
-          calls = 0;
-        }) }
+    /// The engine that opens with what a store holds: its mapping, if there is one, its next number and its view, and no point in
+    /// time.
+    pub fn over(
+        alloc: Global,
+        limits: &Limits,
+        store: Store,
+        mapping: Option<Mapping>,
+        next: u64,
+        view: View,
+    ) -> Result<Engine, NoMemory>
+        requires limits { AreLimits limits.now }
+        requires limit { store.limit ≡ limits.now.store_bytes }
+        requires fitting { IsFittingUnder mapping store next view }
+        requires below { All (λ known. known.entry.id < made_by view) store.known }
+        ensures { IfOk result (λ engine. engine ≡ opened_engine limits.now store mapping next view) }
     {
+        fitting_segments_are_blocks();
+        known_segments_stay_known();
         Ok(Engine {
             alloc,
             limits: *limits,
             reader: JsonReader::new(alloc),
-            mapping: None,
-            index: IndexCore::over(alloc, View::empty(alloc), 0, limits.objects)?,
+            mapping,
+            index: IndexCore::over(alloc, view, next, limits.objects)?,
             points: PointsInTime::none(alloc),
+            store,
             ordinals: KeptOrdinals::none(),
             calls: 0,
         })
@@ -130,8 +149,9 @@ impl Engine {
     /// Answers a request: `out` has the reply's text with its newline, or nothing where there was no memory.
     ///
     /// In each state that what the engine keeps is faithful to, the reply is one that the machine may give, and what the
-    /// engine keeps afterwards is faithful to the state that this leaves. Whatever it keeps, a refusal and want of memory
-    /// leave it as it was, or sealed.
+    /// engine keeps afterwards is faithful to the state that this leaves; where the store kept its last commit in each image of
+    /// the disk, it does so afterwards, and a stop on the way leaves what `StoreTurn` says. Whatever it keeps, a refusal and
+    /// want of memory leave it as it was, or sealed.
     ///
     /// Beside a whole first line, `second` is `NotTaken` exactly where that line takes no source line.
     pub fn answer<D: Disk, L: Ledger>(
@@ -145,16 +165,18 @@ impl Engine {
         requires calls { self.old.calls < 2 ^ 50 }
         requires empty { out.old.bytes ≡ [] }
         ensures answers { (state : State) → IsFaithful self.old state →
-            AnswersTo self.old.limits state (request_of first.entry second.entry) result out.new.bytes steps.old steps.new self.new }
+            AnswersTo self.old.limits state (request_of first.entry second.entry) result out.new.bytes steps.old steps.new self.old.stored self.new
+            (D.content disk.new) (D.image disk.old) (D.image disk.new) (D.moment disk.old) (D.moment disk.new) (D.image_since disk.old) (D.image_since disk.new) (D.faults disk.old) (D.faults disk.new) }
         ensures nothing { result ≡ Answered.NoMemory → out.new.bytes ≡ [] }
         ensures stays { IfNotDone result (StaysOrSeals self.old self.new) }
         ensures limits { self.new.limits ≡ self.old.limits }
         ensures calls { self.new.calls ≡ self.old.calls + 1 }
         ensures room { room_of out.old ≤ room_of out.new }
-        ensures disk { disk.new ≡ disk.old }
+        ensures store { self.new.stored.limit ≡ self.old.stored.limit }
+        ensures told { IsTold (D.content disk.new) → IsTold (D.content disk.old) }
     {
         self.calls += 1;
-        match self.reply(first, second, out, steps) {
+        match self.reply(disk, first, second, out, steps) {
             Ok(Ended::Accepted) => Answered::Written,
             Ok(Ended::Refused) => Answered::Refused,
             Err(NoMemory) => {
@@ -165,9 +187,10 @@ impl Engine {
     }
 
     /// Writes the reply to a request. Where there is no memory, a part of one may stand in `out`.
-    #[tactic(auto, using(crate::proofs::Asking::refusal_answer, crate::proofs::Asking::lacking_answer))]
-    fn reply<L: Ledger>(
+    #[tactic(auto, using(crate::proofs::Asking::refusal_asked, crate::proofs::Asking::lacking_asked))]
+    fn reply<D: Disk, L: Ledger>(
         &mut self,
+        disk: &mut D,
         first: FirstLine<'_>,
         second: SourceLine<'_>,
         out: &mut OutText,
@@ -176,7 +199,10 @@ impl Engine {
         requires counted { IsCounted self.old }
         requires empty { out.old.bytes ≡ [] }
         ensures answers { (state : State) → IsFaithful self.old state
-            → Answers state (outcome_of state (asked_step self.old.limits [] (built (asked_of (first_line_of first.entry) (source_line_of second.entry))) state)) (answered_of result) out.new.bytes self.new }
+            → AnswersAsked self.old.limits state (asked_of (first_line_of first.entry) (source_line_of second.entry)) (answered_of result) out.new.bytes self.old.stored self.new
+            (D.content disk.new) (D.image disk.old) (D.image disk.new) (D.moment disk.old) (D.moment disk.new) (D.image_since disk.old) (D.image_since disk.new) (D.faults disk.old) (D.faults disk.new) }
+        ensures store { self.new.stored.limit ≡ self.old.stored.limit }
+        ensures told { IsTold (D.content disk.new) → IsTold (D.content disk.old) }
         ensures few { (state : State) → IsFaithful self.old state → steps.new ≤ steps.old + reads_asked state (asked_of (first_line_of first.entry) (source_line_of second.entry)) }
         ensures stays { IfNotDone (answered_of result) (StaysOrSeals self.old self.new) }
         ensures limits { self.new.limits ≡ self.old.limits }
@@ -187,16 +213,17 @@ impl Engine {
         searches_are_formed();
         merges_are_formed();
         match asked(self.alloc, &mut self.reader, first, second) {
-            Ok(action) => self.perform(action, out, steps),
+            Ok(action) => self.perform(disk, action, out, steps),
             Err(NoAction::Refused(why)) => refuse(refusal_formed(why), out),
             Err(NoAction::NoMemory) => Err(NoMemory),
         }
     }
 
     /// Does what is asked for, and writes the reply.
-    #[tactic(auto, using(crate::proofs::Asking::refusal_answer))]
-    fn perform<L: Ledger>(
+    #[tactic(auto, using(crate::proofs::Asking::plain))]
+    fn perform<D: Disk, L: Ledger>(
         &mut self,
+        disk: &mut D,
         action: Action,
         out: &mut OutText,
         steps: &mut Steps<L>,
@@ -205,7 +232,10 @@ impl Engine {
         requires counted { IsCounted self.old }
         requires empty { out.old.bytes ≡ [] }
         ensures answers { (state : State) → IsFaithful self.old state
-            → Answers state (outcome_of state (asked_step self.old.limits [] (built (asks (action_view action))) state)) (answered_of result) out.new.bytes self.new }
+            → AnswersAsked self.old.limits state (asks (action_view action)) (answered_of result) out.new.bytes self.old.stored self.new
+            (D.content disk.new) (D.image disk.old) (D.image disk.new) (D.moment disk.old) (D.moment disk.new) (D.image_since disk.old) (D.image_since disk.new) (D.faults disk.old) (D.faults disk.new) }
+        ensures store { self.new.stored.limit ≡ self.old.stored.limit }
+        ensures told { IsTold (D.content disk.new) → IsTold (D.content disk.old) }
         ensures few { (state : State) → IsFaithful self.old state → steps.new ≤ steps.old + reads_by state (action_view action) }
         ensures stays { IfNotDone (answered_of result) (StaysOrSeals self.old self.new) }
         ensures limits { self.new.limits ≡ self.old.limits }
@@ -229,9 +259,9 @@ impl Engine {
             }
             Action::FinishMerge(id) => self.merge(MergeCommand::Finish { id }, out),
             Action::AbortMerge(id) => self.merge(MergeCommand::Abort { id }, out),
-            Action::Commit => refuse(Refusal::BadRequest, out),
-            Action::Compact(_) => refuse(Refusal::BadRequest, out),
-            Action::Trim => refuse(Refusal::BadRequest, out),
+            Action::Commit => self.commit(disk, out),
+            Action::Compact(most) => self.compact(disk, most, out),
+            Action::Trim => self.trim(disk, out),
             Action::Automerge(factor) => self.automerge(factor, out),
         }
     }
@@ -242,6 +272,7 @@ impl Engine {
             → Answers state (outcome_of state (action_step self.old.limits [] (maps (view body.now)) state)) (answered_of result) out.new.bytes self.new }
         ensures stays { IfNotDone (answered_of result) (StaysOrSeals self.old self.new) }
         ensures limits { self.new.limits ≡ self.old.limits }
+        ensures stored { self.new.stored ≡ self.old.stored }
         ensures calls { self.new.calls ≡ self.old.calls }
         ensures room { room_of out.old ≤ room_of out.new }
     {
@@ -264,6 +295,7 @@ impl Engine {
         ensures few { steps.new ≤ steps.old + reads_of (operation_view it.operation) }
         ensures stays { IfNotDone (answered_of result) (StaysOrSeals self.old self.new) }
         ensures limits { self.new.limits ≡ self.old.limits }
+        ensures stored { self.new.stored ≡ self.old.stored }
         ensures calls { self.new.calls ≡ self.old.calls }
         ensures room { room_of out.old ≤ room_of out.new }
     {
@@ -289,6 +321,7 @@ impl Engine {
         ensures few { (state : State) → IsFaithful self.old state → steps.new ≤ steps.old + hits_of (view body.now) state.content.mapping state }
         ensures stays { IfNotDone (answered_of result) (StaysOrSeals self.old self.new) }
         ensures limits { self.new.limits ≡ self.old.limits }
+        ensures stored { self.new.stored ≡ self.old.stored }
         ensures calls { self.new.calls ≡ self.old.calls }
         ensures room { room_of out.old ≤ room_of out.new }
     {
@@ -315,6 +348,7 @@ impl Engine {
             → Answers state (outcome_of state (action_step self.old.limits [] refreshes state)) (answered_of result) out.new.bytes self.new }
         ensures stays { IfNotDone (answered_of result) (StaysOrSeals self.old self.new) }
         ensures limits { self.new.limits ≡ self.old.limits }
+        ensures stored { self.new.stored ≡ self.old.stored }
         ensures calls { self.new.calls ≡ self.old.calls }
         ensures room { room_of out.old ≤ room_of out.new }
     {
@@ -332,6 +366,7 @@ impl Engine {
             → Answers state (outcome_of state (action_step self.old.limits [] shows_segments state)) (answered_of result) out.new.bytes self.new }
         ensures stays { IfNotDone (answered_of result) (StaysOrSeals self.old self.new) }
         ensures limits { self.new.limits ≡ self.old.limits }
+        ensures stored { self.new.stored ≡ self.old.stored }
         ensures calls { self.new.calls ≡ self.old.calls }
         ensures room { room_of out.old ≤ room_of out.new }
     {
@@ -352,6 +387,7 @@ impl Engine {
             → Answers state (outcome_of state (action_step self.old.limits [] opens state)) (answered_of result) out.new.bytes self.new }
         ensures stays { IfNotDone (answered_of result) (StaysOrSeals self.old self.new) }
         ensures limits { self.new.limits ≡ self.old.limits }
+        ensures stored { self.new.stored ≡ self.old.stored }
         ensures calls { self.new.calls ≡ self.old.calls }
         ensures room { room_of out.old ≤ room_of out.new }
     {
@@ -369,6 +405,7 @@ impl Engine {
             → Answers state (outcome_of state (action_step self.old.limits [] (closes id) state)) (answered_of result) out.new.bytes self.new }
         ensures stays { IfNotDone (answered_of result) (StaysOrSeals self.old self.new) }
         ensures limits { self.new.limits ≡ self.old.limits }
+        ensures stored { self.new.stored ≡ self.old.stored }
         ensures calls { self.new.calls ≡ self.old.calls }
         ensures room { room_of out.old ≤ room_of out.new }
     {
@@ -387,6 +424,7 @@ impl Engine {
             → Answers state (outcome_of state (sealing (mapped (merge_step command)) state)) (answered_of result) out.new.bytes self.new }
         ensures stays { IfNotDone (answered_of result) (StaysOrSeals self.old self.new) }
         ensures limits { self.new.limits ≡ self.old.limits }
+        ensures stored { self.new.stored ≡ self.old.stored }
         ensures calls { self.new.calls ≡ self.old.calls }
         ensures room { room_of out.old ≤ room_of out.new }
     {
@@ -405,12 +443,85 @@ impl Engine {
             → Answers state (outcome_of state (action_step self.old.limits [] (merges_by factor) state)) (answered_of result) out.new.bytes self.new }
         ensures stays { IfNotDone (answered_of result) (StaysOrSeals self.old self.new) }
         ensures limits { self.new.limits ≡ self.old.limits }
+        ensures stored { self.new.stored ≡ self.old.stored }
         ensures calls { self.new.calls ≡ self.old.calls }
         ensures room { room_of out.old ≤ room_of out.new }
     {
         self.ordinals.live = None;
         match &self.mapping {
             Some(mapping) => merge_by_factor(mapping, &mut self.index, factor, out),
+            None => refuse(Refusal::NoMapping, out),
+        }
+    }
+
+    /// Commits what is kept.
+    fn commit<D: Disk>(&mut self, disk: &mut D, out: &mut OutText) -> Result<Ended, NoMemory>
+        requires { out.old.bytes ≡ [] }
+        ensures answers { (state : State) → IsFaithful self.old state
+            → AnswersAsked self.old.limits state (asks commits) (answered_of result) out.new.bytes self.old.stored self.new
+            (D.content disk.new) (D.image disk.old) (D.image disk.new) (D.moment disk.old) (D.moment disk.new) (D.image_since disk.old) (D.image_since disk.new) (D.faults disk.old) (D.faults disk.new) }
+        ensures store { self.new.stored.limit ≡ self.old.stored.limit }
+        ensures told { IsTold (D.content disk.new) → IsTold (D.content disk.old) }
+        ensures stays { IfNotDone (answered_of result) (StaysOrSeals self.old self.new) }
+        ensures limits { self.new.limits ≡ self.old.limits }
+        ensures calls { self.new.calls ≡ self.old.calls }
+        ensures room { room_of out.old ≤ room_of out.new }
+    {
+        self.ordinals.live = None;
+        match &self.mapping {
+            Some(mapping) => storing::commit(mapping, &mut self.index, &mut self.store, disk, out),
+            None => refuse(Refusal::NoMapping, out),
+        }
+    }
+
+    /// Commits what is kept, and moves at most so many segments towards the front of the file.
+    fn compact<D: Disk>(
+        &mut self,
+        disk: &mut D,
+        most: u64,
+        out: &mut OutText,
+    ) -> Result<Ended, NoMemory>
+        requires { out.old.bytes ≡ [] }
+        ensures answers { (state : State) → IsFaithful self.old state
+            → AnswersAsked self.old.limits state (asks (compacts most)) (answered_of result) out.new.bytes self.old.stored self.new
+            (D.content disk.new) (D.image disk.old) (D.image disk.new) (D.moment disk.old) (D.moment disk.new) (D.image_since disk.old) (D.image_since disk.new) (D.faults disk.old) (D.faults disk.new) }
+        ensures store { self.new.stored.limit ≡ self.old.stored.limit }
+        ensures told { IsTold (D.content disk.new) → IsTold (D.content disk.old) }
+        ensures stays { IfNotDone (answered_of result) (StaysOrSeals self.old self.new) }
+        ensures limits { self.new.limits ≡ self.old.limits }
+        ensures calls { self.new.calls ≡ self.old.calls }
+        ensures room { room_of out.old ≤ room_of out.new }
+    {
+        self.ordinals.live = None;
+        match &self.mapping {
+            Some(mapping) => storing::compact(
+                mapping,
+                &mut self.index,
+                &mut self.store,
+                disk,
+                most,
+                out,
+            ),
+            None => refuse(Refusal::NoMapping, out),
+        }
+    }
+
+    /// Cuts the file behind what the last commit names.
+    fn trim<D: Disk>(&mut self, disk: &mut D, out: &mut OutText) -> Result<Ended, NoMemory>
+        requires { out.old.bytes ≡ [] }
+        ensures answers { (state : State) → IsFaithful self.old state
+            → AnswersAsked self.old.limits state (asks trims) (answered_of result) out.new.bytes self.old.stored self.new
+            (D.content disk.new) (D.image disk.old) (D.image disk.new) (D.moment disk.old) (D.moment disk.new) (D.image_since disk.old) (D.image_since disk.new) (D.faults disk.old) (D.faults disk.new) }
+        ensures store { self.new.stored.limit ≡ self.old.stored.limit }
+        ensures told { IsTold (D.content disk.new) → IsTold (D.content disk.old) }
+        ensures stays { IfNotDone (answered_of result) (StaysOrSeals self.old self.new) }
+        ensures limits { self.new.limits ≡ self.old.limits }
+        ensures calls { self.new.calls ≡ self.old.calls }
+        ensures room { room_of out.old ≤ room_of out.new }
+    {
+        self.ordinals.live = None;
+        match &self.mapping {
+            Some(mapping) => storing::trim(mapping, &mut self.index, &mut self.store, disk, out),
             None => refuse(Refusal::NoMapping, out),
         }
     }

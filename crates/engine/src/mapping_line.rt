@@ -2,6 +2,7 @@
 
 ghost use Rattle.std.specs.Prelude.{◌≡◌, ◌≤◌, [], Some, None};
 ghost use Rattle.layout.specs.Layout.{empty_layout};
+ghost use Rattle.layout_ids.specs.Ids.{KeepsItems};
 ghost use Rattle.index_core.specs.Kept.{layout_kept};
 ghost use Rattle.tree_json.specs.Output.{room_of};
 ghost use Rattle.tree_json.specs.View.{view};
@@ -9,7 +10,7 @@ ghost use Rattle.machine.specs.Answer.{outcome_of};
 ghost use Rattle.machine.specs.MappingLine.{mapping_step};
 ghost use Rattle.machine.specs.State.{State, sealed_state};
 ghost use Rattle.engine.specs.Answers.{IfNotDone};
-ghost use Rattle.engine.specs.Faithful.{AreFaithful};
+ghost use Rattle.index_trees.specs.Faithful.{AreFaithful};
 ghost use Rattle.engine.specs.Kept.{IsIndexOf, IsUnder};
 ghost use Rattle.engine.specs.Parts.{Ends, Grows, GrowsFrom, IndexStays, Leaves, answered_of};
 
@@ -24,6 +25,7 @@ use tree_json::{Json, OutText};
 use write_plan::{PlanRefusal, first_mapping, further_mapping};
 
 /// Answers a mapping line.
+#[tactic(auto, using(crate::proofs::Items::items_same))]
 pub(crate) fn mapping_line(
     alloc: Global,
     mapping: &mut Option<Mapping>,
@@ -37,6 +39,7 @@ pub(crate) fn mapping_line(
         → Ends state (outcome_of state (mapping_step (view body.now) (sealed_state state))) (answered_of result) out.new.bytes mapping.new index.new }
     ensures under { IsUnder mapping.new index.new }
     ensures grows { GrowsFrom mapping.old mapping.new }
+    ensures items { KeepsItems (layout_kept index.old) (layout_kept index.new) }
     ensures objects { index.new.objects ≡ index.old.objects }
     ensures stays { IfNotDone (answered_of result) (IndexStays mapping.old mapping.new index.old index.new) }
     ensures room { room_of out.old ≤ room_of out.new }

@@ -6,7 +6,7 @@ ghost use Rattle.machine.specs.Points.{close_step, open_step};
 ghost use Rattle.machine.specs.State.{State, sealed_state};
 ghost use Rattle.tree_json.specs.Output.{room_of};
 ghost use Rattle.engine.specs.Answers.{IfNotDone};
-ghost use Rattle.engine.specs.Faithful.{AreFaithful, PointsStandFor};
+ghost use Rattle.index_trees.specs.Faithful.{AreFaithful, PointsStandFor};
 ghost use Rattle.engine.specs.Kept.{IsIndexOf, PointsFit};
 ghost use Rattle.engine.specs.Parts.{EndsWith, Leaves, answered_of};
 

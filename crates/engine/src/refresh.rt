@@ -5,7 +5,7 @@ ghost use Rattle.tree_json.specs.Output.{room_of};
 ghost use Rattle.machine.specs.Answer.{outcome_of};
 ghost use Rattle.machine.specs.State.{State, sealed_state};
 ghost use Rattle.machine.specs.Step.{refresh_step};
-ghost use Rattle.engine.specs.Faithful.{AreFaithful};
+ghost use Rattle.index_trees.specs.Faithful.{AreFaithful};
 ghost use Rattle.engine.specs.Kept.{IsIndexOf};
 ghost use Rattle.engine.specs.Parts.{Ends, Leaves, answered_of};
 

@@ -56,7 +56,7 @@ pub(crate) fn accept(reply: &Reply, out: &mut OutText) -> Result<Ended, NoMemory
     Ok(Ended::Accepted)
 }
 
-/// Makes room for a reply to a merge command, to `automerge` or of a point in time.
+/// Makes room for a reply to a merge command, to `automerge`, of a point in time or to a command of the store.
 pub(crate) fn make_room(out: &mut OutText) -> Result<(), NoMemory>
     ensures same { out.new.bytes ≡ out.old.bytes }
     ensures spare { OnOk result (LONGEST_LINE + 1 ≤ out.new.spare) }
@@ -65,8 +65,7 @@ pub(crate) fn make_room(out: &mut OutText) -> Result<(), NoMemory>
     Ok(out.reserve(LONGEST_LINE as u64 + 1)?)
 }
 
-/// Writes a reply for which there is room.
-#[tactic(auto, using(crate::proofs::Pages::short_fits))]
+/// Writes a reply to what was done, for which there is room.
 pub(crate) fn tell(reply: &Reply, out: &mut OutText) -> Ended
     requires short { length (line_of reply.now) ≤ LONGEST_LINE }
     requires spare { LONGEST_LINE + 1 ≤ out.old.spare }
@@ -74,8 +73,20 @@ pub(crate) fn tell(reply: &Reply, out: &mut OutText) -> Ended
     ensures text { out.new.bytes ≡ out.old.bytes ++ reply_text reply.now }
     ensures room { room_of out.old ≤ room_of out.new }
 {
+    write_short(reply, out);
+    Ended::Accepted
+}
+
+/// Writes a reply for which there is room.
+#[tactic(auto, using(crate::proofs::Pages::short_fits))]
+pub(crate) fn write_short(reply: &Reply, out: &mut OutText)
+    requires short { length (line_of reply.now) ≤ LONGEST_LINE }
+    requires spare { LONGEST_LINE + 1 ≤ out.old.spare }
+    ensures text { out.new.bytes ≡ out.old.bytes ++ reply_text reply.now }
+    ensures room { room_of out.old ≤ room_of out.new }
+{
     match text(reply, LONGEST_LINE as u64, out) {
-        Ok(()) => Ended::Accepted,
+        Ok(()) => {}
         Err(_) => unreachable!(),
     }
 }

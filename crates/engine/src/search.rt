@@ -16,7 +16,7 @@ ghost use Rattle.search_form.specs.Form.{is_search_body};
 ghost use Rattle.tree_json.specs.Output.{room_of};
 ghost use Rattle.tree_json.specs.View.{view};
 ghost use Rattle.engine.specs.Answers.{answered_by};
-ghost use Rattle.engine.specs.Faithful.{AreFaithful, EntriesStandFor, PointsStandFor};
+ghost use Rattle.index_trees.specs.Faithful.{AreFaithful, EntriesStandFor, PointsStandFor};
 ghost use Rattle.engine.specs.Kept.{AreKeptFor, IsIndexOf, PointsFit};
 ghost use Rattle.engine.specs.Parts.{Ends, IsHeld, IsRefusedAs, Leaves, answered_of};
 ghost use Rattle.engine.specs.Reads.{hits_of, page_reads_of};

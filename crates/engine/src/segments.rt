@@ -7,7 +7,7 @@ ghost use Rattle.machine.specs.Merging.{automerge_step, merge_step, segments_ste
 ghost use Rattle.machine.specs.State.{State, sealed_state};
 ghost use Rattle.request_form.specs.Formed.{IsFactor};
 ghost use Rattle.tree_json.specs.Output.{room_of};
-ghost use Rattle.engine.specs.Faithful.{AreFaithful};
+ghost use Rattle.index_trees.specs.Faithful.{AreFaithful};
 ghost use Rattle.engine.specs.Kept.{IsIndexOf};
 ghost use Rattle.engine.specs.Parts.{Ends, Leaves, answered_of};
 

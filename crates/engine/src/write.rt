@@ -2,9 +2,10 @@
 
 ghost use Rattle.std.specs.Prelude.{◌≡◌, ◌≤◌, ◌+◌, [], ℕ, List, Option, Some, None, true, false, is_some, length, option_map, unwrap_or, IfOk, IfSome};
 ghost use Rattle.flattener.specs.Block.{BlockState};
-ghost use Rattle.index_core.specs.Kept.{IndexFits, block_number, live_block, live_kept};
+ghost use Rattle.index_core.specs.Kept.{IndexFits, block_number, layout_kept, live_block};
 ghost use Rattle.index_core.specs.Write.{IsNext};
-ghost use Rattle.std.specs.List.{All};
+ghost use Rattle.commit_store.specs.Saying.{HasSource};
+ghost use Rattle.layout_ids.specs.Items.{AllItems};
 ghost use Rattle.machine.specs.Answer.{outcome_of};
 ghost use Rattle.machine.specs.State.{State};
 ghost use Rattle.machine.specs.Write.{added_body, live_number, put_result, put_source, write_step};
@@ -20,8 +21,8 @@ ghost use Rattle.tree_json.specs.View.{view};
 ghost use Rattle.tree_objects.specs.Tree.{Tree};
 ghost use Rattle.write_plan.specs.Planned.{IsPlanned};
 ghost use Rattle.write_plan.specs.Update.{IsTextOf, IsUpdated};
-ghost use Rattle.engine.specs.Faithful.{AreFaithful};
-ghost use Rattle.engine.specs.Kept.{HasValue, IsIndexOf};
+ghost use Rattle.index_trees.specs.Faithful.{AreFaithful};
+ghost use Rattle.engine.specs.Kept.{IsIndexOf};
 ghost use Rattle.engine.specs.Parts.{Ends, Grows, IsChanged, Leaves, answered_of, delete_step, mapping_put, update_step};
 ghost use Rattle.engine.specs.Reads.{reads_of};
 
@@ -188,7 +189,7 @@ fn updated_live<L: Ledger>(
     doc: Json,
     steps: &mut Steps<L>,
 ) -> Result<Option<Json>, NoMemory>
-    requires values { All HasValue (live_kept index.now) }
+    requires values { AllItems HasSource (layout_kept index.now) }
     requires live { is_some (live_block id.now index.now) ≡ true }
     requires doc { IsSourceValue (view doc) }
     ensures updated { (block : BlockState) (live : JsonValue) → live_block id.now index.now ≡ Some block → IsTextOf block.root.source live → IfOk result (IsUpdated (view doc) live) }

@@ -32,7 +32,8 @@ impl CallList {
         CallList { calls }
     }
 
-    pub(crate) fn lists(&self, call: u64) -> bool
+    /// Whether the call of this number is to fail.
+    pub fn lists(&self, call: u64) -> bool
         ensures { result ≡ is_listed self.now call }
     {
         self.calls.contains(&call)

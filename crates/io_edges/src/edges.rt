@@ -1,4 +1,4 @@
-//! The three traits of the outside.
+//! The two traits of the outside.
 
 ghost use Rattle.std.specs.Prelude.{◌≡◌, ◌≤◌, ℕ, List, Option, Result, Ok, length, IfOk};
 ghost use Rattle.std.specs.Io.KnownBytes.{ReadConsumes, WriteAppends};
@@ -57,29 +57,5 @@ pub trait Sink {
         ensures bound { IfOk result (λ count. count ≤ length piece.now) }
         ensures some { result ≡ Ok 0 → length piece.now ≡ 0 }
         ensures bytes { WriteAppends (taken self.old) (taken self.new) result piece.now }
-        ensures cause { HasCause (faults self.old) (faults self.new) result };
-}
-
-/// A device with one file.
-pub trait Disk {
-    // how many calls failed so far, a u64 that stays at its greatest number
-    ghost faults: { Self → ℕ };
-
-    /// The length of the file, in bytes.
-    fn len(&mut self) -> Result<u64, Failed>
-        ensures cause { HasCause (faults self.old) (faults self.new) result };
-
-    /// Reads bytes from an offset of the file on into the front of the piece, and answers how many: at most the piece's
-    /// length.
-    fn read(&mut self, at: u64, into: &mut [u8]) -> Result<usize, Failed>
-        ensures bound { IfOk result (λ count. count ≤ length into.new) }
-        ensures cause { HasCause (faults self.old) (faults self.new) result };
-
-    /// Writes all of the bytes at an offset of the file.
-    fn write_at(&mut self, at: u64, bytes: &[u8]) -> Result<(), Failed>
-        ensures cause { HasCause (faults self.old) (faults self.new) result };
-
-    /// Makes what was written stay, also after a stop.
-    fn sync(&mut self) -> Result<(), Failed>
         ensures cause { HasCause (faults self.old) (faults self.new) result };
 }

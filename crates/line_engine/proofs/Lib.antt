@@ -1,2 +1,5 @@
 pub mod Writing
+pub mod Laws
+pub mod Stopping
 pub mod Serving
+pub mod Beginning

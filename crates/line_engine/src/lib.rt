@@ -6,13 +6,11 @@
 //! for their texts, `io_edges` for the outside and `source_steps`. Begin with `specs/Run`.
 #![tactic(auto)]
 
-mod no_memory;
 mod program;
 mod session;
 mod status;
 
 pub use machine::Limits;
-pub use no_memory::NoMemory;
 pub use program::run;
 pub use session::serve;
 pub use status::Status;

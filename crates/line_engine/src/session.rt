@@ -1,36 +1,42 @@
 //! A session: requests from a source, replies to a sink.
 
-ghost use Rattle.std.specs.Prelude.{◌≡◌, ◌≤◌, ◌<◌, ◌+◌, ◌^◌, false, [], ℕ, List, Option, OnOk, OnErr, IfOk, IfErr};
+ghost use Rattle.std.specs.Prelude.{◌≡◌, ◌≤◌, ◌<◌, ◌+◌, ◌^◌, true, false, [], ℕ, List, Option, Some, OnOk, OnErr, IfOk, IfErr};
 ghost use Rattle.std.specs.Io.KnownBytes.{Appends};
+ghost use Rattle.commit_store.specs.Known.{greatest_limit};
 ghost use Rattle.io_edges.specs.Faults.{HasCause};
+ghost use Rattle.index_trees.specs.Starting.{Starts};
 ghost use Rattle.line_reader.specs.Given.{HasGiven};
 ghost use Rattle.line_reader.specs.Seen.{KnowsEnd, ahead};
 ghost use Rattle.tree_json.specs.Output.{room_of};
 ghost use Rattle.engine.specs.Answers.{reply_bytes};
 ghost use Rattle.machine.specs.Limit.{AreLimits};
+ghost use Rattle.machine.specs.State.{State};
+ghost use Rattle.machine.specs.declared.limits.Limits.{Limits};
 ghost use Rattle.reply_text.specs.Text.{reply_text};
 ghost use Rattle.reply_text.specs.declared.reply.Reply.TheVariants.{OutOfMemory};
-ghost use Rattle.line_engine.specs.Run.{Serves, IsCaused};
-ghost use Rattle.line_engine.specs.Served.{Served, TakesPart, new_engine};
-ghost use Rattle.machine.specs.State.{State, empty_state};
-ghost use Rattle.machine.specs.declared.limits.Limits.{Limits};
+ghost use Rattle.line_engine.specs.Run.{IsCaused, IsFileFor, IsStored, Serves, has_begun};
+ghost use Rattle.line_engine.specs.Served.{IsUnbegun, IsUpTo, Served, TakesPart};
+ghost use Rattle.line_engine.specs.Stopping.{disk_state};
 
-use crate::no_memory::NoMemory;
 use crate::status::Status;
+use disk::Disk;
 use engine::{Answered, Engine};
-use io_edges::{Disk, Failed, Sink, Source};
+use index_trees::an_opened_store_stands_for_its_trees;
+use io_edges::{Failed, Sink, Source};
 use line_reader::LineReader;
 use machine::Limits;
+use one_commit::a_file_holds_one_commit;
 use source_steps::Steps;
 use std::alloc::Global;
 use std::marker::Brand;
 use std::sync::ledger::{Blank, Ledger};
+use store_opening::open_store;
 use tree_json::OutText;
 
 /// The room that is kept for a reply.
 const REPLY_ROOM: u64 = 4_096;
 
-/// The engine, and all the memory that reading a request and the usual reply take.
+/// The engine over its store, and all the memory that reading a request and the usual reply take.
 #[derive(Drop)]
 struct Session {
     engine: Engine,
@@ -38,8 +44,11 @@ struct Session {
     out: OutText,
 }
 
-/// Serves the requests of the source until its end, a fault or the session's limit. Each reply is written before more
-/// is read.
+/// Opens the store in the disk's file, and serves the requests of the source until its end, a fault or the session's limit.
+/// Each reply is written before more is read. A file without bytes is prepared as a store.
+///
+/// Where the file holds a commit of trees, or none: what the sink takes is what the plain machine replies from these trees on, and a
+/// stop leaves the content of a commit that it acknowledged last, or tried since.
 pub fn serve<S: Source, K: Sink, D: Disk>(
     alloc: Global,
     limits: &Limits,
@@ -48,11 +57,15 @@ pub fn serve<S: Source, K: Sink, D: Disk>(
     disk: &mut D,
 ) -> Status
     requires { AreLimits limits.now }
-    ensures serves { Serves result limits.now empty_state (S.left source.old) (S.left source.new) (K.taken sink.old) (K.taken sink.new) }
+    ensures serves { (start : State) → Starts limits.now.store_bytes (D.content disk.old) start →
+        Serves result limits.now start (S.left source.old) (S.left source.new) (K.taken sink.old) (K.taken sink.new)
+        (disk_state (D.content disk.old) (D.image disk.old) (D.moment disk.old) (D.image_since disk.old) (D.faults disk.old))
+        (disk_state (D.content disk.new) (D.image disk.new) (D.moment disk.new) (D.image_since disk.new) (D.faults disk.new)) }
+    ensures file { (bytes : List ℕ) → D.content disk.old ≡ Some bytes → IsFileFor result limits.now.store_bytes bytes }
     ensures cause { IsCaused result (record { source = S.faults source.old; sink = K.faults sink.old; disk = D.faults disk.old })
         (record { source = S.faults source.new; sink = K.faults sink.new; disk = D.faults disk.new }) }
-    ensures untouched { result ≡ Status.NoMemory → (source.new ≡ source.old) × (sink.new ≡ sink.old) }
-    ensures disk { disk.new ≡ disk.old }
+    ensures words { ¬ (result ≡ Status.BadWords) }
+    ensures untouched { has_begun result ≡ false → (source.new ≡ source.old) × (sink.new ≡ sink.old) }
 {
     serve_counted::<S, K, D, Brand>(alloc, limits, source, sink, disk, Blank::new(1))
 }
@@ -70,32 +83,59 @@ fn serve_counted<S: Source, K: Sink, D: Disk, L: Ledger>(
     requires name { L.name ≡ blank.name }
     requires parts { L.parts ≡ blank.parts }
     requires some { 0 < blank.parts }
-    ensures serves { Serves result limits.now empty_state (S.left source.old) (S.left source.new) (K.taken sink.old) (K.taken sink.new) }
+    ensures serves { (start : State) → Starts limits.now.store_bytes (D.content disk.old) start →
+        Serves result limits.now start (S.left source.old) (S.left source.new) (K.taken sink.old) (K.taken sink.new)
+        (disk_state (D.content disk.old) (D.image disk.old) (D.moment disk.old) (D.image_since disk.old) (D.faults disk.old))
+        (disk_state (D.content disk.new) (D.image disk.new) (D.moment disk.new) (D.image_since disk.new) (D.faults disk.new)) }
+    ensures file { (bytes : List ℕ) → D.content disk.old ≡ Some bytes → IsFileFor result limits.now.store_bytes bytes }
     ensures cause { IsCaused result (record { source = S.faults source.old; sink = K.faults sink.old; disk = D.faults disk.old })
         (record { source = S.faults source.new; sink = K.faults sink.new; disk = D.faults disk.new }) }
-    ensures untouched { result ≡ Status.NoMemory → (source.new ≡ source.old) × (sink.new ≡ sink.old) }
-    ensures disk { disk.new ≡ disk.old }
+    ensures words { ¬ (result ≡ Status.BadWords) }
+    ensures untouched { has_begun result ≡ false → (source.new ≡ source.old) × (sink.new ≡ sink.old) }
 {
     let mut steps = Steps::<L>::start(blank);
-    match open(alloc, limits) {
+    match begin(alloc, limits, disk) {
         Ok(mut session) => serve_all(&mut session, source, sink, disk, &mut steps),
-        Err(NoMemory) => Status::NoMemory,
+        Err(status) => status,
     }
 }
 
-// Takes all the memory that reading a request and the usual reply need.
-fn open(alloc: Global, limits: &Limits) -> Result<Session, NoMemory>
+// Takes all the memory that reading a request and the usual reply need, and then opens the store.
+fn begin<D: Disk>(alloc: Global, limits: &Limits, disk: &mut D) -> Result<Session, Status>
     requires { AreLimits limits.now }
-    ensures engine { IfOk result (λ session. session.engine ≡ new_engine limits.now) }
+    ensures stands { IfOk result (λ session. (start : State) → Starts limits.now.store_bytes (D.content disk.old) start →
+        IsUpTo limits.now start [] session.engine
+        (disk_state (D.content disk.old) (D.image disk.old) (D.moment disk.old) (D.image_since disk.old) (D.faults disk.old))
+        (disk_state (D.content disk.new) (D.image disk.new) (D.moment disk.new) (D.image_since disk.new) (D.faults disk.new))) }
     ensures input { IfOk result (λ session. session.reader.input ≡ record { unread = []; allowance = limits.now.session_bytes; ended = false }) }
     ensures given { IfOk result (λ session. (start : Option (List ℕ)) → HasGiven limits.now.session_bytes start start session.reader.input []) }
+    ensures calls { IfOk result (λ session. session.engine.calls ≡ 0) }
     ensures room { IfOk result (λ session. 4096 ≤ room_of session.out) }
+    ensures stored { OnOk result ((bytes : List ℕ) → D.content disk.old ≡ Some bytes → IsStored limits.now.store_bytes bytes) }
+    ensures same { OnOk result (D.faults disk.new ≡ D.faults disk.old) }
+    ensures serves { IfErr result (λ status. (start : State) (left taken : Option (List ℕ)) → Starts limits.now.store_bytes (D.content disk.old) start →
+        Serves status limits.now start left left taken taken
+        (disk_state (D.content disk.old) (D.image disk.old) (D.moment disk.old) (D.image_since disk.old) (D.faults disk.old))
+        (disk_state (D.content disk.new) (D.image disk.new) (D.moment disk.new) (D.image_since disk.new) (D.faults disk.new))) }
+    ensures file { IfErr result (λ status. (bytes : List ℕ) → D.content disk.old ≡ Some bytes → IsFileFor status limits.now.store_bytes bytes) }
+    ensures cause { IfErr result (λ status. IsUnbegun status (D.faults disk.old) (D.faults disk.new)) }
 {
+    a_file_holds_one_commit();
+    an_opened_store_stands_for_its_trees();
     let reader = LineReader::new(alloc, limits.session_bytes)?;
     let mut out = OutText::empty(alloc);
     out.reserve(REPLY_ROOM)?;
+    let found = open_store(alloc, disk, limits.store_bytes)?;
+    let engine = Engine::over(
+        alloc,
+        limits,
+        found.store,
+        found.mapping,
+        found.next,
+        found.view,
+    )?;
     Ok(Session {
-        engine: Engine::over(alloc, limits)?,
+        engine,
         reader,
         out,
     })
@@ -110,13 +150,16 @@ fn serve_all<S: Source, K: Sink, D: Disk, L: Ledger>(
 ) -> Status
     requires known { KnowsEnd session.old.reader.input (S.left source.old) }
     requires calls { session.old.engine.calls + ahead session.old.reader.input ≤ 2 ^ 50 }
-    ensures serves { (limits : Limits) (start : State) (left taken : Option (List ℕ)) →
-        Served limits start left (S.left source.old) taken (K.taken sink.old) session.old.reader.input session.old.engine →
-        Serves result limits start left (S.left source.new) taken (K.taken sink.new) }
+    ensures serves { (limits : Limits) (start : State) (left taken : Option (List ℕ)) (begun : D) → limits.store_bytes ≤ greatest_limit →
+        Served limits start left (S.left source.old) taken (K.taken sink.old)
+        (disk_state (D.content begun) (D.image begun) (D.moment begun) (D.image_since begun) (D.faults begun))
+        (disk_state (D.content disk.old) (D.image disk.old) (D.moment disk.old) (D.image_since disk.old) (D.faults disk.old)) session.old.reader.input session.old.engine →
+        Serves result limits start left (S.left source.new) taken (K.taken sink.new)
+        (disk_state (D.content begun) (D.image begun) (D.moment begun) (D.image_since begun) (D.faults begun))
+        (disk_state (D.content disk.new) (D.image disk.new) (D.moment disk.new) (D.image_since disk.new) (D.faults disk.new)) }
     ensures cause { IsCaused result (record { source = S.faults source.old; sink = K.faults sink.old; disk = D.faults disk.old })
         (record { source = S.faults source.new; sink = K.faults sink.new; disk = D.faults disk.new }) }
-    ensures memory { ¬ (result ≡ Status.NoMemory) }
-    ensures disk { disk.new ≡ disk.old }
+    ensures begun { has_begun result ≡ true }
 {
     'requests: loop {
         if let Err(status) = serve_next(session, source, sink, disk, steps) {
@@ -135,22 +178,30 @@ fn serve_next<S: Source, K: Sink, D: Disk, L: Ledger>(
 ) -> Result<(), Status>
     requires known { KnowsEnd session.old.reader.input (S.left source.old) }
     requires calls { session.old.engine.calls + ahead session.old.reader.input ≤ 2 ^ 50 }
-    ensures served { OnOk result ((limits : Limits) (start : State) (left taken : Option (List ℕ)) →
-        Served limits start left (S.left source.old) taken (K.taken sink.old) session.old.reader.input session.old.engine →
-        Served limits start left (S.left source.new) taken (K.taken sink.new) session.new.reader.input session.new.engine) }
-    ensures serves { IfErr result (λ status. (limits : Limits) (start : State) (left taken : Option (List ℕ)) →
-        Served limits start left (S.left source.old) taken (K.taken sink.old) session.old.reader.input session.old.engine →
-        Serves status limits start left (S.left source.new) taken (K.taken sink.new)) }
+    ensures served { OnOk result ((limits : Limits) (start : State) (left taken : Option (List ℕ)) (begun : D) → limits.store_bytes ≤ greatest_limit →
+        Served limits start left (S.left source.old) taken (K.taken sink.old)
+        (disk_state (D.content begun) (D.image begun) (D.moment begun) (D.image_since begun) (D.faults begun))
+        (disk_state (D.content disk.old) (D.image disk.old) (D.moment disk.old) (D.image_since disk.old) (D.faults disk.old)) session.old.reader.input session.old.engine →
+        Served limits start left (S.left source.new) taken (K.taken sink.new)
+        (disk_state (D.content begun) (D.image begun) (D.moment begun) (D.image_since begun) (D.faults begun))
+        (disk_state (D.content disk.new) (D.image disk.new) (D.moment disk.new) (D.image_since disk.new) (D.faults disk.new)) session.new.reader.input session.new.engine) }
+    ensures serves { IfErr result (λ status. (limits : Limits) (start : State) (left taken : Option (List ℕ)) (begun : D) → limits.store_bytes ≤ greatest_limit →
+        Served limits start left (S.left source.old) taken (K.taken sink.old)
+        (disk_state (D.content begun) (D.image begun) (D.moment begun) (D.image_since begun) (D.faults begun))
+        (disk_state (D.content disk.old) (D.image disk.old) (D.moment disk.old) (D.image_since disk.old) (D.faults disk.old)) session.old.reader.input session.old.engine →
+        Serves status limits start left (S.left source.new) taken (K.taken sink.new)
+        (disk_state (D.content begun) (D.image begun) (D.moment begun) (D.image_since begun) (D.faults begun))
+        (disk_state (D.content disk.new) (D.image disk.new) (D.moment disk.new) (D.image_since disk.new) (D.faults disk.new))) }
     ensures cause { IfErr result (λ status. IsCaused status (record { source = S.faults source.old; sink = K.faults sink.old; disk = D.faults disk.old })
         (record { source = S.faults source.new; sink = K.faults sink.new; disk = D.faults disk.new })) }
     ensures source_same { OnOk result (S.faults source.new ≡ S.faults source.old) }
     ensures sink_same { OnOk result (K.faults sink.new ≡ K.faults sink.old) }
-    ensures memory { IfErr result (λ status. ¬ (status ≡ Status.NoMemory)) }
+    ensures begun { IfErr result (λ status. has_begun status ≡ true) }
     ensures known { OnOk result (KnowsEnd session.new.reader.input (S.left source.new)) }
     ensures ahead { OnOk result (ahead session.new.reader.input < ahead session.old.reader.input) }
     ensures calls { OnOk result (session.new.engine.calls + ahead session.new.reader.input ≤ 2 ^ 50) }
-    ensures disk { disk.new ≡ disk.old }
 {
+    a_file_holds_one_commit();
     session.reader.next_request(source)?;
     session.out.clear();
     let answered = session.engine.answer(

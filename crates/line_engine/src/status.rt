@@ -4,6 +4,7 @@ ghost use Rattle.std.specs.Prelude.{◌≡◌};
 ghost use Rattle.line_engine.specs.Exit.{exit_status};
 
 use line_reader::Stop;
+use store_opening::OpenRefusal;
 
 /// How the program ends. The number is its exit status.
 #[derive(Clone, Copy, Debug, PartialEq, Eq)]
@@ -16,11 +17,11 @@ pub enum Status {
     ReadFault = 3,
     /// Writing a reply failed.
     WriteFault = 4,
-    /// The disk failed while the store was opened.
+    /// The disk failed while the store was opened, or prepared.
     DiskFault = 5,
-    /// The file is no store.
+    /// The file has bytes, and they don't begin as a store's.
     NotAStore = 6,
-    /// The store is damaged.
+    /// The file begins as a store and holds no good commit.
     Damaged = 7,
     /// The input has more bytes than a session may have.
     SessionLimit = 8,
@@ -49,5 +50,54 @@ impl From<Stop> for Status {
             Stop::Limit => Status::SessionLimit,
             Stop::Fault => Status::ReadFault,
         }
+    }
+}
+
+impl From<OpenRefusal> for Status {
+    ghost use Rattle.std.specs.Prelude.{◌≡◌};
+    ghost use Rattle.line_engine.specs.Exit.{status_unopened};
+
+    ghost from_gives = { λ why status. status ≡ status_unopened why };
+
+    fn from(why: OpenRefusal) -> Status {
+        match why {
+            OpenRefusal::DiskFault => Status::DiskFault,
+            OpenRefusal::NotAStore => Status::NotAStore,
+            OpenRefusal::Damaged => Status::Damaged,
+            OpenRefusal::NoMemory => Status::NoMemory,
+        }
+    }
+}
+
+impl From<tree_json::NoMemory> for Status {
+    ghost use Rattle.std.specs.Prelude.{◌≡◌};
+    ghost use Rattle.line_engine.specs.declared.status.Status.TheVariants.{NoMemory};
+
+    ghost from_gives = { λ _ status. status ≡ NoMemory };
+
+    fn from(_error: tree_json::NoMemory) -> Status {
+        Status::NoMemory
+    }
+}
+
+impl From<io_edges::NoMemory> for Status {
+    ghost use Rattle.std.specs.Prelude.{◌≡◌};
+    ghost use Rattle.line_engine.specs.declared.status.Status.TheVariants.{NoMemory};
+
+    ghost from_gives = { λ _ status. status ≡ NoMemory };
+
+    fn from(_error: io_edges::NoMemory) -> Status {
+        Status::NoMemory
+    }
+}
+
+impl From<engine::NoMemory> for Status {
+    ghost use Rattle.std.specs.Prelude.{◌≡◌};
+    ghost use Rattle.line_engine.specs.declared.status.Status.TheVariants.{NoMemory};
+
+    ghost from_gives = { λ _ status. status ≡ NoMemory };
+
+    fn from(_error: engine::NoMemory) -> Status {
+        Status::NoMemory
     }
 }

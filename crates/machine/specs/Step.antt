@@ -1,5 +1,5 @@
 -- The plain machine over trees: the step that it takes for a request, one line for each command.
-use Rattle.std.specs.Prelude.{ℕ, Bool, true, false, if◌then◌else◌, List}
+use Rattle.std.specs.Prelude.{ℕ, Bool, true, false, List}
 use Rattle.line_reader.specs.Request.{Request}
 use Rattle.reply_text.specs.declared.refusal.Refusal.{Refusal}
 use Rattle.reply_text.specs.declared.refusal.Refusal.TheVariants as why
@@ -57,7 +57,7 @@ asked_step limits sizes (asks action) state = action_step limits sizes action st
 unfoldable pub step : Limits → List ℕ → State → Asked → Outcome
 step limits sizes state asked = outcome_of state (asked_step limits sizes asked state)
 
--- ---- what is built
+-- ---- what is asked of the store
 
 -- it is asked of the store
 abbrev pub is_of_store : Action → Bool
@@ -78,11 +78,6 @@ is_of_store (compact most) = true
 is_of_store trim = true
 is_of_store (automerge factor) = false
 
--- the program has no store yet, so such a request counts as one that has not the form of a request
-abbrev pub built : Asked → Asked
-built (refused why) = refused why
-built (asks action) = if is_of_store action then refused form.BadRequest else asks action
-
 -- what a request asks for
 abbrev pub asked_for : Request → Asked
-asked_for request = built (asked_of request.first request.source)
+asked_for request = asked_of request.first request.source

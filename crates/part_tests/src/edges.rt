@@ -1,5 +1,6 @@
 //! The disk in memory, call by call. (No line reaches it; sources and sinks with calls that fail have cases.)
-use io_edges::{CallList, Disk, Failed, MemDisk};
+use disk::{Disk, MemDisk};
+use io_edges::{CallList, Failed};
 use std::test::Fail;
 
 // Whether a read from that place on into `room` bytes, at most 16, gives these bytes, or with None fails.

@@ -1,4 +1,4 @@
-//! A case: settings, and requests with their replies.
+//! A case: settings, requests with their replies, and what a store that a stop leaves may answer.
 
 use crate::settings::Settings;
 use std::alloc::{AllocError, Global};
@@ -10,6 +10,17 @@ pub struct Exchange {
     pub request: Vec<u8>,
     /// The reply with its newline; empty where these bytes get none.
     pub reply: Vec<u8>,
+}
+
+/// What a store answers to the probe that a stop left behind so many requests, or later.
+#[derive(Drop)]
+pub struct Stop {
+    /// How many requests stand before it.
+    pub behind: usize,
+    /// The reply with its newline.
+    pub reply: Vec<u8>,
+    /// Whether it may also answer what it might before.
+    pub also: bool,
 }
 
 /// A turn of a dialogue.
@@ -30,16 +41,25 @@ pub struct Case<'a> {
     pub settings: Settings<'a>,
     /// What goes in and what comes out, in order.
     pub exchanges: Vec<Exchange>,
+    /// What stops may leave, in order.
+    pub stops: Vec<Stop>,
+}
+
+impl Stop {
+    // The same, so many requests later.
+    fn moved(&self, alloc: Global, later: usize, also: bool) -> Result<Stop, AllocError> {
+        Ok(Stop {
+            behind: self.behind.saturating_add(later),
+            reply: Vec::from_slice(alloc, self.reply.as_slice())?,
+            also,
+        })
+    }
 }
 
 impl Case<'_> {
     /// All bytes that go in.
     pub fn input(&self, alloc: Global) -> Result<Vec<u8>, AllocError> {
-        let mut input = Vec::new(alloc);
-        for exchange in self.exchanges.as_slice() {
-            input.extend_from_slice(exchange.request.as_slice())?;
-        }
-        Ok(input)
+        self.input_of(alloc, self.exchanges.len())
     }
 
     /// All bytes that come out where nothing fails.
@@ -49,6 +69,75 @@ impl Case<'_> {
             output.extend_from_slice(exchange.reply.as_slice())?;
         }
         Ok(output)
+    }
+
+    /// The bytes of the first so many requests.
+    pub fn input_of(&self, alloc: Global, count: usize) -> Result<Vec<u8>, AllocError> {
+        let mut input = Vec::new(alloc);
+        for exchange in self.exchanges.as_slice().iter().take(count) {
+            input.extend_from_slice(exchange.request.as_slice())?;
+        }
+        Ok(input)
+    }
+
+    /// Whether a store that a stop between two requests left may answer the probe so, with so many requests before the stop.
+    pub fn allows(&self, count: usize, reply: &[u8]) -> bool {
+        let mut allowed = false;
+        for stop in self.stops.as_slice() {
+            if stop.behind <= count {
+                allowed = stop.reply.as_slice() == reply || (stop.also && allowed);
+            }
+        }
+        allowed
+    }
+
+    /// Which request a run answered with this line in place of its reply, where it is the first that differs.
+    pub fn answered_so(&self, output: &[u8], line: &[u8]) -> Option<usize> {
+        let mut rest = output;
+        for (index, exchange) in self.exchanges.as_slice().iter().enumerate() {
+            match rest.strip_prefix(exchange.reply.as_slice()) {
+                Some(behind) => rest = behind,
+                None => {
+                    if rest.starts_with(line) {
+                        return Some(index);
+                    }
+                    return None;
+                }
+            }
+        }
+        None
+    }
+
+    /// The requests with the one of this index sent twice: the first time it gets this line, and a stop leaves what one before or one
+    /// behind it may leave.
+    pub fn sent_again(
+        &self,
+        alloc: Global,
+        twice: usize,
+        line: &[u8],
+    ) -> Result<(Vec<Exchange>, Vec<Stop>), AllocError> {
+        let mut exchanges = Vec::new(alloc);
+        for (index, exchange) in self.exchanges.as_slice().iter().enumerate() {
+            if index == twice {
+                exchanges.push(Exchange {
+                    request: Vec::from_slice(alloc, exchange.request.as_slice())?,
+                    reply: Vec::from_slice(alloc, line)?,
+                })?;
+            }
+            exchanges.push(Exchange {
+                request: Vec::from_slice(alloc, exchange.request.as_slice())?,
+                reply: Vec::from_slice(alloc, exchange.reply.as_slice())?,
+            })?;
+        }
+        let mut stops = Vec::new(alloc);
+        for stop in self.stops.as_slice() {
+            if stop.behind == twice.saturating_add(1) {
+                stops.push(stop.moved(alloc, 0, true)?)?;
+            }
+            let later = (stop.behind > twice) as usize;
+            stops.push(stop.moved(alloc, later, stop.also)?)?;
+        }
+        Ok((exchanges, stops))
     }
 
     /// The requests and their replies by where they end.

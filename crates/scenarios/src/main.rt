@@ -1,9 +1,10 @@
 //! Worked examples as data: every case of the case files, run through the engine of lines.
 //!
-//! It stands on `line_engine` and `io_edges`. Its word is the folder of the case files, `data` where it has none;
+//! It stands on `line_engine`, `disk` and `io_edges`. Its word is the folder of the case files, `data` where it has none;
 //! docs/SCENARIOS.md says how they are written. A line is printed for each case that differs, then the counts; the
 //! status is 1 where a case differs or can't be read. No contract says more than that the program is safe.
-//! Begin with `case.rt`; `read.rt` reads the files, and `run.rt` runs a case in every way that it asks for.
+//! Begin with `case.rt`; `read.rt` reads the files, `run.rt` runs a case in every way that it asks for, and
+//! `stops.rt` opens what a stop in each call of the disk leaves.
 #![tactic(auto)]
 
 mod bodies;
@@ -13,6 +14,8 @@ mod outside;
 mod read;
 mod run;
 mod settings;
+mod stops;
+mod store_file;
 
 use anyhow::{Context, Result, ensure};
 use read::cases_of;
@@ -80,9 +83,10 @@ fn run_file<R: Files + Print + AllocGlobal>(rt: &R, folder: &str, name: &str) ->
     let text = fs::read_to_string(rt, path.as_str())?;
     let cases = cases_of(alloc, text.as_str())?;
     let mut counts = Counts::default();
+    let mut kept = Vec::new(alloc);
     for case in cases.as_slice() {
         let mut runs = 0;
-        let found = first_difference(alloc, case, &mut runs).context(format_args!(
+        let found = first_difference(alloc, case, &mut kept, &mut runs).context(format_args!(
             "{}",
             case.name
         ))?;

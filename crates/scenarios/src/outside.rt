@@ -4,7 +4,9 @@ ghost use Rattle.std.specs.Prelude.{◌≡◌};
 ghost use Rattle.io_edges.specs.Faults.{HasCause};
 
 use crate::case::Turn;
-use io_edges::{CallList, Disk, Failed, MemDisk, MemSink, MemSource, NoMemory, Sink, Source};
+use crate::settings::Failing;
+use disk::{Disk, MemDisk};
+use io_edges::{CallList, Failed, MemSink, MemSource, NoMemory, Sink, Source};
 use std::alloc::Global;
 use std::cell::Cell;
 use std::rc::Rc;
@@ -210,14 +212,18 @@ impl Sink for PieceSink {
 #[derive(Drop)]
 pub struct CountedDisk {
     disk: MemDisk,
+    failing_sync: Option<u64>,
+    syncs: u64,
     failed: u64,
 }
 
 impl CountedDisk {
-    /// A disk with an empty file, whose call of that number fails.
-    pub fn empty(alloc: Global, fails: Option<u64>) -> Result<CountedDisk, NoMemory> {
+    /// A disk with this file, whose call or sync of that number fails.
+    pub fn over(alloc: Global, file: Vec<u8>, failing: Failing) -> Result<CountedDisk, NoMemory> {
         Ok(CountedDisk {
-            disk: MemDisk::over(alloc, Vec::new(alloc), calls(alloc, fails)?)?,
+            disk: MemDisk::over(alloc, file, calls(alloc, failing.disk)?)?,
+            failing_sync: failing.sync,
+            syncs: 0,
             failed: 0,
         })
     }
@@ -225,6 +231,26 @@ impl CountedDisk {
     /// Whether a call failed.
     pub fn has_failed(&self) -> bool {
         self.failed > 0
+    }
+
+    /// The disk, with the record of its calls.
+    pub fn record(&self) -> &MemDisk {
+        &self.disk
+    }
+
+    /// The file as it is now. The call that is to fail may be one of those that read it, and is then made again.
+    pub fn file(&mut self, alloc: Global) -> Result<Vec<u8>, NoMemory> {
+        let mut bytes = Vec::new(alloc);
+        for _ in 0..3_u8 {
+            let Ok(length) = self.disk.len() else {
+                continue;
+            };
+            bytes.resize(length as usize, 0)?;
+            if self.disk.read(0, bytes.as_mut_slice()).is_ok() {
+                break;
+            }
+        }
+        Ok(bytes)
     }
 
     // Counts a call that failed.
@@ -240,6 +266,17 @@ impl CountedDisk {
 }
 
 impl Disk for CountedDisk {
+    ghost use Rattle.std.specs.Prelude.{None};
+    ghost use Rattle.disk.specs.Replay.{untold};
+
+    ghost content = { λ _. None };
+
+    ghost image = { λ _ _. ⊥ };
+
+    ghost moment = { λ _. 0 };
+
+    ghost image_since = { λ _ _ _. ⊥ };
+
     ghost faults = { λ disk. disk.failed };
 
     fn len(&mut self) -> Result<u64, Failed> {
@@ -258,7 +295,20 @@ impl Disk for CountedDisk {
     }
 
     fn sync(&mut self) -> Result<(), Failed> {
-        let answer = self.disk.sync();
+        let fails = self.failing_sync == Some(self.syncs);
+        self.syncs = self.syncs.saturating_add(1);
+        let answer = if fails { Err(Failed) } else { self.disk.sync() };
         self.count(answer)
     }
+
+    fn cut(&mut self, len: u64) -> Result<(), Failed> {
+        let answer = self.disk.cut(len);
+        self.count(answer)
+    }
+
+    ghost gives_image = { λ disk bytes told. untold bytes told };
+
+    ghost counts_now = { λ disk since bytes later is. is };
+
+    ghost only_now = { λ disk bytes is. is };
 }

@@ -1,6 +1,6 @@
 //! Reading a case file.
 
-use crate::case::{Case, Exchange};
+use crate::case::{Case, Exchange, Stop};
 use crate::notation::expand;
 use crate::settings::Settings;
 use anyhow::{Context, Result, bail, ensure};
@@ -90,6 +90,7 @@ impl<'a> Reader<'a> {
         match mark {
             ">" => self.take_request(text, round),
             "<" => self.take_reply(text, round),
+            "stop" => self.take_stop(text, round),
             _ => {
                 if line == "no reply" {
                     return self.close_request(Vec::new(self.alloc));
@@ -109,6 +110,7 @@ impl<'a> Reader<'a> {
             name,
             settings,
             exchanges: Vec::new(self.alloc),
+            stops: Vec::new(self.alloc),
         })?;
         Ok(())
     }
@@ -118,6 +120,10 @@ impl<'a> Reader<'a> {
         ensure!(self.request.is_none(), "a request without its reply");
         if let Some(case) = self.cases.as_slice().last() {
             ensure!(!case.exchanges.is_empty(), "a case without a request");
+            ensure!(
+                case.stops.is_empty() == case.settings.probe.is_none(),
+                "a probe without a stop, or a stop without a probe"
+            );
             case.settings.check()?;
         }
         Ok(())
@@ -130,7 +136,7 @@ impl<'a> Reader<'a> {
             return Ok(());
         };
         ensure!(
-            case.exchanges.is_empty() && self.request.is_none(),
+            case.exchanges.is_empty() && case.stops.is_empty() && self.request.is_none(),
             "no setting, or one behind a request"
         );
         case.settings.set(self.alloc, line)
@@ -151,6 +157,21 @@ impl<'a> Reader<'a> {
         let mut bytes = Vec::new(self.alloc);
         expand(text, round, &mut bytes)?;
         self.close_request(bytes)
+    }
+
+    fn take_stop(&mut self, text: &str, round: u64) -> Result<()> {
+        ensure!(self.request.is_none(), "a stop within a request");
+        let more = text.strip_prefix("also ");
+        let mut reply = Vec::new(self.alloc);
+        expand(more.unwrap_or(text), round, &mut reply)?;
+        let case = self.cases.as_mut_slice().last_mut();
+        let case = case.context("a stop before the first case")?;
+        case.stops.push(Stop {
+            behind: case.exchanges.len(),
+            reply,
+            also: more.is_some(),
+        })?;
+        Ok(())
     }
 
     fn close_request(&mut self, reply: Vec<u8>) -> Result<()> {

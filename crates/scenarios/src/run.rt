@@ -4,9 +4,11 @@ ghost use Rattle.std.specs.Prelude.{IsTrue};
 ghost use Rattle.machine.specs.Limit.{AreLimits};
 
 use crate::bodies;
-use crate::case::Case;
+use crate::case::{Case, Turn};
 use crate::outside::{CountedDisk, Dialogue, PieceSink, PieceSource};
-use crate::settings::{Failing, Rose, Sweep};
+use crate::settings::{Failing, Rose, Settings, Sweep};
+use crate::stops::first_bad_stop;
+use crate::store_file::with_pieces;
 use anyhow::{Result, bail};
 use io_edges::{NoMemory, Word};
 use line_engine::{Limits, Status, run, serve};
@@ -16,13 +18,18 @@ use std::fmt;
 /// The most runs of a sweep.
 const MOST_STEPS: u64 = 1_000_000;
 
+/// The reply to a request under which a call of the disk failed.
+const DISK_FAILURE: &[u8] = b"{\"error\":{\"number\":35,\"reason\":\"disk_failure\"}}\n";
+
 /// How a case is run once.
 #[derive(Clone, Copy)]
-struct Setup<'a> {
-    pieces: &'a [usize],
-    most: usize,
-    failing: Failing,
-    limits: Option<Limits>,
+pub struct Setup<'a> {
+    pub pieces: &'a [usize],
+    pub most: usize,
+    pub failing: Failing,
+    pub limits: Option<Limits>,
+    /// The file of the store before the run.
+    pub file: &'a [u8],
 }
 
 impl fmt::Display for Setup<'_> {
@@ -40,17 +47,28 @@ impl fmt::Display for Setup<'_> {
 
 /// How a run ended, or is to end.
 #[derive(Drop)]
-struct Ended {
-    output: Vec<u8>,
-    status: u8,
+pub struct Ended {
+    pub output: Vec<u8>,
+    pub status: u8,
     rose: Rose,
+    /// How many calls the disk got.
+    pub calls: u64,
     // how many bytes of the input were read
     given: usize,
+    // the file that the store has afterwards, or its length alone; None where a case doesn't say it
+    file: Option<Vec<u8>>,
+    length: Option<usize>,
 }
 
 /// Runs a case in every way that its settings ask for, up to the first run that differs from what the case says. A line
-/// on what differs there; `runs` counts the runs.
-pub fn first_difference(alloc: Global, case: &Case<'_>, runs: &mut u64) -> Result<Option<String>> {
+/// on what differs there; `runs` counts the runs. The case finds the file that the one before left, and leaves its own.
+pub fn first_difference(
+    alloc: Global,
+    case: &Case<'_>,
+    kept: &mut Vec<u8>,
+    runs: &mut u64,
+) -> Result<Option<String>> {
+    let file = case.settings.file(alloc, kept.as_slice())?;
     if case.settings.bodies {
         *runs = runs.saturating_add(1);
         return bodies::first_difference(alloc, case);
@@ -62,8 +80,9 @@ pub fn first_difference(alloc: Global, case: &Case<'_>, runs: &mut u64) -> Resul
                 most: *most,
                 failing: case.settings.failing,
                 limits: case.settings.limits,
+                file: file.as_slice(),
             };
-            let found = first_of_setup(alloc, case, setup, runs)?;
+            let found = first_of_setup(alloc, case, setup, kept, runs)?;
             if found.is_some() {
                 return Ok(found);
             }
@@ -77,11 +96,20 @@ fn first_of_setup(
     alloc: Global,
     case: &Case<'_>,
     setup: Setup<'_>,
+    kept: &mut Vec<u8>,
     runs: &mut u64,
 ) -> Result<Option<String>> {
     let ended = run_once(alloc, case, setup, runs)?;
-    let wanted = whole(alloc, case)?;
+    let wanted = whole(alloc, case, setup.file)?;
     let found = difference(alloc, setup, &wanted, &ended)?;
+    if found.is_some() {
+        return Ok(found);
+    }
+    let Ended { file, .. } = ended;
+    if let Some(file) = file {
+        *kept = file;
+    }
+    let found = first_bad_stop(alloc, case, setup, 0, case.exchanges.len(), runs)?;
     if found.is_some() {
         return Ok(found);
     }
@@ -109,15 +137,48 @@ fn first_of_sweep(
         let is_last = match sweep {
             Sweep::SourceCalls => !ended.rose.source,
             Sweep::SinkCalls => !ended.rose.sink,
+            Sweep::DiskCalls => !ended.rose.disk,
             Sweep::SessionLimits => step >= length,
         };
-        let wanted = wanted_of(alloc, case, setup, sweep, step, &ended)?;
-        let found = difference(alloc, setup, &wanted, &ended)?;
+        let found = match case.answered_so(ended.output.as_slice(), DISK_FAILURE) {
+            Some(twice) => first_of_second_try(alloc, case, setup, twice, runs)?,
+            None => {
+                let wanted = wanted_of(alloc, case, setup, sweep, step, &ended)?;
+                difference(alloc, setup, &wanted, &ended)?
+            }
+        };
         if found.is_some() || is_last {
             return Ok(found);
         }
     }
     bail!("a sweep has no end")
+}
+
+// The same where a call of the disk failed under a request, which is then sent again.
+fn first_of_second_try(
+    alloc: Global,
+    case: &Case<'_>,
+    setup: Setup<'_>,
+    twice: usize,
+    runs: &mut u64,
+) -> Result<Option<String>> {
+    let (exchanges, stops) = case.sent_again(alloc, twice, DISK_FAILURE)?;
+    let mut settings = Settings::usual(alloc)?;
+    settings.rose.disk = true;
+    settings.probe = case.settings.probe;
+    let again = Case {
+        name: case.name,
+        settings,
+        exchanges,
+        stops,
+    };
+    let ended = run_once(alloc, &again, setup, runs)?;
+    let wanted = whole(alloc, &again, setup.file)?;
+    let found = difference(alloc, setup, &wanted, &ended)?;
+    if found.is_some() {
+        return Ok(found);
+    }
+    first_bad_stop(alloc, &again, setup, twice, twice.saturating_add(2), runs)
 }
 
 // How the case is run at a step of a sweep.
@@ -127,6 +188,7 @@ fn step_of<'a>(plain: Setup<'a>, sweep: Sweep, step: u64) -> Setup<'a> {
     match sweep {
         Sweep::SourceCalls => failing.source = Some(step),
         Sweep::SinkCalls => failing.sink = Some(step),
+        Sweep::DiskCalls => failing.disk = Some(step),
         Sweep::SessionLimits => {
             let mut shorter = limits.unwrap_or(Limits::standard());
             shorter.session_bytes = step.saturating_add(1);
@@ -138,6 +200,7 @@ fn step_of<'a>(plain: Setup<'a>, sweep: Sweep, step: u64) -> Setup<'a> {
         most: plain.most,
         failing,
         limits,
+        file: plain.file,
     }
 }
 
@@ -150,9 +213,18 @@ fn wanted_of(
     step: u64,
     ended: &Ended,
 ) -> Result<Ended> {
-    let mut wanted = whole(alloc, case)?;
+    let mut wanted = whole(alloc, case, setup.file)?;
     let given = ended.given;
     match sweep {
+        Sweep::DiskCalls => {
+            if ended.rose.disk {
+                wanted.output.clear();
+                wanted.status = Status::DiskFault.code();
+                wanted.rose.disk = true;
+                wanted.file = None;
+                wanted.length = None;
+            }
+        }
         Sweep::SourceCalls => {
             if ended.rose.source {
                 wanted.output.truncate(case.replied_within(given));
@@ -178,66 +250,112 @@ fn wanted_of(
     Ok(wanted)
 }
 
-// How the case ends, as it says itself.
-fn whole(alloc: Global, case: &Case<'_>) -> Result<Ended, AllocError> {
+// How the case ends, as it says itself, over a store with this file.
+fn whole(alloc: Global, case: &Case<'_>, file: &[u8]) -> Result<Ended, AllocError> {
+    let left = &case.settings.left;
+    let mut after = None;
+    if left.same {
+        after = Some(Vec::from_slice(alloc, file)?);
+    } else if !left.pieces.is_empty() {
+        after = Some(with_pieces(alloc, b"".as_slice(), left.pieces.as_slice())?);
+    }
     Ok(Ended {
         output: case.output(alloc)?,
         status: case.settings.status,
         rose: case.settings.rose,
+        calls: 0,
         given: 0,
+        file: after,
+        length: left.length,
     })
 }
 
 // Runs the case once.
 fn run_once(alloc: Global, case: &Case<'_>, setup: Setup<'_>, runs: &mut u64) -> Result<Ended> {
+    let mut disk = disk_of(alloc, setup)?;
+    let dialogue = if case.settings.dialogue {
+        Some(case.turns(alloc)?)
+    } else {
+        None
+    };
+    let words = case.settings.words.as_slice();
+    let input = case.input(alloc)?;
+    run_over(alloc, words, input, dialogue, setup, &mut disk, runs)
+}
+
+/// The disk of a run.
+pub fn disk_of(alloc: Global, setup: Setup<'_>) -> Result<CountedDisk> {
+    let file = Vec::from_slice(alloc, setup.file)?;
+    match CountedDisk::over(alloc, file, setup.failing) {
+        Ok(disk) => Ok(disk),
+        Err(NoMemory) => bail!("no memory for a disk"),
+    }
+}
+
+/// Runs an input once over a disk, as a dialogue where turns are given.
+pub fn run_over(
+    alloc: Global,
+    words: &[&str],
+    input: Vec<u8>,
+    dialogue: Option<Vec<Turn>>,
+    setup: Setup<'_>,
+    disk: &mut CountedDisk,
+    runs: &mut u64,
+) -> Result<Ended> {
     *runs = runs.saturating_add(1);
-    match over_memory(alloc, case, setup) {
+    match over_memory(alloc, words, input, dialogue, setup, disk) {
         Ok(Some(ended)) => Ok(ended),
         Ok(None) => bail!("limits that no session may have"),
         Err(NoMemory) => bail!("no memory for a run"),
     }
 }
 
-// How the case ends over a source, a sink and a disk in memory; None where no session may have its limits.
+// How the run ends over a source, a sink and a disk in memory; None where no session may have its limits.
 fn over_memory(
     alloc: Global,
-    case: &Case<'_>,
+    words: &[&str],
+    input: Vec<u8>,
+    dialogue: Option<Vec<Turn>>,
     setup: Setup<'_>,
+    disk: &mut CountedDisk,
 ) -> Result<Option<Ended>, NoMemory> {
     let failing = setup.failing;
-    let input = case.input(alloc)?;
-    let dialogue = if case.settings.dialogue {
-        Some(Dialogue::over(alloc, case.turns(alloc)?)?)
-    } else {
-        None
+    let dialogue = match dialogue {
+        Some(turns) => Some(Dialogue::over(alloc, turns)?),
+        None => None,
     };
     let mut source = PieceSource::over(alloc, input, setup.pieces, failing.source, dialogue)?;
     let mut sink = PieceSink::over(alloc, setup.most, failing.sink, source.shared()?)?;
-    let mut disk = CountedDisk::empty(alloc, failing.disk)?;
     let status = match &setup.limits {
         None => {
-            let words = words_of(alloc, case.settings.words.as_slice())?;
-            run(alloc, words.as_slice(), &mut source, &mut sink, &mut disk)
+            let words = words_of(alloc, words)?;
+            run(alloc, words.as_slice(), &mut source, &mut sink, disk)
         }
         Some(limits) => {
             if !are_allowed(limits) {
                 return Ok(None);
             }
-            serve(alloc, limits, &mut source, &mut sink, &mut disk)
+            serve(alloc, limits, &mut source, &mut sink, disk)
         }
     };
     if sink.had_no_room() {
         return Err(NoMemory);
     }
+    let rose = Rose {
+        source: source.has_failed(),
+        sink: sink.has_failed(),
+        disk: disk.has_failed(),
+    };
+    let calls = disk.record().calls();
+    let file = disk.file(alloc)?;
     Ok(Some(Ended {
         output: Vec::from_slice(alloc, sink.taken())?,
         status: status.code(),
-        rose: Rose {
-            source: source.has_failed(),
-            sink: sink.has_failed(),
-            disk: disk.has_failed(),
-        },
+        rose,
+        calls,
         given: source.given(),
+        length: Some(file.len()),
+        file: Some(file),
     }))
 }
 
@@ -284,7 +402,37 @@ fn difference(
     if wanted.rose != ended.rose {
         return Ok(Some(format!(in alloc; "{:?}, not {:?} ({setup})", ended.rose, wanted.rose)?));
     }
-    Ok(None)
+    if wanted.length.is_some() && wanted.length != ended.length {
+        return Ok(Some(format!(in alloc;
+            "the file has {:?} bytes, not {:?} ({setup})",
+            ended.length, wanted.length
+        )?));
+    }
+    file_difference(alloc, setup, wanted, ended)
+}
+
+// The same of the files, where one is wanted.
+fn file_difference(
+    alloc: Global,
+    setup: Setup<'_>,
+    wanted: &Ended,
+    ended: &Ended,
+) -> Result<Option<String>> {
+    let (Some(file), Some(got)) = (&wanted.file, &ended.file) else {
+        return Ok(None);
+    };
+    if file == got {
+        return Ok(None);
+    }
+    let same = file
+        .iter()
+        .zip(got)
+        .take_while(|(byte, other)| byte == other)
+        .count();
+    let (length, got_length) = (file.len(), got.len());
+    Ok(Some(format!(in alloc;
+        "the file has {got_length} bytes, not {length}, and differs from byte {same} on ({setup})"
+    )?))
 }
 
 // The first lines in which two texts differ.

@@ -2,6 +2,7 @@
 
 ghost use Rattle.std.specs.Iterator.{IsFinite};
 
+use crate::store_file::{Piece, piece_of, with_pieces};
 use anyhow::{Context, Result, bail, ensure};
 use line_engine::Limits;
 use std::alloc::{AllocError, Global};
@@ -13,6 +14,8 @@ pub enum Sweep {
     SourceCalls,
     /// Each call of the sink fails in turn, until a run makes no such call.
     SinkCalls,
+    /// Each call of the disk fails in turn, until a run makes no such call.
+    DiskCalls,
     /// The session's limit is 1 byte, 2 bytes and so on, to one more than the input has.
     SessionLimits,
 }
@@ -23,6 +26,28 @@ pub struct Failing {
     pub source: Option<u64>,
     pub sink: Option<u64>,
     pub disk: Option<u64>,
+    /// Of the disk's syncs alone.
+    pub sync: Option<u64>,
+}
+
+/// The file that the store has before a run.
+#[derive(Drop)]
+pub struct Given {
+    /// Whether it is the file that the case before left, and not an empty one.
+    pub kept: bool,
+    /// What is put into it.
+    pub pieces: Vec<Piece>,
+}
+
+/// The file that the store has behind a run, as far as a case says it.
+#[derive(Drop)]
+pub struct Left {
+    /// Whether it is as it was before.
+    pub same: bool,
+    /// Its length.
+    pub length: Option<usize>,
+    /// All that it has, where there is a piece.
+    pub pieces: Vec<Piece>,
 }
 
 /// Of which objects the count of faults rose.
@@ -50,6 +75,10 @@ pub struct Settings<'a> {
     pub sweeps: Vec<Sweep>,
     pub status: u8,
     pub rose: Rose,
+    pub store: Given,
+    pub left: Left,
+    /// The request that a store gets which a stop left.
+    pub probe: Option<&'a str>,
     /// Whether the bodies of the lines are judged alone, without a run.
     pub bodies: bool,
 }
@@ -69,6 +98,16 @@ impl<'a> Settings<'a> {
             sweeps: Vec::new(alloc),
             status: 0,
             rose: Rose::default(),
+            store: Given {
+                kept: false,
+                pieces: Vec::new(alloc),
+            },
+            left: Left {
+                same: false,
+                length: None,
+                pieces: Vec::new(alloc),
+            },
+            probe: None,
             bodies: false,
         })
     }
@@ -86,6 +125,9 @@ impl<'a> Settings<'a> {
             "fail" => self.set_failing(value)?,
             "each" => self.sweeps.push(sweep_of(value)?)?,
             "rose" => self.set_rose(value)?,
+            "store" => self.set_store(alloc, value)?,
+            "left" => self.set_left(alloc, value)?,
+            "probe" => self.probe = Some(value),
             "status" => self.status = value.parse().context("a status")?,
             _ => bail!("unknown setting"),
         }
@@ -114,6 +156,7 @@ impl<'a> Settings<'a> {
             "source" => self.failing.source = call,
             "sink" => self.failing.sink = call,
             "disk" => self.failing.disk = call,
+            "sync" => self.failing.sync = call,
             _ => bail!("unknown object"),
         }
         Ok(())
@@ -127,6 +170,39 @@ impl<'a> Settings<'a> {
             _ => bail!("unknown object"),
         }
         Ok(())
+    }
+
+    fn set_store(&mut self, alloc: Global, value: &str) -> Result<()> {
+        if value == "kept" || value == "empty" {
+            self.store.kept = value == "kept";
+            self.store.pieces.clear();
+            return Ok(());
+        }
+        self.store.pieces.push(piece_of(alloc, value)?)?;
+        Ok(())
+    }
+
+    fn set_left(&mut self, alloc: Global, value: &str) -> Result<()> {
+        if value == "same" {
+            self.left.same = true;
+            return Ok(());
+        }
+        if let Some(length) = value.strip_prefix("length ") {
+            self.left.length = Some(length.parse().context("a file's length")?);
+            return Ok(());
+        }
+        self.left.pieces.push(piece_of(alloc, value)?)?;
+        Ok(())
+    }
+
+    /// The file before a run, where the case before left this one.
+    pub fn file(&self, alloc: Global, kept: &[u8]) -> Result<Vec<u8>, AllocError> {
+        let from = if self.store.kept {
+            kept
+        } else {
+            b"".as_slice()
+        };
+        with_pieces(alloc, from, self.store.pieces.as_slice())
     }
 
     /// Refuses a sweep of a case that doesn't end well, since what a sweep expects follows from one that does, and a way
@@ -150,6 +226,7 @@ fn sweep_of(value: &str) -> Result<Sweep> {
     match value {
         "source call fails" => Ok(Sweep::SourceCalls),
         "sink call fails" => Ok(Sweep::SinkCalls),
+        "disk call fails" => Ok(Sweep::DiskCalls),
         "session limit" => Ok(Sweep::SessionLimits),
         _ => bail!("unknown sweep"),
     }

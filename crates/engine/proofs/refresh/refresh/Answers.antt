@@ -10,7 +10,7 @@ use Rattle.engine.proofs.refresh.refresh.Goals as goal
 pub returns-clause-answers : goal.returns-clause-answers
 returns-clause-answers c = λ state f.
     accepted (Some c.args.mapping.now) c.seal.new.self state (sealed_state state) Refreshed c.write.new.out.bytes
-    (sealed_faithful c.args.mapping.now c.args.index.now c.seal.new.self state f c.in_ok-seal.ensures.next c.in_ok-seal.ensures.sealed) refl refl
+    (sealed_faithful c.args.mapping.now c.args.index.now c.seal.new.self state f c.in_ok-seal.ensures.next c.in_ok-seal.ensures.sealed) refl refl refl
     (c.in_ok-write.ensures.ok ∙ ap (λ (bytes : List ℕ). bytes ++ reply_text Refreshed) c.requires.empty)
 
 pub returns-clause-leaves : goal.returns-clause-leaves

@@ -1,7 +1,7 @@
 use Rattle.std.proofs.Common.{List, subst, sym}
 use Rattle.flattener.specs.Fits.{ViewFits}
 use Rattle.segment.specs.Live.{EntryState}
-use Rattle.engine.specs.Faithful.{EntriesStandFor}
+use Rattle.index_trees.specs.Faithful.{EntriesStandFor}
 use Rattle.engine.proofs.Finding.{index_stands}
 use Rattle.engine.proofs.search.found_live.Goals as goal
 

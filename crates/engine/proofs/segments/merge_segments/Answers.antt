@@ -1,4 +1,4 @@
-use Rattle.std.proofs.Common.{◌≡◌, ◌++◌, ℕ, List, Ok, Err, Some, ap, subst, sym, ◌∙◌}
+use Rattle.std.proofs.Common.{◌≡◌, ◌++◌, ℕ, List, Ok, Err, Some, ap, inl, subst, sym, ◌∙◌}
 use Rattle.layout_commands.specs.Ends.{IsMerged}
 use Rattle.layout_commands.specs.declared.not_done.NotDone.{NotDone}
 use Rattle.layout_commands.specs.declared.not_done.NotDone.TheVariants.{Refused}
@@ -12,6 +12,7 @@ use Rattle.engine.specs.declared.reply.Ended.{Ended}
 use Rattle.engine.proofs.Answering.{lacking_room}
 use Rattle.engine.proofs.Leaving.{leaves_sealed}
 use Rattle.engine.proofs.Merging.{merge_done, merge_leaves, merge_refused}
+use Rattle.index_core.specs.Kept.{layout_kept}
 use Rattle.engine.proofs.segments.merge_segments.Goals as goal
 
 pub returns-in-Ok-clause-answers : goal.returns-in-Ok-clause-answers
@@ -39,3 +40,9 @@ returns-in-Err-NoMemory-clause-answers c = λ state f.
 pub returns-in-Err-NoMemory-clause-leaves : goal.returns-in-Err-NoMemory-clause-leaves
 returns-in-Err-NoMemory-clause-leaves c =
     leaves_sealed NoMemory c.args.mapping.now c.args.index.now c.merge.new.index c.requires.index c.merge.ensures.fits c.merge.ensures.next c.merge.ensures.objects (subst (λ (it : NotDone). IsMerged c.args.command (Err it) c.args.index.now c.merge.new.index) c.in-Err-NoMemory.field-0-is c.in-Err-NoMemory.ensures.merged)
+
+pub returns-in-Err-Refused-clause-leaves : goal.returns-in-Err-Refused-clause-leaves
+returns-in-Err-Refused-clause-leaves c =
+    let merged : IsMerged c.args.command (Err (Refused c.in-Err-Refused.why)) c.args.index.now c.merge.new.index =
+    subst (λ (it : NotDone). IsMerged c.args.command (Err it) c.args.index.now c.merge.new.index) c.in-Err-Refused.field-0-is c.in-Err-Refused.ensures.merged in
+    leaves_sealed _ c.args.mapping.now c.args.index.now c.merge.new.index c.requires.index c.merge.ensures.fits c.merge.ensures.next c.merge.ensures.objects (inl (ap layout_kept merged.1))

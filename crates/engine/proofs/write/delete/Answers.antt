@@ -8,6 +8,7 @@ use Rattle.engine.specs.Parts.{IsChanged, delete_step}
 use Rattle.engine.proofs.Answering.{acceptance_ends}
 use Rattle.engine.proofs.Ending.{take_ends, take_leaves}
 use Rattle.engine.proofs.Taking.{nothing_to_take}
+use Rattle.engine.proofs.Leaving.{leaves_same}
 use Rattle.engine.proofs.write.delete.Goals as goal
 
 pub returns-in-None-clause-answers : goal.returns-in-None-clause-answers
@@ -26,3 +27,9 @@ pub returns-in_ok-write-in-Some-clause-leaves : goal.returns-in_ok-write-in-Some
 returns-in_ok-write-in-Some-clause-leaves c =
     take_leaves c.args.mapping.now c.args.id c.args.index.now c.change.new.index c.change.result c.write.new.out.bytes c.change.new.out.bytes c.requires.index
     (subst (λ (own : List ℕ). IsChanged c.change.result (Take own) c.args.index.now c.change.new.index c.write.new.out.bytes c.change.new.out.bytes) (c.of-taken.ensures ∙ c.in_ok-to_vec-in-Some.ensures.items_if_clones_equal (λ x y same. same) ∙ c.as_slice.ensures.bytes) c.change.ensures.changed) c.change.ensures.fits c.change.ensures.objects
+
+pub returns-in_err-write-in-Some-clause-leaves : goal.returns-in_err-write-in-Some-clause-leaves
+returns-in_err-write-in-Some-clause-leaves c = leaves_same _ c.args.mapping.now c.args.index.now c.requires.index
+
+pub returns-in-None-clause-leaves : goal.returns-in-None-clause-leaves
+returns-in-None-clause-leaves c = leaves_same _ c.args.mapping.now c.args.index.now c.requires.index

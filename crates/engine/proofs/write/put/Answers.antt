@@ -10,6 +10,7 @@ use Rattle.engine.specs.Parts.{IsRefusal}
 use Rattle.engine.proofs.Answering.{refusal_ends}
 use Rattle.engine.proofs.Ending.{planned_next_to, put_ends, put_grows, put_leaves}
 use Rattle.engine.proofs.Writing.{put_refused}
+use Rattle.engine.proofs.Leaving.{leaves_same}
 use Rattle.engine.proofs.write.put.Goals as goal
 
 pub put_planned-requires-clause-next : goal.put_planned-requires-clause-next
@@ -53,3 +54,12 @@ returns-in-Err-Refused-clause-answers c = λ limits state tree most f number.
     refusal_ends (Some c.args.mapping.now) c.args.index.now state (put_source limits c.args.mapping.now c.args.id (view c.args.source.now) (added_body c.args.mapping.now (view c.args.source.now)) tree state)
     c.in-Err-Refused.why c.refuse.result c.refuse.new.out.bytes f (put_refused limits c.args.mapping.now c.args.id (view c.args.source.now) tree c.args.index.now state c.in-Err-Refused.why f first)
     (subst (λ (w : Refusal). IsRefusal w c.refuse.result c.refuse.new.out.bytes) c.in-Err-Refused.why-is c.refuse.ensures.refused)
+
+pub returns-in_err-write-in-Ok-clause-leaves : goal.returns-in_err-write-in-Ok-clause-leaves
+returns-in_err-write-in-Ok-clause-leaves c = leaves_same _ c.args.mapping.now c.args.index.now c.requires.index
+
+pub returns-in-Err-Refused-clause-leaves : goal.returns-in-Err-Refused-clause-leaves
+returns-in-Err-Refused-clause-leaves c = leaves_same _ c.args.mapping.now c.args.index.now c.requires.index
+
+pub returns-clause-leaves : goal.returns-clause-leaves
+returns-clause-leaves c = leaves_same _ c.args.mapping.now c.args.index.now c.requires.index

@@ -15,6 +15,7 @@ use Rattle.engine.specs.Parts.{Ends, IsAcceptance, answered_of, update_step}
 use Rattle.engine.proofs.Answering.{acceptance_ends, if_lacking, lacking}
 use Rattle.engine.proofs.Taking.{live_changed, live_of, updated_anew, updated_live, updated_noop}
 use Rattle.engine.proofs.Updating.{some_block, source_anew}
+use Rattle.engine.proofs.Leaving.{leaves_same}
 use Rattle.engine.proofs.write.update.Goals as goal
 
 pub put-requires-clause-source : goal.put-requires-clause-source
@@ -55,3 +56,9 @@ returns-clause-answers g c = λ limits state most f.
     acceptance_ends (Some m) c.args.index.now state (update_step limits m c.args.id (changes_view c.args.changes) state) (Written c.args.id c.in-Some.number Noop) c.accept.result c.accept.new.out.bytes f
     (updated_noop limits m c.args.id (changes_view c.args.changes) c.args.index.now state c.in-Some.number live same) refl
     (subst (λ (given : Reply). IsAcceptance given c.accept.result c.accept.new.out.bytes) c.written.ensures c.accept.ensures.accepted)
+
+pub returns-in_err-source-in-Some-clause-leaves : goal.returns-in_err-source-in-Some-clause-leaves
+returns-in_err-source-in-Some-clause-leaves g c = leaves_same _ c.args.mapping.now c.args.index.now c.requires.index
+
+pub returns-clause-leaves : goal.returns-clause-leaves
+returns-clause-leaves g c = leaves_same _ c.args.mapping.now c.args.index.now c.requires.index

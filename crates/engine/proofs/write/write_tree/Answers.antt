@@ -7,6 +7,7 @@ use Rattle.request_form.specs.declared.action.Operation.{Operation}
 use Rattle.engine.specs.Parts.{Ends, answered_of}
 use Rattle.engine.proofs.Answering.{refusal_ends}
 use Rattle.engine.proofs.Writing.{early_step, not_early, number_live}
+use Rattle.engine.proofs.Leaving.{leaves_same}
 use Rattle.engine.proofs.write.write_tree.Goals as goal
 
 pub returns-in-Some-clause-answers : goal.returns-in-Some-clause-answers
@@ -46,3 +47,6 @@ returns-clause-answers g c = λ limits state most f.
     ∙ ap (λ (o : Operation). change_or_nothing limits c.args.mapping.now (write_view (record { target = c.args.it.target; operation = o })) (live_tree c.args.it.target.id state.content.live) state) c.in-Delete.is in
     subst (λ (answer : Answer). Ends state (outcome_of state answer) (answered_of c.delete.result) c.delete.new.out.bytes (Some c.args.mapping.now) c.delete.new.index) (sym e)
     (c.delete.ensures.answers limits state most f)
+
+pub returns-in-Some-clause-leaves : goal.returns-in-Some-clause-leaves
+returns-in-Some-clause-leaves g c = leaves_same _ c.args.mapping.now c.args.index.now c.requires.index

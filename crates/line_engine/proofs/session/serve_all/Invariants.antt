@@ -1,20 +1,25 @@
 use Rattle.std.proofs.Common.{◌≡◌, ◌≤◌, ◌+◌, ◌^◌, List, ℕ, Option}
+use Rattle.commit_store.specs.Known.{greatest_limit}
 use Rattle.line_reader.specs.Seen.{KnowsEnd, ahead}
 use Rattle.line_engine.specs.Served.{Served}
+use Rattle.line_engine.specs.Stopping.{disk_state}
 use Rattle.machine.specs.State.{State}
 use Rattle.machine.specs.declared.limits.Limits.{Limits}
 use Rattle.line_engine.proofs.session.serve_all.Given as goal
 
 abbrev pub invariant-requests : goal.invariant-requests
 invariant-requests g l =
-    ((limits : Limits) (start : State) (left taken : Option (List ℕ)) →
-    Served limits start left (g.S.Source.left l.fn.source) taken (g.K.Sink.taken l.fn.sink) l.fn.session.reader.input l.fn.session.engine →
-    Served limits start left (g.S.Source.left l.source) taken (g.K.Sink.taken l.sink) l.session.reader.input l.session.engine)
+    ((limits : Limits) (start : State) (left taken : Option (List ℕ)) (begun : g.row.D.Denot) → limits.store_bytes ≤ greatest_limit →
+    Served limits start left (g.S.Source.left l.fn.source) taken (g.K.Sink.taken l.fn.sink)
+    (disk_state (g.D.Disk.content begun) (g.D.Disk.image begun) (g.D.Disk.moment begun) (g.D.Disk.image_since begun) (g.D.Disk.faults begun))
+    (disk_state (g.D.Disk.content l.fn.disk) (g.D.Disk.image l.fn.disk) (g.D.Disk.moment l.fn.disk) (g.D.Disk.image_since l.fn.disk) (g.D.Disk.faults l.fn.disk)) l.fn.session.reader.input l.fn.session.engine →
+    Served limits start left (g.S.Source.left l.source) taken (g.K.Sink.taken l.sink)
+    (disk_state (g.D.Disk.content begun) (g.D.Disk.image begun) (g.D.Disk.moment begun) (g.D.Disk.image_since begun) (g.D.Disk.faults begun))
+    (disk_state (g.D.Disk.content l.disk) (g.D.Disk.image l.disk) (g.D.Disk.moment l.disk) (g.D.Disk.image_since l.disk) (g.D.Disk.faults l.disk)) l.session.reader.input l.session.engine)
     × KnowsEnd l.session.reader.input (g.S.Source.left l.source)
     × (l.session.engine.calls + ahead l.session.reader.input ≤ 2 ^ 50)
     × (g.S.Source.faults l.source ≡ g.S.Source.faults l.fn.source)
     × (g.K.Sink.faults l.sink ≡ g.K.Sink.faults l.fn.sink)
-    × (l.disk ≡ l.fn.disk)
 
 abbrev pub decreases-requests : goal.decreases-requests
 decreases-requests g l = ahead l.session.reader.input

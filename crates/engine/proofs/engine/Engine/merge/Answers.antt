@@ -10,5 +10,5 @@ use Rattle.engine.proofs.engine.Engine.merge.Goals as goal
 pub returns-in-Some-clause-answers : goal.returns-in-Some-clause-answers
 returns-in-Some-clause-answers c = λ state f.
     let own = subst (λ (it : EngineState). IsFaithful it state) (sym c.self.view_is) f in
-    under_answer _ c.self.inside.index state c.in-Some.mapping (λ m. merge_step c.args.command m (sealed_state state)) (answered_of c.merge_segments.result) c.merge_segments.new.out.bytes c.in-Some.is own.0 own.1
+    under_answer _ c.self.inside.index state c.in-Some.mapping (λ m. merge_step c.args.command m (sealed_state state)) (answered_of c.merge_segments.result) c.merge_segments.new.out.bytes c.in-Some.is own.0 own.1 own.2
     (c.merge_segments.ensures.answers state)

@@ -1,0 +1,27 @@
+use Rattle.std.proofs.Common.{◌≡◌, Some, subst, sym, ◌∙◌}
+use Rattle.index_core.specs.Kept.{layout_kept}
+use Rattle.engine.specs.Parts.{answered_of}
+use Rattle.engine.proofs.Leaving.{leaves_same, leaves_sealed}
+use Rattle.engine.proofs.Committing.{Laws, commit_ends, commit_stays}
+use Rattle.engine.proofs.storing.commit.Goals as goal
+
+pub returns-clause-answers : goal.returns-clause-answers
+returns-clause-answers g c = λ limits state limit f kept.
+    let laws : Laws = record {
+      sizes = c.commits_are_those_of_the_machine.ensures.sizes;
+      room = c.commits_are_those_of_the_machine.ensures.room;
+      kept = c.commits_are_those_of_the_machine.ensures.kept;
+      still = c.commits_are_those_of_the_machine.ensures.still;
+      content = c.commits_hold_the_trees.ensures.content;
+    } in
+    commit_ends laws limits c.args.mapping.now c.args.index.now c.commit-done.new.index state c.args.store.now c.commit-done.new.store c.commit-done.result c.report.result c.report.new.out.bytes _ _ _ _ _ _ _ _ _ limit f kept c.commit-done.ensures.next
+    c.commit-done.ensures.fits (c.view-fits.ensures.fits c.args.mapping.now c.commit-done.ensures.fits) c.generation-generation.ensures.mapping c.commit-done.ensures.limit c.commit-done.ensures.ended c.report.ensures.reported
+    (c.commit-done.ensures.fault, c.commit-done.ensures.no_fault) c.commit-done.ensures.stores c.commit-done.ensures.holds
+
+pub returns-clause-leaves : goal.returns-clause-leaves
+returns-clause-leaves g c =
+    leaves_sealed (answered_of c.report.result) c.args.mapping.now c.args.index.now c.commit-done.new.index c.requires.index c.commit-done.ensures.fits c.commit-done.ensures.next c.commit-done.ensures.objects
+    (commit_stays c.args.mapping.now c.commit-done.result c.args.index.now c.commit-done.new.index c.args.store.now c.commit-done.new.store c.commit-done.ensures.ended)
+
+pub returns-in_err-make_room-clause-leaves : goal.returns-in_err-make_room-clause-leaves
+returns-in_err-make_room-clause-leaves g c = leaves_same _ c.args.mapping.now c.args.index.now c.requires.index
