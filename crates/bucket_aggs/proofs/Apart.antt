@@ -5,16 +5,11 @@ use Rattle.std.proofs.lemmas.Bool.{and_parts, eq-eqb, eqb-true}
 use Rattle.query_ast.specs.Buckets.{is_same_object}
 use Rattle.query_ast.specs.Compare.{each_once, each_once_but}
 use Rattle.tree_objects.specs.Object.{Object, root, inside, place, tree_of}
-use Rattle.bucket_aggs.proofs.Lists.{Each, by_test, each_as}
+use Rattle.query_ast.proofs.Elements.{Apart, Each, by_test, each_as}
 
 -- ---- runs
 
 module _ {A : Type 0} (same : A → A → Bool) where
-  -- no later one is the same as an earlier
-  abbrev pub Apart : List A → Type 0
-  Apart [] = Unit {0}
-  Apart (x ∷ xs) = Each (λ (y : A). same y x ≡ false) xs × Apart xs
-
   abbrev pub some_in : List A → Bool
   some_in [] = false
   some_in (x ∷ xs) = true
@@ -25,7 +20,7 @@ module _ {A : Type 0} (same : A → A → Bool) where
       let here : list_any (same y) met ≡ true = ap (λ z. list_any (same z) met) h.0 ∙ is in
       rw here (met_again x run met rest h.1 is)
 
-  runs : (itself : (x : A) → same x x ≡ true) (run_of : A → List A) (xs met : List A) → Each (λ (x : A). Each (λ (y : A). y ≡ x) (run_of x)) xs → Each (λ (x : A). list_any (same x) met ≡ false) xs → Apart xs
+  runs : (itself : (x : A) → same x x ≡ true) (run_of : A → List A) (xs met : List A) → Each (λ (x : A). Each (λ (y : A). y ≡ x) (run_of x)) xs → Each (λ (x : A). list_any (same x) met ≡ false) xs → Apart same xs
       → each_once_but same met (flat_map run_of xs) ≡ filter (λ x. some_in (run_of x)) xs
   runs itself run_of [] met runs_are fresh apart = refl
   runs itself run_of (x ∷ xs) met runs_are fresh apart =
@@ -48,14 +43,14 @@ module _ {A : Type 0} (same : A → A → Bool) where
           rw is (rw new (ap (λ z. z ∷ each_once_but same (z ∷ met) (run ++ flat_map run_of xs)) first
           ∙ ap (λ zs. x ∷ zs) (met_again x run (x ∷ met) (flat_map run_of xs) own.1 again ∙ later)))
 
-  pub runs_once : (itself : (x : A) → same x x ≡ true) (run_of : A → List A) (xs : List A) → Each (λ (x : A). Each (λ (y : A). y ≡ x) (run_of x)) xs → Apart xs → each_once same (flat_map run_of xs) ≡ filter (λ x. some_in (run_of x)) xs
+  pub runs_once : (itself : (x : A) → same x x ≡ true) (run_of : A → List A) (xs : List A) → Each (λ (x : A). Each (λ (y : A). y ≡ x) (run_of x)) xs → Apart same xs → each_once same (flat_map run_of xs) ≡ filter (λ x. some_in (run_of x)) xs
   runs_once itself run_of xs runs_are apart = runs itself run_of xs [] runs_are (nothing_met xs) apart
     where
       nothing_met : (xs : List A) → Each (λ (x : A). list_any (same x) [] ≡ false) xs
       nothing_met [] = tt
       nothing_met (x ∷ xs) = (refl, nothing_met xs)
 
-  pub apart_append : (xs ys : List A) → Apart xs → Apart ys → Each (λ (y : A). Each (λ (x : A). same y x ≡ false) xs) ys → Apart (xs ++ ys)
+  pub apart_append : (xs ys : List A) → Apart same xs → Apart same ys → Each (λ (y : A). Each (λ (x : A). same y x ≡ false) xs) ys → Apart same (xs ++ ys)
   apart_append [] ys h g between = g
   apart_append (x ∷ xs) ys h g between = (
     both xs ys h.0 (each_as (λ (y : A). Each (λ (z : A). same y z ≡ false) (x ∷ xs)) (λ (y : A). same y x ≡ false) (λ y p. p.0) ys between),
@@ -66,7 +61,7 @@ module _ {A : Type 0} (same : A → A → Bool) where
       both [] vs p q = q
       both (u ∷ us) vs p q = (p.0, both us vs p.1 q)
 
-  pub apart_kept : (test : A → Bool) (xs : List A) → Apart xs → Apart (filter test xs)
+  pub apart_kept : (test : A → Bool) (xs : List A) → Apart same xs → Apart same (filter test xs)
   apart_kept test [] h = tt
   apart_kept test (x ∷ xs) h =
       by_test (test x) (λ held. rw held (kept xs h.0, apart_kept test xs h.1)) (λ failed. rw failed (apart_kept test xs h.1))
@@ -76,7 +71,7 @@ module _ {A : Type 0} (same : A → A → Bool) where
       kept (y ∷ ys) p = by_test (test y) (λ held. rw held (p.0, kept ys p.1)) (λ failed. rw failed (kept ys p.1))
 
   -- by indexes
-  pub apart_by : (xs : List A) → ((i j : ℕ) (d : A) → i < j → j < length xs → same (get_or xs j d) (get_or xs i d) ≡ false) → Apart xs
+  pub apart_by : (xs : List A) → ((i j : ℕ) (d : A) → i < j → j < length xs → same (get_or xs j d) (get_or xs i d) ≡ false) → Apart same xs
   apart_by [] h = tt
   apart_by (x ∷ xs) h = (first xs (λ k d low. h 0 (suc k) d (omega arith) (omega (arith, low))), apart_by xs (λ i j d less low. h (suc i) (suc j) d (omega (arith, less)) (omega (arith, low))))
     where

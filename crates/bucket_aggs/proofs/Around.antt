@@ -28,7 +28,8 @@ use Rattle.tree_objects.specs.declared.field_value.FieldValue.{FieldValue}
 use Rattle.tree_objects.specs.declared.field_value.FieldValue.TheVariants.{Written}
 use Rattle.bucket_aggs.specs.Counts.{AreUps, Counted, IsTermSet, counts_of, cut_from, has_ordinal, ordinal_ups, passed_from, shown_ups, shows, view_ups}
 use Rattle.bucket_aggs.proofs.Listed.{posted_same, rows_have}
-use Rattle.bucket_aggs.proofs.Lists.{Each, and_false, by_test}
+use Rattle.query_ast.proofs.Elements.{Each, by_test}
+use Rattle.bucket_aggs.proofs.Lists.{and_false}
 use Rattle.bucket_aggs.proofs.Numbered.{HaveKeywords, shown_text}
 use Rattle.bucket_aggs.proofs.Rowed.{count_cons, count_mapped, count_same}
 use Rattle.bucket_aggs.proofs.Termed.{IsOf, TermList, of_range, ordinals_of, parts_by}

@@ -34,7 +34,8 @@ use Rattle.bucket_aggs.specs.Given.{AreOfValue, is_given}
 use Rattle.bucket_aggs.specs.declared.posted.TermSet.{TermSet}
 use Rattle.bucket_aggs.proofs.Documents.{Scores, Trees}
 use Rattle.bucket_aggs.proofs.Listed.{Postings, as_row, as_rows, row_is, rows_have, same_documents}
-use Rattle.bucket_aggs.proofs.Lists.{Each, and_back, each_as, filter_same, filter_twice}
+use Rattle.query_ast.proofs.Elements.{Each, each_as}
+use Rattle.bucket_aggs.proofs.Lists.{and_back, filter_same, filter_twice}
 use Rattle.bucket_aggs.proofs.Rowed.{count_cons, count_mapped, count_same, row_counts, rows_ascend, rows_counted}
 use Rattle.bucket_aggs.proofs.Viewed.{View, long_view}
 

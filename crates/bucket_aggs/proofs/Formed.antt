@@ -50,12 +50,12 @@ use Rattle.bucket_aggs.specs.declared.rows.CountRow.{CountRow}
 use Rattle.bucket_aggs.proofs.Documents.{Scores, Trees, flats_are, objects_count}
 use Rattle.bucket_aggs.proofs.Groups.{first_buckets, other_counts}
 use Rattle.bucket_aggs.proofs.Joined.{children_are, parents_are}
-use Rattle.bucket_aggs.proofs.Keys.{same_back}
+use Rattle.query_ast.proofs.Keys.{same_back}
 use Rattle.bucket_aggs.proofs.Least.{greatest_is, least_is}
 use Rattle.bucket_aggs.proofs.Lists.{filter_all, filter_counted, filter_same}
 use Rattle.bucket_aggs.proofs.Sums.{all_told, sum_told}
 use Rattle.bucket_aggs.proofs.Handed.{Laws, all_inside, down_are, filtered_are, up_are}
-use Rattle.bucket_aggs.proofs.Values.{value_exact, value_total}
+use Rattle.query_ast.proofs.Values.{value_exact, value_total}
 
 abbrev Given : Type 0
 Given = List Tree → Object → Option ℕ

@@ -20,10 +20,10 @@ use Rattle.tree_objects.specs.declared.field_value.FieldValue.{FieldValue}
 use Rattle.view_objects.specs.Values.{values_shown}
 use Rattle.bucket_aggs.specs.Counts.{AreCounts, KeysAscend, count_in, row_first, rows_ordered, shows, weight, weight_in}
 use Rattle.bucket_aggs.specs.declared.rows.CountRow.{CountRow}
-use Rattle.bucket_aggs.proofs.Keys.{Ascend, any_key, keys_ascend, less_apart, less_back, one_ascending, same_itself}
-use Rattle.bucket_aggs.proofs.Lists.{Each, by_test, each_as}
+use Rattle.query_ast.proofs.Keys.{Ascend, any_key, keys_ascend, less_apart, less_back, one_ascending, same_itself}
+use Rattle.query_ast.proofs.Elements.{Each, by_test, each_as}
 use Rattle.bucket_aggs.proofs.Rowed.{count_mapped, count_same, sum_mapped}
-use Rattle.bucket_aggs.proofs.Values.{value_exact, value_total}
+use Rattle.query_ast.proofs.Values.{value_exact, value_total}
 use Rattle.bucket_aggs.proofs.Weights.{Rows}
 
 -- ---- rows that ascend

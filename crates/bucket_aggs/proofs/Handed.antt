@@ -17,8 +17,9 @@ use Rattle.tree_objects.specs.Object.{Object, around, below, block_objects, plac
 use Rattle.tree_objects.specs.Tree.{Tree}
 use Rattle.view_objects.specs.Hits.{live_objects}
 use Rattle.bucket_aggs.specs.Given.{HaveOwnNumbers, is_given, objects_given}
-use Rattle.bucket_aggs.proofs.Lists.{Each, by_test, each_as, each_kept, each_passes, filter_all, filter_flat, filter_same, filter_twice, filter_whole, flat_flat, map_flat}
-use Rattle.bucket_aggs.proofs.Apart.{Apart, apart_append, apart_by, apart_kept, other_number, other_place, runs_once, same_itself, some_in}
+use Rattle.query_ast.proofs.Elements.{Apart, Each, by_test, each_as}
+use Rattle.bucket_aggs.proofs.Lists.{each_kept, each_passes, filter_all, filter_flat, filter_same, filter_twice, filter_whole, flat_flat, map_flat}
+use Rattle.bucket_aggs.proofs.Apart.{apart_append, apart_by, apart_kept, other_number, other_place, runs_once, same_itself, some_in}
 
 -- ---- filters
 

@@ -17,9 +17,9 @@ use Rattle.query_ast.specs.SortKey.{greatest_value, is_greater, least_value, num
 use Rattle.tree_objects.specs.declared.field_value.FieldValue.{FieldValue}
 use Rattle.tree_objects.specs.declared.field_value.FieldValue.TheVariants.{Number}
 use Rattle.bucket_aggs.specs.Sums.{IsFirst, above, below}
-use Rattle.bucket_aggs.proofs.Keys.{greater_is, same_is}
-use Rattle.bucket_aggs.proofs.Lists.{Each, by_test}
-use Rattle.bucket_aggs.proofs.Values.{value_total}
+use Rattle.query_ast.proofs.Keys.{greater_is, same_is}
+use Rattle.query_ast.proofs.Elements.{Each, by_test}
+use Rattle.query_ast.proofs.Values.{value_total}
 
 -- two numbers of which neither comes before the other
 level : (a b : ℤ) → below a b ≡ false → below b a ≡ false → a ≡ b

@@ -3,8 +3,6 @@ pub mod Apart
 pub mod Handed
 pub mod Joined
 pub mod Documents
-pub mod Values
-pub mod Keys
 pub mod Weights
 pub mod Rowed
 pub mod Onces

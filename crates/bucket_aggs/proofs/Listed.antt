@@ -18,7 +18,7 @@ use Rattle.segment_parts.specs.declared.columns.Columns.{Columns}
 use Rattle.term_table.specs.Ranges.{IsRange, is_of_field}
 use Rattle.term_table.specs.Terms.{AreAscending}
 use Rattle.bucket_aggs.specs.Counts.{Counted, has_ordinal, is_posted}
-use Rattle.bucket_aggs.proofs.Lists.{Each, by_test, each_as}
+use Rattle.query_ast.proofs.Elements.{Each, by_test, each_as}
 use Rattle.bucket_aggs.proofs.Rowed.{ColumnRows, count_cons, count_mapped, count_same, row_counts, rows_ascend, rows_counted}
 use Rattle.bucket_aggs.proofs.Termed.{IsOf, TermList, column_has, of_range, values_have}
 

@@ -1,12 +1,8 @@
 -- Lists that are filtered and put together.
 use Rattle.std.proofs.Common.{◌≡◌, ℕ, zero, suc, ◌<◌, ◌≤◌, Bool, true, false, ◌&&◌, ◌||◌, cond, List, [], ◌∷◌, ◌++◌, length, map, filter, get_or, refl, sym, ap, ◌∙◌, arith}
-use Rattle.std.specs.List.{AllByRecursion, flat_map, list_any}
+use Rattle.std.specs.List.{flat_map, list_any}
 use Rattle.std.proofs.lemmas.List.Elements.{filter-append}
-
--- the two answers of a test
-pub by_test : {G : Type 0} (t : Bool) → (t ≡ true → G) → (t ≡ false → G) → G
-by_test true held failed = held refl
-by_test false held failed = failed refl
+use Rattle.query_ast.proofs.Elements.{Each, by_test}
 
 pub and_false : (b : Bool) → (b && false) ≡ false
 and_false true = refl
@@ -18,14 +14,7 @@ and_back true false = refl
 and_back false true = refl
 and_back false false = refl
 
-abbrev pub Each : {A : Type 0} → (A → Type 0) → List A → Type 0
-Each P xs = AllByRecursion P xs
-
 module _ {A : Type 0} where
-  pub each_as : (P Q : A → Type 0) → ((x : A) → P x → Q x) → (xs : List A) → Each P xs → Each Q xs
-  each_as P Q f [] h = tt
-  each_as P Q f (x ∷ xs) h = (f x h.0, each_as P Q f xs h.1)
-
   pub each_of_all : (P : A → Type 0) → ((x : A) → P x) → (xs : List A) → Each P xs
   each_of_all P all [] = tt
   each_of_all P all (x ∷ xs) = (all x, each_of_all P all xs)

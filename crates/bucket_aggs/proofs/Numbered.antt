@@ -24,7 +24,8 @@ use Rattle.tree_objects.specs.declared.field_value.FieldValue.TheVariants.{Numbe
 use Rattle.view_objects.specs.Values.{values_shown}
 use Rattle.bucket_aggs.specs.Counts.{is_number, once, shows}
 use Rattle.bucket_aggs.specs.Sums.{keywords_in, numbers_in, values_in}
-use Rattle.bucket_aggs.proofs.Lists.{Each, any_map, by_test}
+use Rattle.query_ast.proofs.Elements.{Each, by_test}
+use Rattle.bucket_aggs.proofs.Lists.{any_map}
 use Rattle.bucket_aggs.proofs.Onces.{once_counts, sorted_up}
 use Rattle.bucket_aggs.proofs.Rowed.{count_flat, count_mapped, count_never, count_same, one_if, sum_mapped, sum_never, sum_same}
 

@@ -10,8 +10,8 @@ use Rattle.std.proofs.lemmas.Bool.{false≢true}
 use Rattle.std.proofs.lemmas.List.Elements.{recursion_from_All}
 use Rattle.std.proofs.lemmas.List.Sorted.{ranks_by, sorted_far}
 use Rattle.bucket_aggs.specs.Counts.{is_again, once_after}
-use Rattle.bucket_aggs.proofs.Keys.{greater_is, same, same_back, same_is}
-use Rattle.bucket_aggs.proofs.Lists.{Each, by_test, each_as}
+use Rattle.query_ast.proofs.Keys.{greater_is, same, same_back, same_is}
+use Rattle.query_ast.proofs.Elements.{Each, by_test, each_as}
 use Rattle.bucket_aggs.proofs.Rowed.{count_cons}
 
 -- those that are left are some of them

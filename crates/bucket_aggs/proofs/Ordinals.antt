@@ -10,7 +10,8 @@ use Rattle.std.proofs.lemmas.Cmp.{nat_cmp_total, tied_itself}
 use Rattle.std.proofs.lemmas.Map.Lookups.{exact_unsigned}
 use Rattle.std.proofs.lemmas.Option.{same_Some}
 use Rattle.bucket_aggs.specs.Counts.{has_ordinal, is_again, once_after}
-use Rattle.bucket_aggs.proofs.Lists.{any_same, by_test}
+use Rattle.query_ast.proofs.Elements.{by_test}
+use Rattle.bucket_aggs.proofs.Lists.{any_same}
 use Rattle.bucket_aggs.proofs.Onces.{once_counts, sorted_up}
 use Rattle.bucket_aggs.proofs.Rowed.{count_cons}
 

@@ -14,7 +14,8 @@ use Rattle.query_ast.specs.declared.sort.Key.{Key}
 use Rattle.query_ast.specs.declared.sort.Key.TheVariants.{Number as NumberKey}
 use Rattle.bucket_aggs.specs.Counts.{row_first}
 use Rattle.bucket_aggs.specs.declared.rows.CountRow.{CountRow}
-use Rattle.bucket_aggs.proofs.Lists.{by_test, filter_same}
+use Rattle.query_ast.proofs.Elements.{by_test}
+use Rattle.bucket_aggs.proofs.Lists.{filter_same}
 
 abbrev Rows : Type 0
 Rows = List CountRow

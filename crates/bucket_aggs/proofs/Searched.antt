@@ -9,9 +9,10 @@ use Rattle.tree_objects.specs.declared.field_value.FieldValue.{FieldValue}
 use Rattle.bucket_aggs.specs.Counts.{KeysAscend, weight}
 use Rattle.bucket_aggs.specs.declared.rows.CountRow.{CountRow}
 use Rattle.bucket_aggs.proofs.Groups.{counts_own, none_weighs}
-use Rattle.bucket_aggs.proofs.Keys.{less_once, same_back}
-use Rattle.bucket_aggs.proofs.Lists.{Each, each_at}
-use Rattle.bucket_aggs.proofs.Values.{value_exact, value_total}
+use Rattle.query_ast.proofs.Keys.{less_once, same_back}
+use Rattle.query_ast.proofs.Elements.{Each}
+use Rattle.bucket_aggs.proofs.Lists.{each_at}
+use Rattle.query_ast.proofs.Values.{value_exact, value_total}
 use Rattle.bucket_aggs.proofs.Weights.{Rows}
 
 sorted : (rows : Rows) → KeysAscend rows → IsSortedBy (λ (a : CountRow) (b : CountRow). is_less a.key b.key) rows

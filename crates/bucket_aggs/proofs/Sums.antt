@@ -29,7 +29,7 @@ use Rattle.view_objects.specs.Values.{values_shown}
 use Rattle.bucket_aggs.specs.Sums.{HasRoom, IsAdded, IsAnew, IsFirst, IsSummary, above, below, first_from, first_of, no_numbers, numbers_in, sum_of}
 use Rattle.bucket_aggs.specs.declared.metrics.Running.{Running}
 use Rattle.bucket_aggs.proofs.Documents.{nothing_behind}
-use Rattle.bucket_aggs.proofs.Lists.{Each, by_test, each_as}
+use Rattle.query_ast.proofs.Elements.{Each, by_test, each_as}
 
 -- ---- the first of numbers
 

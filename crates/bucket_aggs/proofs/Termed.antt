@@ -25,13 +25,13 @@ use Rattle.query_ast.specs.Compare.{is_same_value, value_cmp}
 use Rattle.tree_objects.specs.declared.field_value.FieldValue.{FieldValue}
 use Rattle.tree_objects.specs.declared.field_value.FieldValue.TheVariants.{Written}
 use Rattle.bucket_aggs.specs.Counts.{Counted, count_if, counts_of, has_ordinal, is_term, once_by, term_key}
-use Rattle.bucket_aggs.proofs.Keys.{same_itself}
-use Rattle.bucket_aggs.proofs.Lists.{Each, by_test, each_as}
+use Rattle.query_ast.proofs.Keys.{same_itself}
+use Rattle.query_ast.proofs.Elements.{Each, by_test, each_as}
 use Rattle.bucket_aggs.proofs.Numbered.{column_sorted, count_permuted}
 use Rattle.bucket_aggs.proofs.Onces.{once_each}
 use Rattle.bucket_aggs.proofs.Ordinals.{is_one, left_at_start, one_is}
 use Rattle.bucket_aggs.proofs.Rowed.{count_alike, count_flat, count_mapped, count_none, one_if, sum_same}
-use Rattle.bucket_aggs.proofs.Values.{value_exact, value_total}
+use Rattle.query_ast.proofs.Values.{value_exact, value_total}
 use Rattle.bucket_aggs.proofs.Weights.{same_key}
 
 abbrev pub TermList : Type 0

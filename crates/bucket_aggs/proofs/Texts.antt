@@ -17,12 +17,13 @@ use Rattle.segment_parts.specs.declared.columns.Columns.{Columns}
 use Rattle.term_table.specs.Terms.{AreAscending}
 use Rattle.tree_objects.specs.declared.field_value.FieldValue.TheVariants.{Written}
 use Rattle.bucket_aggs.specs.Counts.{IsShownSet, IsTermSet, has_ordinal, shows}
-use Rattle.bucket_aggs.proofs.Keys.{same_itself}
+use Rattle.query_ast.proofs.Keys.{same_itself}
 use Rattle.bucket_aggs.proofs.Listed.{posted_same, rows_have}
-use Rattle.bucket_aggs.proofs.Lists.{Each, and_false, by_test}
+use Rattle.query_ast.proofs.Elements.{Each, by_test}
+use Rattle.bucket_aggs.proofs.Lists.{and_false}
 use Rattle.bucket_aggs.proofs.Numbered.{HaveKeywords, shown_text}
 use Rattle.bucket_aggs.proofs.Termed.{IsOf, TermList, one_place, ordinals_of}
-use Rattle.bucket_aggs.proofs.Values.{value_exact, value_total}
+use Rattle.query_ast.proofs.Values.{value_exact, value_total}
 use Rattle.bucket_aggs.proofs.Weights.{same_key}
 
 same_bytes : {a b : List ℕ} → Written a ≡ Written b → a ≡ b

@@ -8,7 +8,7 @@ use Rattle.std.proofs.lemmas.List.Sums.{sum_by-cons}
 use Rattle.std.proofs.lemmas.Option.{get_or_from_slice_get, same_Some}
 use Rattle.doc_values.specs.Values.{documents, values_of}
 use Rattle.segment_parts.specs.Text.{marked_places}
-use Rattle.bucket_aggs.proofs.Lists.{Each, by_test, each_as}
+use Rattle.query_ast.proofs.Elements.{Each, by_test, each_as}
 
 abbrev pub RowsOf : Type 0 → Type 0
 RowsOf A = List (ℕ × List A)

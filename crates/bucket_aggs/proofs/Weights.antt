@@ -12,9 +12,9 @@ use Rattle.query_ast.specs.Uses.{IsValueOf}
 use Rattle.query_ast.specs.Compare.{is_less, is_same_value, value_cmp}
 use Rattle.bucket_aggs.specs.Counts.{AreKeys, KeysAscend, added, weight, weight_in}
 use Rattle.bucket_aggs.specs.declared.rows.CountRow.{CountRow}
-use Rattle.bucket_aggs.proofs.Keys.{greater_is, less_on, same_is, same_itself}
-use Rattle.bucket_aggs.proofs.Lists.{Each, by_test}
-use Rattle.bucket_aggs.proofs.Values.{value_exact, value_total}
+use Rattle.query_ast.proofs.Keys.{greater_is, less_on, same_is, same_itself}
+use Rattle.query_ast.proofs.Elements.{Each, by_test}
+use Rattle.query_ast.proofs.Values.{value_exact, value_total}
 
 abbrev pub Rows : Type 0
 Rows = List CountRow

@@ -12,7 +12,7 @@ use Rattle.segment_parts.specs.Text.{marked_places}
 use Rattle.bucket_aggs.specs.Sums.{IsAdded, IsAnew, IsWrapped, above, below, first_from, first_of, sum_of}
 use Rattle.bucket_aggs.specs.declared.metrics.Running.{Running}
 use Rattle.bucket_aggs.proofs.Documents.{nothing_behind}
-use Rattle.bucket_aggs.proofs.Lists.{Each, by_test}
+use Rattle.query_ast.proofs.Elements.{Each, by_test}
 use Rattle.bucket_aggs.proofs.Sums.{added_more, below_on, fold_on, not_below, over_of, sum_from}
 use Rattle.bucket_aggs.proofs.Told.{RowsOf, rows_told, told, told_end, told_own}
 

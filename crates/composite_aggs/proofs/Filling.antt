@@ -20,8 +20,9 @@ use Rattle.composite_aggs.specs.declared.refusal.PageRefusal.TheVariants.{TooMan
 use Rattle.composite_aggs.proofs.Spread.{IsIn, contains, is_in, one_more, only_first, sorted_is}
 use Rattle.composite_aggs.proofs.Gathered.{lower_is}
 use Rattle.composite_aggs.proofs.Histograms.{each_map, same_filter, start_less, not_less}
-use Rattle.composite_aggs.proofs.Keys.{Ascend, less_on, less_once, same_itself, less_apart}
-use Rattle.composite_aggs.proofs.Lists.{Each, by_test, each_as, nothing_more}
+use Rattle.query_ast.proofs.Keys.{Ascend, less_on, less_once, same_itself, less_apart}
+use Rattle.query_ast.proofs.Elements.{Each, by_test, each_as}
+use Rattle.composite_aggs.proofs.Lists.{nothing_more}
 use Rattle.composite_aggs.proofs.Steps.{drop_at}
 use Rattle.composite_aggs.proofs.Values.{key_total, key_exact}
 

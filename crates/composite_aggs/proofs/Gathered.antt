@@ -11,8 +11,9 @@ use Rattle.query_ast.specs.Compare.{each_once, in_order}
 use Rattle.composite_aggs.specs.Composite.{Keyed, key_order, is_lower, is_same_key, shows_key, keyed, keys_shown, full_list, is_behind, page_behind}
 use Rattle.composite_aggs.specs.Kept.{is_last, put_once, with_place, added, added_all, added_rows}
 use Rattle.composite_aggs.specs.Rows.{index_of, places_of}
-use Rattle.composite_aggs.proofs.Keys.{Ascend, any_key, behind_apart, by_order, keys_ascend, less_apart, less_back, less_on, one_ascending, same_itself}
-use Rattle.composite_aggs.proofs.Lists.{Each, by_test, each_as, take_twice, nothing_more, filter-append, map-append}
+use Rattle.query_ast.proofs.Keys.{Ascend, any_key, behind_apart, by_order, keys_ascend, less_apart, less_back, less_on, one_ascending, same_itself}
+use Rattle.query_ast.proofs.Elements.{Each, by_test, each_as}
+use Rattle.composite_aggs.proofs.Lists.{take_twice, nothing_more, filter-append, map-append}
 use Rattle.composite_aggs.proofs.Values.{key_total, key_exact}
 
 abbrev Key : Type 0

@@ -19,8 +19,9 @@ use Rattle.composite_aggs.specs.declared.refusal.PageRefusal.TheVariants.{TooMan
 use Rattle.composite_aggs.specs.Rows.{IsHistogramCause, date_keys, index_of, places_of}
 use Rattle.composite_aggs.proofs.Spread.{IsIn, Sorted, contains, is_in}
 use Rattle.composite_aggs.proofs.Gathered.{none_shows}
-use Rattle.composite_aggs.proofs.Keys.{Ascend, all_in_order, any_key, keys_ascend, less_apart, less_back, one_ascending, same_is, same_itself}
-use Rattle.composite_aggs.proofs.Lists.{Each, by_test, each_as, each_take}
+use Rattle.query_ast.proofs.Keys.{Ascend, all_in_order, any_key, keys_ascend, less_apart, less_back, one_ascending, same_is, same_itself}
+use Rattle.query_ast.proofs.Elements.{Each, by_test, each_as}
+use Rattle.composite_aggs.proofs.Lists.{each_take}
 use Rattle.composite_aggs.proofs.Steps.{all_taken}
 use Rattle.composite_aggs.proofs.Values.{key_total, key_exact}
 

@@ -1,7 +1,6 @@
 pub mod Filling
 pub mod Gathered
 pub mod Histograms
-pub mod Keys
 pub mod Lists
 pub mod Spread
 pub mod Steps

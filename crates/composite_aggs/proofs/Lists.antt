@@ -1,20 +1,8 @@
 -- Lists, element by element.
 use Rattle.std.proofs.Common.{◌≡◌, ℕ, zero, suc, Bool, true, false, List, [], ◌∷◌, ◌++◌, map, filter, take, refl, ap}
-use Rattle.std.specs.List.{AllByRecursion}
-
--- the two answers of a test
-pub by_test : {G : Type 0} (t : Bool) → (t ≡ true → G) → (t ≡ false → G) → G
-by_test true held failed = held refl
-by_test false held failed = failed refl
-
-abbrev pub Each : {A : Type 0} → (A → Type 0) → List A → Type 0
-Each P xs = AllByRecursion P xs
+use Rattle.query_ast.proofs.Elements.{Each, by_test}
 
 module _ {A : Type 0} where
-  pub each_as : (P Q : A → Type 0) → ((x : A) → P x → Q x) → (xs : List A) → Each P xs → Each Q xs
-  each_as P Q f [] h = tt
-  each_as P Q f (x ∷ xs) h = (f x h.0, each_as P Q f xs h.1)
-
   pub each_take : (P : A → Type 0) (n : ℕ) (xs : List A) → Each P xs → Each P (take n xs)
   each_take P zero xs h = tt
   each_take P (suc n) [] h = tt
@@ -40,9 +28,3 @@ module _ {A B : Type 0} where
   pub map-append : (f : A → B) (xs ys : List A) → map f (xs ++ ys) ≡ map f xs ++ map f ys
   map-append f [] ys = refl
   map-append f (x ∷ xs) ys = ap (λ l. f x ∷ l) (map-append f xs ys)
-
-module _ {A : Type 0} (same : A → A → Bool) where
-  -- no later one is the same as an earlier
-  abbrev pub Apart : List A → Type 0
-  Apart [] = Unit {0}
-  Apart (x ∷ xs) = Each (λ (y : A). same y x ≡ false) xs × Apart xs

@@ -5,7 +5,7 @@ use Rattle.std.specs.List.Sorted.{IsStrictlySortedBy}
 use Rattle.std.specs.Ordering.{int_cmp}
 use Rattle.std.specs.declared.cmp.Ordering.TheVariants.{Less}
 use Rattle.std.proofs.lemmas.Int.{ints, by_lt_z}
-use Rattle.composite_aggs.proofs.Lists.{Each, by_test, each_as}
+use Rattle.query_ast.proofs.Elements.{Each, by_test, each_as}
 
 -- ---- tests on numbers
 

@@ -13,8 +13,9 @@ use Rattle.composite_aggs.specs.declared.kept.KeyPlaces.{KeyPlaces}
 use Rattle.composite_aggs.specs.declared.pages.Row.{Row}
 use Rattle.composite_aggs.specs.Rows.{has_too_many, keys_of, parts_of}
 use Rattle.composite_aggs.specs.Kept.{Ascends, IsAt, IsLowerAt, IsSameAt, IsHigherAt, bucket_of, put_once, with_place, added, added_all, added_rows, prefixed}
-use Rattle.composite_aggs.proofs.Keys.{by_order}
-use Rattle.composite_aggs.proofs.Lists.{Each, each_as, each_take, map-append}
+use Rattle.query_ast.proofs.Keys.{by_order}
+use Rattle.query_ast.proofs.Elements.{Each, each_as}
+use Rattle.composite_aggs.proofs.Lists.{each_take, map-append}
 use Rattle.composite_aggs.proofs.Values.{key_total, key_exact}
 
 abbrev Key : Type 0

@@ -7,8 +7,9 @@ use Rattle.tree_objects.specs.declared.field_value.FieldValue.{FieldValue}
 use Rattle.query_ast.specs.Compare.{each_once, in_order}
 use Rattle.composite_aggs.specs.Composite.{Keyed, key_order, is_lower, is_same_key, keyed, keys_shown, full_list, is_behind, page_behind, last_key}
 use Rattle.composite_aggs.specs.Walk.{IsWalk, joined}
-use Rattle.composite_aggs.proofs.Keys.{Ascend, keys_ascend, less_on, less_once}
-use Rattle.composite_aggs.proofs.Lists.{Each, by_test, nothing_more}
+use Rattle.query_ast.proofs.Keys.{Ascend, keys_ascend, less_on, less_once}
+use Rattle.query_ast.proofs.Elements.{Each, by_test}
+use Rattle.composite_aggs.proofs.Lists.{nothing_more}
 use Rattle.composite_aggs.proofs.Steps.{all_taken}
 use Rattle.composite_aggs.proofs.Values.{key_total, key_exact}
 

@@ -1,5 +1,8 @@
 pub mod Orders
 pub mod Sorting
+pub mod Elements
+pub mod Keys
+pub mod Values
 pub mod Paging
 pub mod Sizes
 pub mod RowLaws

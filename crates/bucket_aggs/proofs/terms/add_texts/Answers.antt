@@ -4,7 +4,7 @@ use Rattle.segment_parts.specs.Fields.{column_of}
 use Rattle.segment_parts.specs.Text.{marked_places}
 use Rattle.bucket_aggs.specs.Counts.{is_term}
 use Rattle.bucket_aggs.proofs.Cuts.{found_none}
-use Rattle.bucket_aggs.proofs.Lists.{Each}
+use Rattle.query_ast.proofs.Elements.{Each}
 use Rattle.bucket_aggs.proofs.Numbered.{no_texts_shown, texts_shown}
 use Rattle.bucket_aggs.proofs.Termed.{different, ordinals_counted, ordinals_within, texts_counted}
 use Rattle.bucket_aggs.proofs.terms.add_texts.Goals as goal

@@ -9,8 +9,7 @@ use Rattle.std.specs.declared.cmp.Ordering.TheVariants.{Less, Equal, Greater}
 use Rattle.std.proofs.lemmas.Bool.{false≢true}
 use Rattle.std.proofs.lemmas.Cmp.{tied_itself}
 use Rattle.query_ast.specs.Compare.{each_once, each_once_but, in_order, placed}
-use Rattle.bucket_aggs.proofs.Apart.{Apart}
-use Rattle.bucket_aggs.proofs.Lists.{Each, by_test, each_as}
+use Rattle.query_ast.proofs.Elements.{Apart, Each, by_test, each_as}
 
 or_swap : (a b c : Bool) → (a || (b || c)) ≡ (b || (a || c))
 or_swap true true c = refl
@@ -129,7 +128,7 @@ module _ {K : Type 0} (R : K → K → Ordering) (o : IsTotalOrder R) (exact : (
   all_placed P x (y ∷ ys) p h =
       by_test (less y x) (λ behind. rw behind (h.0, all_placed P x ys p h.1)) (λ before. rw before (p, h))
 
-  all_in_order : (P : K → Type 0) (xs : List K) → Each P xs → Each P (in_order less xs)
+  pub all_in_order : (P : K → Type 0) (xs : List K) → Each P xs → Each P (in_order less xs)
   all_in_order P [] h = tt
   all_in_order P (x ∷ xs) h = all_placed P x (in_order less xs) h.0 (all_in_order P xs h.1)
 
