@@ -8,7 +8,7 @@ use Rattle.index_core.specs.Kept.{IndexState, layout_kept, segment_kept}
 use Rattle.layout.specs.As.{marked_as, segment_as}
 use Rattle.layout.specs.Layout.{Layout, SegmentOf, is_live, item_in, live_in, sealed}
 use Rattle.machine.specs.Answer.{outcome_of, refused_if, refuses}
-use Rattle.machine.specs.Searching.{refusal_of, body_refusal, found_by, search_by, search_over, search_step, within}
+use Rattle.machine.specs.Searching.{refusal_of, body_refusal, found_by, search_by, search_over, search_step, searched, within}
 use Rattle.machine.specs.State.{State, sealed_state}
 use Rattle.machine.specs.declared.limits.Limits.{Limits}
 use Rattle.mapping.specs.IsMapping.{IsMapping}
@@ -35,6 +35,7 @@ use Rattle.tree_objects.specs.Tree.{IsLiveList, Tree}
 use Rattle.engine.specs.Answers.{answered_by, reply_bytes}
 use Rattle.index_trees.specs.Faithful.{AreFaithful, EntriesStandFor, Indexed, block_in, tree_in}
 use Rattle.engine.specs.Parts.{Ends, IsRefusedAs, answered_of}
+use Rattle.engine.specs.Reads.{hits_of, page_reads_of, reads_unless}
 use Rattle.engine.specs.declared.no_memory.NoMemory as memory
 use Rattle.engine.specs.declared.reply.Ended.{Ended}
 use Rattle.engine.specs.declared.reply.Ended.TheVariants.{Accepted}
@@ -149,6 +150,13 @@ body_refused limits body m state why first = ap (λ o. refused_if o (search_by l
 pub body_passes : (limits : Limits) (body : JsonValue) (m : Mapping) (state : State) → first_refusal m body ≡ None → search_step limits body m (sealed_state state) ≡ search_by limits m (search_of m body) (sealed_state state)
 unfolding search_step
 body_passes limits body m state first = ap (λ o. refused_if (body_refusal o) (search_by limits m (search_of m body) (sealed_state state))) first
+
+-- a body that isn't refused may read what its search may
+pub body_reads : (body : JsonValue) (m : Mapping) (search : SearchBody) (state : State) → first_refusal m body ≡ None → search ≡ search_of m body
+    → page_reads_of m search (searched search.pit state) ≡ hits_of body (Some m) state
+body_reads body m search state first found =
+    ap (λ (it : SearchBody). page_reads_of m it (searched it.pit state)) found
+    ∙ sym (ap (λ (why : Option SearchRefusal). reads_unless why (page_reads_of m (search_of m body) (searched (search_of m body).pit state))) first)
 
 -- ---- a search of an index that was sealed
 

@@ -10,6 +10,8 @@ use Rattle.query_parser.specs.Search.{search_of}
 use Rattle.request_form.specs.Asked.{Asked, refused, asks, asked_of}
 use Rattle.request_form.specs.Command.{Operation, index, create, update, delete, Action, map_body, write, search, refresh, segments, open_pit, close_pit, force_merge, start_merge, advance_merge, finish_merge, abort_merge, commit, compact, trim, automerge}
 use Rattle.search_page.specs.Searched.{page_reads}
+use Rattle.search_walk.specs.Refusal.{first_refusal}
+use Rattle.search_walk.specs.declared.refusal.SearchRefusal.{SearchRefusal}
 use Rattle.tree_json.specs.Value.{JsonValue}
 use Rattle.tree_objects.specs.Tree.{Tree}
 
@@ -25,9 +27,14 @@ abbrev pub page_reads_of : Mapping → SearchBody → Option (List Tree) → ℕ
 page_reads_of m body None = 0
 page_reads_of m body (Some live) = page_reads (hit_page m live body)
 
+-- and none where its body is refused for something
+abbrev pub reads_unless : Option SearchRefusal → ℕ → ℕ
+reads_unless None most = most
+reads_unless (Some why) most = 0
+
 abbrev pub hits_of : JsonValue → Option Mapping → State → ℕ
 hits_of body None state = 0
-hits_of body (Some m) state = page_reads_of m (search_of m body) (searched (search_of m body).pit state)
+hits_of body (Some m) state = reads_unless (first_refusal m body) (page_reads_of m (search_of m body) (searched (search_of m body).pit state))
 
 abbrev pub reads_by : State → Action → ℕ
 reads_by state (map_body body) = 0

@@ -1,4 +1,4 @@
-use Rattle.std.proofs.Common.{◌≡◌, Err, Some, None, ap, refl, subst, sym, ◌∙◌}
+use Rattle.std.proofs.Common.{◌≡◌, ◌≤◌, ◌+◌, ℕ, Err, Some, None, ap, refl, subst, sym, ◌∙◌}
 use Rattle.tree_json.specs.View.{view}
 use Rattle.machine.specs.Answer.{Answer, outcome_of}
 use Rattle.machine.specs.Searching.{search_by, search_step}
@@ -11,7 +11,7 @@ use Rattle.search_walk.specs.Refusal.{first_refusal}
 use Rattle.engine.specs.Parts.{Ends, answered_of}
 use Rattle.search_walk.specs.declared.refusal.SearchRefusal.TheVariants.{UnknownPath, PathOutOfScope, UnknownRelation, BadValue, SortFieldUnmapped, BadSort, DuplicateInnerName, WindowTooLarge, InnerWindowTooLarge, TooManyClauses, QueryTooDeep, TooManyTerms, NoMemory}
 use Rattle.tree_json.specs.Value.{JsonValue}
-use Rattle.engine.proofs.Finding.{FirstIs, body_ends, body_passes}
+use Rattle.engine.proofs.Finding.{FirstIs, body_ends, body_passes, body_reads}
 use Rattle.engine.proofs.Naming.{found_apart}
 use Rattle.engine.proofs.search.search.Goals as goal
 
@@ -22,6 +22,13 @@ returns-in-Ok-resolved-clause-answers g c = λ state f stand.
     let e : search_step c.args.limits.now (view c.args.body.now) c.args.mapping.now (sealed_state state) ≡ search_by c.args.limits.now c.args.mapping.now c.in-Ok-resolved.search (sealed_state state) =
     body_passes c.args.limits.now (view c.args.body.now) c.args.mapping.now state first ∙ ap (λ (it : SearchBody). search_by c.args.limits.now c.args.mapping.now it (sealed_state state)) (sym found) in
     subst (λ (answer : Answer). Ends state (outcome_of state answer) (answered_of c.search_over.result) c.search_over.new.out.bytes (Some c.args.mapping.now) c.search_over.new.index) (sym e) (c.search_over.ensures.answers state f stand)
+
+pub returns-in-Ok-resolved-clause-reads : goal.returns-in-Ok-resolved-clause-reads
+returns-in-Ok-resolved-clause-reads g c = λ state f stand.
+    let first : first_refusal c.args.mapping.now (view c.args.body.now) ≡ None = ap (first_refusal c.args.mapping.now) (sym c.in-Ok.ensures.shape) ∙ c.in-Ok-resolved.ensures.accepted refl in
+    let found : c.in-Ok-resolved.search ≡ search_of c.args.mapping.now (view c.args.body.now) = c.in-Ok-resolved.ensures.search ∙ ap (search_of c.args.mapping.now) c.in-Ok.ensures.shape in
+    subst (λ (most : ℕ). c.search_over.new.steps ≤ c.args.steps.now + most)
+    (body_reads (view c.args.body.now) c.args.mapping.now c.in-Ok-resolved.search state first found) (c.search_over.ensures.reads state f stand)
 
 pub returns-in-Err-clause-answers : goal.returns-in-Err-clause-answers
 returns-in-Err-clause-answers g c = λ state f stand.
