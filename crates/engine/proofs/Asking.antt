@@ -1,5 +1,5 @@
 -- What is asked for: commands where there is no mapping, what becomes of the points in time, and the answer to a request.
-use Rattle.std.proofs.Common.{◌≡◌, ◌≢◌, ◌⊎◌, ◌≤◌, ◌+◌, ℕ, Bool, true, false, List, [], Option, Some, None, Result, refl, sym, ap, subst, inl, inr, ◌∙◌, arith}
+use Rattle.std.proofs.Common.{◌≡◌, ◌≢◌, ◌⊎◌, ◌≤◌, ◌+◌, ℕ, Bool, false, List, [], Option, Some, None, Result, refl, sym, ap, subst, inl, inr, ◌∙◌, arith}
 use Rattle.std.proofs.lemmas.Bool.{true≢false}
 use Rattle.std.proofs.lemmas.List.Elements.{All-nil, All-weaker}
 use Rattle.commit_store.specs.Known.{KeepsStore, StoreState}
@@ -10,7 +10,7 @@ use Rattle.line_reader.specs.Request.{Request}
 use Rattle.machine.specs.Answer.{Answer, Outcome, mapped, outcome_of, refuses, sealing, with_mapping}
 use Rattle.machine.specs.Beside.{asks_so}
 use Rattle.machine.specs.May.{AreSizesFor, MayEnd}
-use Rattle.machine.specs.State.{Content, PointInTime, PointsInTime, State}
+use Rattle.machine.specs.State.{Content, PointsInTime, State}
 use Rattle.machine.specs.State as machine
 use Rattle.machine.specs.Step.{asked_for, asked_step, is_of_store, refusal_formed, step}
 use Rattle.machine.specs.declared.limits.Limits.{Limits}

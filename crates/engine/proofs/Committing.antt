@@ -1,12 +1,12 @@
 -- Commits, compactions and trims: what the machine answers, as the store answers it, and what a stop leaves.
-use Rattle.std.proofs.Common.{◌≡◌, ◌≢◌, ◌⊎◌, ◌≤◌, ◌==◌, ◌+◌, max, ℕ, Bool, true, false, cond, List, [], ◌∷◌, length, Option, None, Some, Result, Ok, Err, IsErr, IsErrAnd, IsErrOf, OnOk, eq-eqb, ne_eqb, inl, inr, refl, sym, ap, subst, ◌∙◌}
+use Rattle.std.proofs.Common.{◌≡◌, ◌≢◌, ◌⊎◌, ◌==◌, ◌+◌, max, ℕ, Bool, true, false, cond, List, [], ◌∷◌, length, Option, None, Some, Result, Ok, Err, IsErr, IsErrAnd, IsErrOf, OnOk, eq-eqb, ne_eqb, inl, inr, refl, sym, ap, subst, ◌∙◌}
 use Rattle.std.proofs.lemmas.Bool.{true≢false}
 use Rattle.std.proofs.lemmas.List.Elements.{recursion_from_All}
 use Rattle.std.specs.List.{AllByRecursion}
 use Rattle.commit_store.specs.Known.{KeepsStore, StoreState}
 use Rattle.commit_store.specs.Preparing.{IsLeft, SaysView, end_named, new_sizes, room_of}
 use Rattle.commit_store.specs.Saying.{FoundAs, StoreCommit}
-use Rattle.commit_store.specs.Stepping.{FoundAsOrView, HoldsView}
+use Rattle.commit_store.specs.Stepping.{HoldsView}
 use Rattle.disk.specs.Stops.{IsTold}
 use Rattle.extent_pool.specs.Placing.{Room}
 use Rattle.extent_pool.specs.declared.extent.Extent.{Extent}
@@ -14,10 +14,10 @@ use Rattle.flattener.specs.Fits.{EntryFits, ViewFits}
 use Rattle.index_core.specs.Kept.{IndexFits, IndexState, layout_kept}
 use Rattle.index_trees.specs.Content.{IsContentOf, OpensTo}
 use Rattle.index_trees.specs.Faithful.{AreFaithful}
-use Rattle.index_trees.specs.Given.{AreWhole, IsSealedFor, IsWhole}
+use Rattle.index_trees.specs.Given.{AreWhole, IsSealedFor}
 use Rattle.io_edges.specs.Faults.{Rose}
 use Rattle.layout.specs.Layout.{sealed}
-use Rattle.machine.specs.Answer.{Answer, Need, Outcome, answers, closing, nothing, outcome_of, stores, with_mapping, writing}
+use Rattle.machine.specs.Answer.{Answer, Need, answers, closing, outcome_of, stores, with_mapping, writing}
 use Rattle.machine.specs.May.{AreSizesFor, MayEnd, MayLeave, tried_state}
 use Rattle.machine.specs.State.{Content, Kept, State, sealed_state}
 use Rattle.machine.specs.Step.{asked_step}
@@ -33,7 +33,7 @@ use Rattle.request_form.specs.Asked.{Asked, asks}
 use Rattle.request_form.specs.Command as ask
 use Rattle.segment.specs.Live.{EntryState}
 use Rattle.segment_parts.specs.Agree.{AreColumns}
-use Rattle.store_commands.specs.Commands.{HasCommitted, HasFailed, HasMoved, HaveColumns, IsClosed, IsCommitted, IsFull, IsLacking, IsMoved, IsNotWritten, IsTrimmed, IsWritten, KeepsOn, StaysOrSeals}
+use Rattle.store_commands.specs.Commands.{HasFailed, HaveColumns, IsClosed, IsCommitted, IsFull, IsLacking, IsMoved, IsNotWritten, IsTrimmed, IsWritten, KeepsOn, StaysOrSeals}
 use Rattle.store_commands.specs.declared.not_done.NotDone.{NotDone}
 use Rattle.store_commands.specs.declared.not_done.NotDone.TheVariants as not_done
 use Rattle.store_compact.specs.Compacting.{IsCompacted, IsUntried, kept_of}
@@ -44,7 +44,7 @@ use Rattle.engine.specs.declared.engine.Answered.{Answered}
 use Rattle.engine.specs.declared.engine.Answered.TheVariants as answered
 use Rattle.engine.specs.declared.no_memory.NoMemory as memory
 use Rattle.engine.specs.declared.reply.Ended.{Ended}
-use Rattle.engine.specs.declared.reply.Ended.TheVariants.{Accepted, Refused}
+use Rattle.engine.specs.declared.reply.Ended.TheVariants.{Refused}
 use Rattle.engine.proofs.Answering.{same_faithful, sealed_faithful}
 use Rattle.engine.proofs.Asking.{cause_left, turn_left}
 use Rattle.engine.proofs.Plain.{lacking_plain}

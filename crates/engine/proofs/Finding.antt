@@ -22,7 +22,6 @@ use Rattle.query_eval.specs.Found.{live_trees as found_trees}
 use Rattle.query_parser.specs.Search.{search_of}
 use Rattle.reply_text.specs.Text.{reply_text}
 use Rattle.reply_text.specs.declared.refusal.Refusal.{Refusal}
-use Rattle.reply_text.specs.declared.reply.Reply.{Reply}
 use Rattle.reply_text.specs.declared.reply.Reply.TheVariants as reply
 use Rattle.search_walk.specs.Refusal.{first_refusal}
 use Rattle.search_walk.specs.declared.refusal.SearchRefusal.{SearchRefusal}

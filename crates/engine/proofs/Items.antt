@@ -6,7 +6,7 @@ use Rattle.std.specs.Prelude.{Contains}
 use Rattle.commit_store.specs.Saying.{HasSource}
 use Rattle.flattener.specs.Block.{BlockState}
 use Rattle.layout.specs.Layout.{Layout, OpenMerge, live_items, sealed, with_change}
-use Rattle.layout.specs.Merges.{MergeFault, aborted, advanced, finish_fault, finished, force_fault, forced, merge_named, start_fault, with_factor, with_merge}
+use Rattle.layout.specs.Merges.{MergeFault, aborted, advanced, finish_fault, finished, force_fault, forced, merge_named, start_fault, with_factor}
 use Rattle.layout_ids.specs.Ids.{KeepsItems}
 use Rattle.layout_ids.specs.Items.{AllItems, items_of}
 use Rattle.layout_ids.proofs.Items.{change_items, finish_items, force_items, live_all, sealed_items}

@@ -1,5 +1,5 @@
 -- What a store knows of an index: from command to command, and once a store was opened.
-use Rattle.std.proofs.Common.{◌≡◌, ◌<◌, ◌≤◌, ◌++◌, ℕ, List, [], ◌∷◌, map, All, Option, None, Some, refl, sym, ap, subst, ◌∙◌, arith}
+use Rattle.std.proofs.Common.{◌≡◌, ◌<◌, ◌≤◌, ◌++◌, ℕ, List, [], ◌∷◌, map, All, Option, None, Some, sym, ap, subst, ◌∙◌, arith}
 use Rattle.std.proofs.lemmas.List.Elements.{All-from_recursion, All-nil, All-same, All-weaker, recursion_from_All}
 use Rattle.std.specs.List.{AllByRecursion, flat_map}
 use Rattle.commit_store.specs.declared.known.KnownSegment.{KnownSegment}
@@ -9,12 +9,11 @@ use Rattle.commit_store.specs.Preparing as preparing
 use Rattle.commit_store.specs.Saying.{HasSource, HaveSources}
 use Rattle.flattener.specs.Block.{BlockState}
 use Rattle.flattener.specs.Fits.{BlockFits, EntryFits, SegmentFits, ViewFits}
-use Rattle.index_core.specs.Kept.{AreBlocks, IndexFits, IndexState, laid, last_number, layout_kept, made_by, segments_kept}
+use Rattle.index_core.specs.Kept.{AreBlocks, IndexState, laid, last_number, layout_kept, made_by, segments_kept}
 use Rattle.layout.proofs.Merging.{all_both, all_weaker}
-use Rattle.layout.specs.Layout.{Layout, SegmentOf, empty_layout, item_in}
+use Rattle.layout.specs.Layout.{Layout, item_in}
 use Rattle.layout_ids.specs.Ids.{HaveGivenIds, KeepsItems}
-use Rattle.layout_ids.specs.Items.{AllItems, items_in, items_of}
-use Rattle.machine.specs.declared.limits.Limits.{Limits}
+use Rattle.layout_ids.specs.Items.{AllItems, items_in}
 use Rattle.mapping.specs.Mapping.{Mapping}
 use Rattle.point_in_time.specs.Points.{KeptPoint, KeptPoints, no_points}
 use Rattle.segment.specs.Live.{EntryState}
@@ -23,7 +22,7 @@ use Rattle.store_commands.specs.Commands.{AreKnown, HasBlocksOf}
 use Rattle.store_commands.specs.Ready.{HasItems}
 use Rattle.store_commands.proofs.Known.{known_on}
 use Rattle.store_commands.proofs.Sealed.{HaveRoots, have_items}
-use Rattle.engine.specs.Found.{IsFittingUnder, opened_engine}
+use Rattle.engine.specs.Found.{IsFittingUnder}
 use Rattle.engine.specs.Kept.{AreKeptFor, ArePointsUnder, IsIndexOf, IsUnder}
 use Rattle.engine.specs.declared.ordinals.KeptOrdinals.{KeptOrdinals}
 

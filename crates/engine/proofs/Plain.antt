@@ -1,5 +1,5 @@
 -- What isn't asked of the store acknowledges no commit, doesn't tell of a failure of the disk, and writes no segment.
-use Rattle.std.proofs.Common.{◌≡◌, ◌≢◌, inl, inr, Bool, true, false, not, cond, ◌||◌, ◌==◌, nat_lt, nat_le, ℕ, List, [], ◌∷◌, ◌++◌, length, Option, Some, None, option_map, refl, sym, ap, subst, ◌∙◌}
+use Rattle.std.proofs.Common.{◌≡◌, ◌≢◌, inl, inr, Bool, true, false, not, cond, nat_lt, nat_le, ℕ, List, [], ◌∷◌, length, Option, Some, None, refl, sym, ap, subst, ◌∙◌}
 use Rattle.std.proofs.lemmas.Bool.{true≢false}
 use Rattle.std.specs.List.{AllByRecursion}
 use Rattle.std.specs.Option.{option_and_then}
@@ -8,7 +8,7 @@ use Rattle.flattener.specs.declared.refusal.FlattenRefusal.{FlattenRefusal}
 use Rattle.flattener.specs.declared.refusal.FlattenRefusal.TheVariants as flat
 use Rattle.layout.specs.Layout.{Layout, OpenMerge}
 use Rattle.layout.specs.Merges.{MergeFault, bad_range, overlaps, too_many, unknown, not_done, finish_fault, force_fault, merge_named, start_fault}
-use Rattle.machine.specs.Answer.{Answer, answers, first_of, nothing, Outcome, outcome_of, refused_if, refuses, stores, unless, when, with_mapping}
+use Rattle.machine.specs.Answer.{Answer, answers, first_of, nothing, outcome_of, refused_if, refuses, stores, unless, when, with_mapping}
 use Rattle.machine.specs.Beside.{asks_so}
 use Rattle.machine.specs.MappingLine.{conflict_refusal, first_done, first_refusals, growing_done, growing_refusals, limit_refusal, mapping_by, mapping_step}
 use Rattle.machine.specs.May.{AreSizesFor, MayEnd, MayLeave}
@@ -17,7 +17,7 @@ use Rattle.machine.specs.Points.{close_done, close_step, is_open, most_points, o
 use Rattle.machine.specs.Searching.{body_refusal, found_by, search_by, search_over, search_step, searched, within}
 use Rattle.machine.specs.State.{State, sealed_state}
 use Rattle.machine.specs.Step.{action_step, asked_step, is_of_store, refresh_step, refusal_formed}
-use Rattle.machine.specs.Write.{added_body, answered_or, change, change_or_nothing, changed, conflict, early_refusals, exists_already, full, growth_refusal, leaves_source, live_number, live_tree, long_id, long_source, missing, new_source, new_tree, nothing_to_do, put_refusals, put_result, put_tree, refusal_flattened, source_refusal, take_out, with_put, write_step, wrong_index, grown_by}
+use Rattle.machine.specs.Write.{added_body, answered_or, change, change_or_nothing, changed, conflict, early_refusals, exists_already, full, growth_refusal, leaves_source, live_number, live_tree, missing, new_source, new_tree, nothing_to_do, put_refusals, put_result, put_tree, refusal_flattened, take_out, with_put, write_step, wrong_index, grown_by}
 use Rattle.machine.specs.declared.limits.Limits.{Limits}
 use Rattle.machine.specs.declared.merge_command.MergeCommand.{MergeCommand}
 use Rattle.machine.specs.declared.merge_command.MergeCommand.TheVariants.{Start, Advance, Finish, Abort, Force}

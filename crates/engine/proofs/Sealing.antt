@@ -1,5 +1,5 @@
 -- What sealing leaves of the buffer.
-use Rattle.std.proofs.Common.{◌≡◌, ℕ, zero, suc, Bool, true, false, if◌then◌else◌, List, [], length, Option, Some, None, refl, ap, ◌∙◌}
+use Rattle.std.proofs.Common.{◌≡◌, ℕ, zero, suc, Bool, true, false, if◌then◌else◌, [], length, Option, Some, None, refl, ap, ◌∙◌}
 use Rattle.index_core.specs.Kept.{IndexState, layout_kept}
 use Rattle.layout.specs.Layout.{Layout, all_evened, all_remade, each_remade, evened, evened_at, is_half_dead, is_spent, last_uneven, remade, sealed, settled, with_buffer_last}
 

@@ -1,5 +1,3 @@
-use Rattle.std.proofs.Common.{◌≡◌, Some, subst, sym, ◌∙◌}
-use Rattle.index_core.specs.Kept.{layout_kept}
 use Rattle.engine.specs.Parts.{answered_of}
 use Rattle.engine.proofs.Leaving.{leaves_same, leaves_sealed}
 use Rattle.engine.proofs.Committing.{Laws, compact_ends, compact_stays}

@@ -1,4 +1,4 @@
-use Rattle.std.proofs.Common.{[], refl}
+use Rattle.std.proofs.Common.{refl}
 use Rattle.machine.specs.Storing.{trim_step}
 use Rattle.request_form.specs.Asked.{asks}
 use Rattle.request_form.specs.Command as ask
