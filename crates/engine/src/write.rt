@@ -1,6 +1,6 @@
 //! Writes.
 
-ghost use Rattle.std.specs.Prelude.{◌≡◌, ◌≤◌, ◌+◌, [], ℕ, List, Option, Some, None, true, false, is_some, length, option_map, unwrap_or, IfOk, IfSome};
+ghost use Rattle.std.specs.Prelude.{◌≡◌, ◌≤◌, ◌+◌, [], Option, Some, None, true, is_some, option_map, unwrap_or, IfOk, IfSome};
 ghost use Rattle.flattener.specs.Block.{BlockState};
 ghost use Rattle.index_core.specs.Kept.{IndexFits, block_number, layout_kept, live_block};
 ghost use Rattle.index_core.specs.Write.{IsNext};
@@ -14,12 +14,10 @@ ghost use Rattle.request_form.specs.Command.{update as updates};
 ghost use Rattle.request_form.specs.Formed.{HasSources, IsFormed, IsSourceValue};
 ghost use Rattle.request_form.specs.Seen.{changes_view, operation_view, write_view};
 ghost use Rattle.segment.specs.Agree.{IsId};
-ghost use Rattle.tree_json.specs.Levels.{levels, most_levels};
 ghost use Rattle.tree_json.specs.Output.{room_of};
 ghost use Rattle.tree_json.specs.Value.{JsonValue};
 ghost use Rattle.tree_json.specs.View.{view};
 ghost use Rattle.tree_objects.specs.Tree.{Tree};
-ghost use Rattle.write_plan.specs.Planned.{IsPlanned};
 ghost use Rattle.write_plan.specs.Update.{IsTextOf, IsUpdated};
 ghost use Rattle.index_trees.specs.Faithful.{AreFaithful};
 ghost use Rattle.engine.specs.Kept.{IsIndexOf};
