@@ -3,12 +3,13 @@
 //! It stands on `line_engine`, `disk` and `io_edges`. Its word is the folder of the case files, `data` where it has none;
 //! docs/SCENARIOS.md says how they are written. A line is printed for each case that differs, then the counts; the
 //! status is 1 where a case differs or can't be read. No contract says more than that the program is safe.
-//! Begin with `case.rt`; `read.rt` reads the files, `run.rt` runs a case in every way that it asks for, and
-//! `stops.rt` opens what a stop in each call of the disk leaves.
+//! Begin with `case.rt`; `read.rt` reads the files, `run.rt` runs a case in every way that it asks for,
+//! `stops.rt` opens what a stop in each call of the disk leaves, and `damage.rt` what is left of a damaged file.
 #![tactic(auto)]
 
 mod bodies;
 mod case;
+mod damage;
 mod notation;
 mod outside;
 mod read;

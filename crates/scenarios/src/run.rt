@@ -5,6 +5,7 @@ ghost use Rattle.machine.specs.Limit.{AreLimits};
 
 use crate::bodies;
 use crate::case::{Case, Turn};
+use crate::damage::first_bad_file;
 use crate::outside::{CountedDisk, Dialogue, PieceSink, PieceSource};
 use crate::settings::{Failing, Rose, Settings, Sweep};
 use crate::stops::first_bad_stop;
@@ -110,6 +111,10 @@ fn first_of_setup(
         *kept = file;
     }
     let found = first_bad_stop(alloc, case, setup, 0, case.exchanges.len(), runs)?;
+    if found.is_some() {
+        return Ok(found);
+    }
+    let found = first_bad_file(alloc, case, setup, runs)?;
     if found.is_some() {
         return Ok(found);
     }

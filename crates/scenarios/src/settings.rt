@@ -2,6 +2,7 @@
 
 ghost use Rattle.std.specs.Iterator.{IsFinite};
 
+use crate::damage::{DamagedRange, range_of};
 use crate::store_file::{Piece, piece_of, with_pieces};
 use anyhow::{Context, Result, bail, ensure};
 use line_engine::Limits;
@@ -73,6 +74,8 @@ pub struct Settings<'a> {
     pub dialogue: bool,
     pub failing: Failing,
     pub sweeps: Vec<Sweep>,
+    /// How runs over the store's file end once it is damaged, place by place.
+    pub damaged: Vec<DamagedRange>,
     pub status: u8,
     pub rose: Rose,
     pub store: Given,
@@ -96,6 +99,7 @@ impl<'a> Settings<'a> {
             dialogue: false,
             failing: Failing::default(),
             sweeps: Vec::new(alloc),
+            damaged: Vec::new(alloc),
             status: 0,
             rose: Rose::default(),
             store: Given {
@@ -123,13 +127,21 @@ impl<'a> Settings<'a> {
             "bodies" => self.bodies = true,
             "limit" => self.set_limit(value)?,
             "fail" => self.set_failing(value)?,
-            "each" => self.sweeps.push(sweep_of(value)?)?,
+            "each" => self.set_each(value)?,
             "rose" => self.set_rose(value)?,
             "store" => self.set_store(alloc, value)?,
             "left" => self.set_left(alloc, value)?,
             "probe" => self.probe = Some(value),
             "status" => self.status = value.parse().context("a status")?,
             _ => bail!("unknown setting"),
+        }
+        Ok(())
+    }
+
+    fn set_each(&mut self, value: &str) -> Result<()> {
+        match range_of(value)? {
+            Some(range) => self.damaged.push(range)?,
+            None => self.sweeps.push(sweep_of(value)?)?,
         }
         Ok(())
     }
@@ -209,13 +221,11 @@ impl<'a> Settings<'a> {
     /// to run bodies that are judged alone.
     pub fn check(&self) -> Result<()> {
         let ends_well = self.status == 0 && self.failing == Failing::default();
-        ensure!(
-            self.sweeps.is_empty() || ends_well,
-            "a sweep of a case that fails"
-        );
+        let is_once = self.sweeps.is_empty() && self.damaged.is_empty();
+        ensure!(is_once || ends_well, "a sweep of a case that fails");
         let is_plain = ends_well && !self.dialogue && self.limits.is_none();
         ensure!(
-            !self.bodies || (is_plain && self.sweeps.is_empty()),
+            !self.bodies || (is_plain && is_once),
             "bodies alone aren't run"
         );
         Ok(())

@@ -1,0 +1,147 @@
+//! Damaged files: a store's file is cut short, or one of its bytes is raised, and a run over it has to end as the case says.
+
+use crate::case::Case;
+use crate::run::{Setup, disk_of, run_over};
+use crate::settings::Failing;
+use anyhow::{Context, Result, ensure};
+use std::alloc::{AllocError, Global};
+
+/// What is done to a file at a place.
+#[derive(Clone, Copy, Debug)]
+pub enum Damage {
+    /// It is cut to so many bytes.
+    Length,
+    /// The byte there is raised by one, 255 to 0.
+    Byte,
+}
+
+/// How runs end over a file that is damaged at a place behind those of the range before, and in front of a last one.
+#[derive(Clone, Copy)]
+pub struct DamagedRange {
+    pub damage: Damage,
+    pub until: usize,
+    pub status: u8,
+}
+
+/// The range that is written `length until PLACE ends STATUS`, or so with `byte`; None where the text is something else.
+pub fn range_of(text: &str) -> Result<Option<DamagedRange>> {
+    let (name, value) = text.split_once(" until ").unwrap_or((text, ""));
+    let damage = match name {
+        "length" => Damage::Length,
+        "byte" => Damage::Byte,
+        _ => return Ok(None),
+    };
+    let (until, status) = value.split_once(" ends ").context("a place and a status")?;
+    Ok(Some(DamagedRange {
+        damage,
+        until: until.parse().context("a place")?,
+        status: status.parse().context("a status")?,
+    }))
+}
+
+/// Runs a case over its file with each damage that it asks for: cut to each length from 1 on, and with each byte raised. A line on the
+/// first run that ends otherwise than the case says. Ranges that leave out an end of the file are errors.
+pub fn first_bad_file(
+    alloc: Global,
+    case: &Case<'_>,
+    setup: Setup<'_>,
+    runs: &mut u64,
+) -> Result<Option<String>> {
+    let size = setup.file.len();
+    let mut length: usize = 1;
+    let mut byte: usize = 0;
+    for range in case.settings.damaged.as_slice() {
+        let from = match range.damage {
+            Damage::Length => length,
+            Damage::Byte => byte,
+        };
+        ensure!(from < range.until && range.until <= size, "no such range");
+        let found = first_of_range(alloc, case, setup, *range, from, runs)?;
+        if found.is_some() {
+            return Ok(found);
+        }
+        match range.damage {
+            Damage::Length => length = range.until,
+            Damage::Byte => byte = range.until,
+        }
+    }
+    ensure!(length == 1 || length == size, "lengths are left out");
+    ensure!(byte == 0 || byte == size, "bytes are left out");
+    Ok(None)
+}
+
+// The same for the places of one range.
+fn first_of_range(
+    alloc: Global,
+    case: &Case<'_>,
+    setup: Setup<'_>,
+    range: DamagedRange,
+    from: usize,
+    runs: &mut u64,
+) -> Result<Option<String>> {
+    for place in from..range.until {
+        let file = damaged(alloc, setup.file, range.damage, place)?;
+        let (status, output) = ended_over(alloc, case, setup, file.as_slice(), runs)?;
+        let is_as_said = if range.status == 0 {
+            output == case.output(alloc)?
+        } else {
+            output.is_empty()
+        };
+        if status != range.status || !is_as_said {
+            let damage = range.damage;
+            let output = String::from_utf8_lossy(alloc, output.as_slice())?;
+            return Ok(Some(format!(in alloc;
+                "{damage:?} {place} ends with status {status} and {output}"
+            )?));
+        }
+    }
+    Ok(None)
+}
+
+// The status and the output of the case over this file.
+fn ended_over(
+    alloc: Global,
+    case: &Case<'_>,
+    setup: Setup<'_>,
+    file: &[u8],
+    runs: &mut u64,
+) -> Result<(u8, Vec<u8>)> {
+    let setup = Setup {
+        pieces: setup.pieces,
+        most: setup.most,
+        failing: Failing::default(),
+        limits: setup.limits,
+        file,
+    };
+    let mut disk = disk_of(alloc, setup)?;
+    let words = case.settings.words.as_slice();
+    let ended = run_over(
+        alloc,
+        words,
+        case.input(alloc)?,
+        None,
+        setup,
+        &mut disk,
+        runs,
+    )?;
+    Ok((ended.status, ended.output))
+}
+
+// The file with a damage at a place.
+fn damaged(
+    alloc: Global,
+    file: &[u8],
+    damage: Damage,
+    place: usize,
+) -> Result<Vec<u8>, AllocError> {
+    let mut bytes = Vec::from_slice(alloc, file)?;
+    match damage {
+        Damage::Length => bytes.truncate(place),
+        Damage::Byte => {
+            if let Some(byte) = bytes.as_mut_slice().get_mut(place) {
+                *byte = byte.wrapping_add(1);
+            }
+        }
+    }
+    Ok(bytes)
+}
