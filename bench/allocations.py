@@ -16,6 +16,7 @@ import random
 import subprocess
 import sys
 import tempfile
+import threading
 
 TOP = os.path.dirname(os.path.dirname(os.path.abspath(__file__)))
 EXAMPLES = ("shop", "tickets")
@@ -138,7 +139,10 @@ class Refusing:
 
     def run(self, text, **told):
         """The program's status and its replies."""
-        words = [self.program, "serve", os.path.join(self.folder, "t.nest")]
+        store = os.path.join(self.folder, "%d.nest" % threading.get_ident())
+        if os.path.exists(store):
+            os.remove(store)
+        words = [self.program, "serve", store]
         done = subprocess.run(words, input=text.encode(), stdout=subprocess.PIPE, env={**os.environ, "LD_PRELOAD": self.library, **told})
         return done.returncode, done.stdout.decode().splitlines()
 

@@ -130,8 +130,8 @@ def segment_bytes(live):
 class Session:
     """A run of the program."""
 
-    def __init__(self, program, folder):
-        words = [program, "serve", os.path.join(folder, "store")]
+    def __init__(self, program, folder, store="store"):
+        words = [program, "serve", os.path.join(folder, store)]
         self.process = subprocess.Popen(words, stdin=subprocess.PIPE, stdout=subprocess.PIPE, bufsize=0)
 
     def load(self, text, replies):
@@ -188,9 +188,9 @@ def least(session, line):
     return reply, min(times)
 
 
-def loaded(program, folder, text, replies, taken):
+def loaded(program, folder, store, text, replies, taken):
     """A session with all lines, whose time is noted."""
-    session = Session(program, folder)
+    session = Session(program, folder, store)
     seconds, same = session.load(text, replies)
     if not same:
         sys.exit("the program's replies are not those of a set of ids")
@@ -235,8 +235,8 @@ def main():
     plain_times, settled_times = [], []
     with tempfile.TemporaryDirectory() as folder:
         for turn in range(TURNS):
-            plain = loaded(program, folder, text, replies, plain_times)
-            by_itself = loaded(program, folder, settling, settled, settled_times)
+            plain = loaded(program, folder, "plain", text, replies, plain_times)
+            by_itself = loaded(program, folder, "by_itself", settling, settled, settled_times)
             if turn + 1 < TURNS:
                 plain.end()
                 by_itself.end()
