@@ -5,6 +5,8 @@ A preloaded library counts the calls of malloc and realloc and refuses one of th
 no output, or answer one request with out_of_memory and the others as if that request hadn't come; anything else is wrong. It is
 run over made lines, whose replies come from the plain machine below, and over the examples. Of these all replies together have to be
 the expected ones, and those around a request that hadn't come are what the program answers without it, where nothing is refused.
+The made lines have commits; they are run from nothing and on the store that they leave, and each store is served again, where nothing
+is refused: it has to hold the trees of the last commit that was answered.
 Wants gcc; run `./run --prove examples/shop.ndjson` once before: it builds the program.
 
     python3 bench/allocations.py [PROGRAM]
@@ -20,6 +22,7 @@ import threading
 
 TOP = os.path.dirname(os.path.dirname(os.path.abspath(__file__)))
 EXAMPLES = ("shop", "tickets")
+SEARCH = '{"search":{}}\n'
 OUT_OF_MEMORY = '{"error":{"reason":"out_of_memory"}}'
 LIBRARY = r"""
 #define _GNU_SOURCE
@@ -72,13 +75,20 @@ class Machine:
         self.trees = []
         self.next = 0
 
+    def copy(self):
+        other = Machine()
+        other.mapped, other.trees, other.next = self.mapped, list(self.trees), self.next
+        return other
+
     def answer(self, request):
         kind, id, source = request
         if kind == "mapping":
             self.mapped = True
             return compact({"result": "mapped"})
-        if kind in ("index", "search") and not self.mapped:
+        if kind in ("index", "search", "commit") and not self.mapped:
             return refusal(6, "no_mapping")
+        if kind == "commit":
+            return compact({"next_seq_no": self.next})
         if kind == "index":
             before = len(self.trees)
             self.trees = [tree for tree in self.trees if tree[0] != id]
@@ -102,7 +112,8 @@ def text_of(request):
     return {
         "mapping": lambda: MAPPING,
         "index": lambda: action + json.dumps(source) + "\n",
-        "search": lambda: '{"search":{}}\n',
+        "search": lambda: SEARCH,
+        "commit": lambda: '{"commit":{}}\n',
         "no json": lambda: '{"search":{"query":\n',
         "a fraction": lambda: action + '{"price":9.5}\n',
         "no request": lambda: '{"find":{"name":"chair"}}\n',
@@ -114,15 +125,23 @@ def made_requests(count):
     numbers = random.Random(5)
     yield "mapping", None, None
     for _ in range(count):
-        kind = numbers.choice(["index"] * 5 + ["search"] * 3 + ["no json", "a fraction", "no request"])
+        kind = numbers.choice(["index"] * 5 + ["search"] * 3 + ["commit"] * 2 + ["no json", "a fraction", "no request"])
         offers = [{"price": numbers.randrange(100), "color": "red" * numbers.randrange(9)} for _ in range(numbers.randrange(4))]
         source = {"title": "lamp" * numbers.randrange(40), "offers": offers}
         yield kind, "id%d" % numbers.randrange(12), source if numbers.randrange(2) else dict(sorted(source.items()))
 
 
-def replies_without(requests, left_out):
-    machine = Machine()
-    return [OUT_OF_MEMORY if at == left_out else machine.answer(request) for at, request in enumerate(requests)]
+def replies_without(requests, left_out, begun):
+    """The replies where one request hasn't come, and the machine as the last commit left it."""
+    machine, kept, replies = begun.copy(), begun.copy(), []
+    for at, request in enumerate(requests):
+        if at == left_out:
+            replies.append(OUT_OF_MEMORY)
+            continue
+        replies.append(machine.answer(request))
+        if request[0] == "commit" and machine.mapped:
+            kept = machine.copy()
+    return replies, kept
 
 
 class Refusing:
@@ -137,58 +156,73 @@ class Refusing:
             file.write(LIBRARY)
         subprocess.run(["gcc", "-shared", "-fPIC", "-O1", "-o", self.library, source, "-ldl"], check=True)
 
-    def run(self, text, **told):
-        """The program's status and its replies."""
+    def run(self, text, given=b"", **told):
+        """The program's status, its replies, and the store that it leaves in place of the given one."""
         store = os.path.join(self.folder, "%d.nest" % threading.get_ident())
-        if os.path.exists(store):
-            os.remove(store)
+        with open(store, "wb") as file:
+            file.write(given)
         words = [self.program, "serve", store]
         done = subprocess.run(words, input=text.encode(), stdout=subprocess.PIPE, env={**os.environ, "LD_PRELOAD": self.library, **told})
-        return done.returncode, done.stdout.decode().splitlines()
+        with open(store, "rb") as file:
+            return done.returncode, done.stdout.decode().splitlines(), file.read()
 
-    def whole(self, text):
-        """The replies where nothing is refused, and how many allocations there are."""
+    def whole(self, text, given=b""):
+        """The replies where nothing is refused, the store then, and how many allocations there are."""
         seen = os.path.join(self.folder, "seen")
-        status, replies = self.run(text, SEEN=seen)
+        status, replies, store = self.run(text, given, SEEN=seen)
         if status != 0:
             sys.exit("with ample memory: status %d" % status)
         with open(seen) as count:
-            return replies, int(count.read())
+            return replies, store, int(count.read())
 
-    def without(self, text, number):
-        """The status and the replies where the allocation of this number is refused."""
-        return self.run(text, REFUSED=str(number))
+    def without(self, text, given, number):
+        """The status, the replies and the store where the allocation of this number is refused."""
+        return self.run(text, given, REFUSED=str(number))
+
+    def holds(self, store, machine):
+        """Whether a store that is served again, where nothing is refused, holds what the machine holds."""
+        status, replies, _ = self.run(SEARCH, store)
+        return status == 0 and replies == [machine.answer(("search", None, None))]
 
 
-def judge(refusing, name, texts, whole, replies_without):
-    """Refuses each allocation over these requests; `replies_without` gives the replies where one of them hasn't come."""
+def judge(refusing, name, texts, whole, replies_without, given=b"", begun=None):
+    """Refuses each allocation over these requests; `replies_without` gives the replies where one of them hasn't come. Where `begun` is
+    what the given store holds, it gives what the store has to hold besides."""
     text = "".join(texts)
-    replies, allocations = refusing.whole(text)
+    replies, left, allocations = refusing.whole(text, given)
     if replies != whole:
         sys.exit("%s: with ample memory the replies aren't the expected ones" % name)
     expected = {}
     ended = refused = unharmed = 0
     with concurrent.futures.ThreadPoolExecutor(os.cpu_count()) as pool:
-        for number, (status, replies) in enumerate(pool.map(lambda number: refusing.without(text, number), range(allocations))):
+        runs = pool.map(lambda number: refusing.without(text, given, number), range(allocations))
+        for number, (status, replies, store) in enumerate(runs):
             at = replies.index(OUT_OF_MEMORY) if OUT_OF_MEMORY in replies else None
-            if at is not None and at not in expected:
+            if at not in expected:
                 expected[at] = replies_without(at)
             if status == 9 and not replies:
                 ended += 1
             elif status == 0 and replies == whole:
                 unharmed += 1
-            elif status == 0 and at is not None and replies == expected[at]:
+            elif status == 0 and at is not None and replies == expected[at][0]:
                 refused += 1
             else:
                 sys.exit("%s: allocation %d refused: status %d, and wrong replies" % (name, number, status))
+            if begun and not refusing.holds(store, begun if status == 9 else expected[at][1]):
+                sys.exit("%s: allocation %d refused: the store doesn't hold what was committed" % (name, number))
     print("%s: %d requests, %d allocations, each refused once: %d ended with status 9 before the first request, %d with one "
           "out_of_memory reply, %d without effect" % (name, len(texts), allocations, ended, refused, unharmed), flush=True)
+    return left
 
 
 def judge_made(refusing):
-    requests = list(made_requests(60))
-    texts = [text_of(request) for request in requests]
-    judge(refusing, "made lines", texts, replies_without(requests, None), lambda at: replies_without(requests, at))
+    requests = list(made_requests(60)) + [("commit", None, None)]
+    begun, given = Machine(), b""
+    for name in ("made lines from nothing", "made lines on their store"):
+        whole, kept = replies_without(requests, None, begun)
+        texts = [text_of(request) for request in requests]
+        given = judge(refusing, name, texts, whole, lambda at: replies_without(requests, at, begun), given, begun)
+        begun = kept
 
 
 def example_requests(name):
@@ -204,8 +238,10 @@ def judge_example(refusing, name):
         whole = replies.read().splitlines()
 
     def without(at):
-        replies, _ = refusing.whole("".join(texts[:at] + texts[at + 1:]))
-        return replies[:at] + [OUT_OF_MEMORY] + replies[at:]
+        if at is None:
+            return whole, None
+        replies, _, _ = refusing.whole("".join(texts[:at] + texts[at + 1:]))
+        return replies[:at] + [OUT_OF_MEMORY] + replies[at:], None
 
     judge(refusing, name, texts, whole, without)
 
