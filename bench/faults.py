@@ -30,7 +30,7 @@ DISK_FAILURE = '{"error":{"number":35,"reason":"disk_failure"}}'
 FAILS = ("error=EIO", "error=ENOSPC")
 NOTHING = ("write", "pread64", "pwrite64")
 INTERRUPTED = ("read", "write", "pread64", "pwrite64", "fsync", "fdatasync", "ftruncate", "openat", "flock")
-IDS = 60
+IDS = 20
 
 
 class Requests:
@@ -46,15 +46,16 @@ class Requests:
             self.add(command, *self.trees.ask(command, self.numbers))
 
     def write(self):
-        """Some segments of writes."""
-        for _ in range(4):
-            for _ in range(9):
+        """Two segments of writes, of which some are long, so that the input takes several reads."""
+        note = "note" * 3_000
+        for _ in range(2):
+            for _ in range(5):
                 id = str(self.numbers.randrange(IDS))
-                if self.numbers.randrange(5):
-                    source = product(self.trees.next, self.draws)[:-1] + ',"note":"%s"}' % ("note" * 300)
-                    self.add("index", *self.trees.put(id, source))
+                if self.numbers.randrange(5) or note:
+                    self.add("index", *self.trees.put(id, product(self.trees.next, self.draws)[:-1] + ',"note":"%s"}' % note))
                 else:
                     self.add("delete", *self.trees.delete(id))
+                note = ""
             self.add("refresh", *self.trees.ask("refresh", self.numbers))
 
     def add(self, command, text, reply):
