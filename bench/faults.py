@@ -21,41 +21,42 @@ import sys
 import tempfile
 from collections import Counter
 
-from made import Draws, product
+from made import MAPPING, Draws, product
 from merges import Session
 from stored import EVERYTHING, Trees, is_answer, keeps
 
 TOP = os.path.dirname(os.path.dirname(os.path.abspath(__file__)))
 DISK_FAILURE = '{"error":{"number":35,"reason":"disk_failure"}}'
 FAILS = ("error=EIO", "error=ENOSPC")
-NOTHING = ("write", "pread64", "pwrite64")
-INTERRUPTED = ("read", "write", "pread64", "pwrite64", "fsync", "fdatasync", "ftruncate", "openat", "flock")
+NOTHING, MOVING = ("retval=0",), ("write", "pread64", "pwrite64")
+INTERRUPTED, INTERRUPTIBLE = ("error=EINTR",), ("read", "write", "pread64", "pwrite64", "fsync", "fdatasync", "ftruncate", "openat", "flock")
 IDS = 20
+# a line that is passed over, which makes the input take several reads
+BLANK = " " * 20_000 + "\n"
 
 
 class Requests:
     """The requests of a session, each with its text, its reply, its command, and the trees that it keeps."""
 
-    def __init__(self, trees, seed):
+    def __init__(self, trees, seed, before=""):
         self.trees, self.numbers, self.draws, self.made = trees.copy(), random.Random(seed), Draws(seed), []
         if not trees.mapped:
             self.add("mapping", *self.trees.map())
         for command in ("commit", "commit", "forcemerge", "commit", "compact", "trim", "commit"):
             if command == "commit":
                 self.write()
-            self.add(command, *self.trees.ask(command, self.numbers))
+            line, reply = self.trees.ask(command, self.numbers)
+            self.add(command, before + line, reply)
 
     def write(self):
-        """Two segments of writes, of which some are long, so that the input takes several reads."""
-        note = "note" * 3_000
+        """Two segments of writes."""
         for _ in range(2):
             for _ in range(5):
                 id = str(self.numbers.randrange(IDS))
-                if self.numbers.randrange(5) or note:
-                    self.add("index", *self.trees.put(id, product(self.trees.next, self.draws)[:-1] + ',"note":"%s"}' % note))
+                if self.numbers.randrange(5):
+                    self.add("index", *self.trees.put(id, product(self.trees.next, self.draws)))
                 else:
                     self.add("delete", *self.trees.delete(id))
-                note = ""
             self.add("refresh", *self.trees.ask("refresh", self.numbers))
 
     def add(self, command, text, reply):
@@ -105,27 +106,26 @@ class Runs:
 
     def look(self, allowed, fault):
         """Serves the store again without faults: what it holds, and that it takes a further commit."""
-        session = Session(self.program, self.folder)
-        reply, _ = session.ask(EVERYTHING)
-        found = [trees for trees in allowed if trees.are(reply)]
+        replies = self.serve([EVERYTHING, MAPPING, '{"index":{"_id":"further"}}', '{"name":"further"}', '{"commit":{}}'])
+        found = [trees for trees in allowed if replies and trees.are(replies[0])]
         if not found:
-            sys.exit("%s: the store doesn't hold what was committed: %s" % (fault, reply[:1000]))
+            sys.exit("%s: the store doesn't hold what was committed: %s" % (fault, replies))
         trees = found[0].copy()
-        asked = [] if trees.mapped else [trees.map()]
-        asked += [trees.put("further", '{"name":"further"}'), trees.ask("commit", random)]
-        for line, wanted in asked:
-            if session.ask(line)[0] != wanted + "\n":
-                sys.exit("%s: afterwards %s isn't answered" % (fault, line))
-        session.end()
-        session = Session(self.program, self.folder)
-        if not trees.are(session.ask(EVERYTHING)[0]):
-            sys.exit("%s: afterwards a commit isn't there" % fault)
-        session.end()
+        wanted = [trees.map()[1], trees.put("further", '{"name":"further"}')[1], trees.ask("commit", random)[1]]
+        again = self.serve([EVERYTHING])
+        if replies[1:] != wanted or not again or not trees.are(again[0]):
+            sys.exit("%s: afterwards the store doesn't go on: %s" % (fault, replies[1:]))
+
+    def serve(self, lines):
+        """The replies to these lines, or none where the program fails."""
+        text = "".join(line + "\n" for line in lines)
+        done = subprocess.run([self.program, "serve", self.store], input=text.encode(), stdout=subprocess.PIPE)
+        return done.stdout.decode().splitlines() if done.returncode == 0 else []
 
     def fail(self, given, kept, requests, path, call, how, number):
         """One run with a fault, judged; what came of it."""
         fault = "%s %d on the %s with %s, %s" % (call, number, os.path.basename(path), how, "which was there" if given else "from nothing")
-        told = ["-e", "trace=" + call, "-e", "inject=%s:%s:when=%d" % (call, how, number)]
+        told = ["--seccomp-bpf", "-e", "trace=" + call, "-e", "inject=%s:%s:when=%d" % (call, how, number)]
         status, said, log = self.run(given, requests, path, told)
         at = [place for place, line in enumerate(log) if "(INJECTED)" in line]
         if len(at) != 1:
@@ -144,17 +144,15 @@ class Runs:
         self.look(allowed, fault)
         return "unseen" if unseen else "number 35" if status == 0 else "status %d" % status
 
-    def fail_each(self, given, kept, requests):
-        """Fails each call in turn, each way that there is."""
-        for path in (self.store, self.input, self.output):
-            for call, count in sorted(self.calls(given, kept, requests, path).items()):
-                if call == "close" or path != self.store and call not in ("read", "write"):
-                    continue
-                ways = FAILS + ("retval=0",) * (call in NOTHING) + ("error=EINTR",) * (call in INTERRUPTED)
-                for how in ways:
-                    came = Counter(self.fail(given, kept, requests, path, call, how, number + 1) for number in range(count))
-                    print("%-6s %-10s %4d times %-12s %s" % (os.path.basename(path), call, count, how.split("=")[1] if "error" in how else "nothing",
-                                                            ", ".join("%d %s" % (many, it) for it, many in sorted(came.items()))), flush=True)
+    def fail_each(self, given, kept, requests, path):
+        """Fails each call on a path in turn, each way that there is."""
+        for call, count in sorted(self.calls(given, kept, requests, path).items()):
+            if call == "close" or path != self.store and call not in ("read", "write"):
+                continue
+            for how in FAILS + NOTHING * (call in MOVING) + INTERRUPTED * (call in INTERRUPTIBLE):
+                came = Counter(self.fail(given, kept, requests, path, call, how, number + 1) for number in range(count))
+                said = ", ".join("%d %s" % (many, it) for it, many in sorted(came.items()))
+                print("%-6s %-9s %2d times %-12s %s" % (os.path.basename(path), call, count, how, said), flush=True)
 
 
 def judged(requests, said, status, kept, fault):
@@ -193,12 +191,15 @@ def main():
         runs = Runs(program, folder)
         first = Requests(Trees(), 1)
         print("from nothing:")
-        runs.fail_each(None, Trees(), first)
+        runs.fail_each(None, Trees(), first, runs.store)
         given = os.path.join(folder, "given")
         runs.calls(None, Trees(), first, runs.store)
         shutil.copy(runs.store, given)
         print("on a store that was there:")
-        runs.fail_each(given, first.trees, Requests(first.trees, 2))
+        runs.fail_each(given, first.trees, Requests(first.trees, 2), runs.store)
+        long = Requests(first.trees, 3, BLANK)
+        for path in (runs.input, runs.output):
+            runs.fail_each(given, first.trees, long, path)
         refuse_a_second(program, folder)
         print("a second session on an open store was refused")
 

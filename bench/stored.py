@@ -65,7 +65,7 @@ class Trees:
     def are(self, reply):
         """Whether this is the reply to a search for everything."""
         if not self.mapped:
-            return reply == '{"error":{"number":6,"reason":"no_mapping"}}\n'
+            return reply.rstrip("\n") == '{"error":{"number":6,"reason":"no_mapping"}}'
         hits = json.loads(reply).get("hits", {})
         found = {hit["_id"]: (hit["sort"][1], hit["_source"]) for hit in hits.get("hits", [])}
         return hits.get("total") == len(self.live) and found == {
