@@ -18,7 +18,6 @@ import tempfile
 from collections import Counter
 from itertools import islice
 
-from merges import Session
 from stored import Trees, is_answer, requests_on
 
 TOP = os.path.dirname(os.path.dirname(os.path.abspath(__file__)))
@@ -59,19 +58,18 @@ def first_format():
 
 def stores(program, folder, numbers):
     """Stores that sessions left, of some hundred bytes behind the header to some ten thousand."""
-    made = [first_format()]
+    made, path = [first_format()], os.path.join(folder, "store")
     for ids in (1, 2, 5, 10, 30, 100):
         trees = Trees()
         for length in (4 * ids, ids):
-            session = Session(program, folder)
-            for line, wanted, _ in [*islice(requests_on(trees, numbers, ids, 8), length), (*trees.ask("commit", numbers), "commit")]:
-                reply, _ = session.ask(line)
-                if not is_answer(wanted, reply[:-1]):
-                    sys.exit("the reply to %s is %s, not %s" % (line, reply, wanted))
-            session.end()
-            with open(os.path.join(folder, "store"), "rb") as file:
+            asked = [*islice(requests_on(trees, numbers, ids, 8), length), (*trees.ask("commit", numbers), "commit")]
+            status, said = serve(program, path, "".join(line + "\n" for line, _, _ in asked))
+            replies = said.split("\n")[:-1]
+            if status != 0 or len(replies) != len(asked) or not all(map(is_answer, (wanted for _, wanted, _ in asked), replies)):
+                sys.exit("a session of %d ids has wrong replies, and status %d" % (ids, status))
+            with open(path, "rb") as file:
                 made.append(file.read())
-        os.remove(os.path.join(folder, "store"))
+        os.remove(path)
     return made
 
 

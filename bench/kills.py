@@ -3,9 +3,10 @@
 
 After each kill the next session has to open the store and to find exactly the trees of the last commit that was acknowledged, or of
 the one whose reply was under way; then it goes on from there. Each reply before the kill is compared with that of a dict. Every
-50th session begins without a file, so that some kills hit the making of a store. Where the program knows `check`, each store has to
-pass it too. A moment is drawn from the first 300 milliseconds of a session. What a kill can't show is a loss of power, since the
-system keeps what was written. Run `./run --prove examples/shop.ndjson` once before: it builds the program.
+50th session begins without a file. Where the program knows `check`, each store has to pass it too. One session in eight is killed
+within 50 milliseconds of its start, so that some kills hit the opening; the others within 10 milliseconds of one of the first 200
+replies. What a kill can't show is a loss of power, since the system keeps what was written. Run `./run --prove examples/shop.ndjson`
+once before: it builds the program.
 
     python3 bench/kills.py [KILLS [PROGRAM [SEED]]]       # 1,000 kills
 """
@@ -22,7 +23,9 @@ from merges import Session
 from stored import EVERYTHING, Trees, is_answer, keeps, requests_on
 
 TOP = os.path.dirname(os.path.dirname(os.path.abspath(__file__)))
-MOST_SECONDS = 0.3
+OPENING_SECONDS = 0.05
+REPLIES = 200
+REPLY_SECONDS = 0.01
 IDS = 300
 WRITES = 12
 ANEW = 50
@@ -55,10 +58,17 @@ def first_line(output):
     return first + b"\n", rest
 
 
-def rest_of(output):
-    pieces = []
-    while piece := os.read(output, 1 << 20):
+def rest_until_kill(session, number, seconds):
+    """All that is said until the end. So many seconds after the line of this number the program is killed."""
+    pieces, lines, killer = [], 0, None
+    while piece := os.read(session.process.stdout.fileno(), 1 << 20):
         pieces.append(piece)
+        lines += piece.count(b"\n")
+        if lines >= number and not killer:
+            killer = threading.Timer(seconds, session.process.kill)
+            killer.start()
+    if killer:
+        killer.join()
     return b"".join(pieces)
 
 
@@ -77,14 +87,14 @@ def judged(replies, sent, last, seen):
 def run_to_kill(program, folder, allowed, numbers, seen):
     """One session until it is killed; the trees that the next one may find."""
     session = Session(program, folder)
-    output = session.process.stdout.fileno()
-    killer = threading.Timer(numbers.uniform(0, MOST_SECONDS), session.process.kill)
-    killer.start()
+    early = threading.Timer(numbers.uniform(0, OPENING_SECONDS), session.process.kill)
+    if numbers.randrange(8) == 0:
+        early.start()
     try:
         session.send(EVERYTHING.encode() + b"\n")
     except BrokenPipeError:
         pass
-    opening, said = first_line(output)
+    opening, said = first_line(session.process.stdout.fileno())
     if opening.endswith(b"\n"):
         found = [trees for trees in allowed if trees.are(opening.decode())]
         if not found:
@@ -94,12 +104,11 @@ def run_to_kill(program, folder, allowed, numbers, seen):
         sent = []
         driver = threading.Thread(target=drive, args=(session, found[0].copy(), numbers, sent))
         driver.start()
-        said += rest_of(output)
+        said += rest_until_kill(session, numbers.randrange(1, REPLIES), numbers.uniform(0, REPLY_SECONDS))
         driver.join()
         allowed = judged(said.decode().split("\n")[:-1], sent, found[0], seen)
     else:
         seen["before the first reply"] += 1
-    killer.join()
     session.process.stdin.close()
     if session.process.wait() != -signal.SIGKILL:
         sys.exit("the program ended with status %d" % session.process.returncode)
