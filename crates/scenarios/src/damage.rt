@@ -20,10 +20,13 @@ pub enum Damage {
 pub struct DamagedRange {
     pub damage: Damage,
     pub until: usize,
+    /// From the first of these places on, each of so many is tried.
+    pub step: usize,
     pub status: u8,
 }
 
-/// The range that is written `length until PLACE ends STATUS`, or so with `byte`; None where the text is something else.
+/// The range that is written `length until PLACE ends STATUS`, with `by STEP` behind the place where not each one is tried, or so with
+/// `byte`; None where the text is something else.
 pub fn range_of(text: &str) -> Result<Option<DamagedRange>> {
     let (name, value) = text.split_once(" until ").unwrap_or((text, ""));
     let damage = match name {
@@ -31,10 +34,12 @@ pub fn range_of(text: &str) -> Result<Option<DamagedRange>> {
         "byte" => Damage::Byte,
         _ => return Ok(None),
     };
-    let (until, status) = value.split_once(" ends ").context("a place and a status")?;
+    let (places, status) = value.split_once(" ends ").context("a place and a status")?;
+    let (until, step) = places.split_once(" by ").unwrap_or((places, "1"));
     Ok(Some(DamagedRange {
         damage,
         until: until.parse().context("a place")?,
+        step: step.parse().context("a step")?,
         status: status.parse().context("a status")?,
     }))
 }
@@ -55,7 +60,8 @@ pub fn first_bad_file(
             Damage::Length => length,
             Damage::Byte => byte,
         };
-        ensure!(from < range.until && range.until <= size, "no such range");
+        let is_range = from < range.until && range.until <= size && range.step > 0;
+        ensure!(is_range, "no such range");
         let found = first_of_range(alloc, case, setup, *range, from, runs)?;
         if found.is_some() {
             return Ok(found);
@@ -80,6 +86,9 @@ fn first_of_range(
     runs: &mut u64,
 ) -> Result<Option<String>> {
     for place in from..range.until {
+        if place.saturating_sub(from).checked_rem(range.step) != Some(0) {
+            continue;
+        }
         let file = damaged(alloc, setup.file, range.damage, place)?;
         let (status, output) = ended_over(alloc, case, setup, file.as_slice(), runs)?;
         let is_as_said = if range.status == 0 {
