@@ -61,13 +61,13 @@ def best_of_three(command, path):
 
 
 def compare(name, lines):
-    with tempfile.NamedTemporaryFile("w", suffix=".ndjson") as made:
+    with tempfile.NamedTemporaryFile("w", suffix=".ndjson") as made, tempfile.TemporaryDirectory() as folder:
         count = 0
         for piece in lines:
             made.write(piece)
             count += piece.count("\n")
         made.flush()
-        program = best_of_three([PROGRAM, "serve", "bench.nest"], made.name)
+        program = best_of_three([PROGRAM, "serve", os.path.join(folder, "store")], made.name)
         loop = best_of_three([sys.executable, "-c", LOOP], made.name)
     print("%s: %d lines, %.0f a second; Python %.0f; ratio %.1f" % (name, count, count / program, count / loop, loop / program))
 
