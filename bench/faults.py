@@ -29,7 +29,8 @@ TOP = os.path.dirname(os.path.dirname(os.path.abspath(__file__)))
 DISK_FAILURE = '{"error":{"number":35,"reason":"disk_failure"}}'
 FAILS = ("error=EIO", "error=ENOSPC")
 NOTHING, MOVING = ("retval=0",), ("write", "pread64", "pwrite64")
-INTERRUPTED, INTERRUPTIBLE = ("error=EINTR",), ("read", "write", "pread64", "pwrite64", "fsync", "fdatasync", "ftruncate", "openat", "flock")
+INTERRUPTED = ("error=EINTR",)
+INTERRUPTIBLE = ("read", "write", "pread64", "pwrite64", "fsync", "fdatasync", "ftruncate", "openat", "flock")
 IDS = 20
 # a line that is passed over, which makes the input take several reads
 BLANK = " " * 20_000 + "\n"

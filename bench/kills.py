@@ -100,7 +100,7 @@ def run_to_kill(program, folder, allowed, numbers, seen):
         if not found:
             sys.exit("the store doesn't hold what was committed: %s" % opening[:1000].decode())
         seen["a commit whose reply was under way"] += found[0] is not allowed[0]
-        seen["trees"] += len(found[0].live)
+        seen["trees looked at"] += len(found[0].live)
         sent = []
         driver = threading.Thread(target=drive, args=(session, found[0].copy(), numbers, sent))
         driver.start()
@@ -148,9 +148,9 @@ def main():
     os.remove(store)
     os.rmdir(folder)
     print("%d kills, 0 lost: %d before the first reply, %d stores passed check" % (kills, seen["before the first reply"], passed))
-    print("%d commits, %d compacts and %d trims acknowledged among %d replies; %d stores held a commit whose reply was under way; "
-          "%d trees looked at" % (seen["commit"], seen["compact"], seen["trim"], sum(seen[it] for it in seen if it.isalpha()) - seen["trees"],
-                                  seen["a commit whose reply was under way"], seen["trees"]))
+    replies = sum(count for name, count in seen.items() if " " not in name)
+    print("%d replies, with %d commits, %d compacts and %d trims; %d stores held a commit whose reply was under way; %d trees looked at"
+          % (replies, seen["commit"], seen["compact"], seen["trim"], seen["a commit whose reply was under way"], seen["trees looked at"]))
 
 
 main()
