@@ -65,14 +65,14 @@ record SameSlot (generation at len : ℕ) (c : StoreCommit) : Type 0 where
 rounded_up : (len : ℕ) → len ≤ rounded len
 rounded_up len = omega arith
 
-body_ends : (limit : ℕ) (c : StoreCommit) → limit ≤ 2 ^ 38 → IsGood limit c → c.body.at + length c.body.bytes < 2 ^ 64
+pub body_ends : (limit : ℕ) (c : StoreCommit) → limit ≤ 2 ^ 38 → IsGood limit c → c.body.at + length c.body.bytes < 2 ^ 64
 body_ends limit c few good =
     let within : end_of (extent_of c.body) ≤ limit
     = (by_recursion (λ (extent : Extent). end_of extent ≤ limit) (map extent_of (c.body ∷ c.segments)) good.places.within).0 in
     let up = rounded_up (length c.body.bytes) in
     omega (arith, within, up, few)
 
-few_generations : (generation : ℕ) → generation ≤ last_generation → generation < 2 ^ 64
+pub few_generations : (generation : ℕ) → generation ≤ last_generation → generation < 2 ^ 64
 few_generations generation last = omega (arith, last)
 
 same_slot : (limit : ℕ) (file : List ℕ) (side : Side) (own : Slot) (c : StoreCommit) → limit ≤ 2 ^ 38 → own.generation < 2 ^ 64 → own.at < 2 ^ 64 → own.len < 2 ^ 64 → IsGood limit c

@@ -12,4 +12,7 @@ pub mod DeadRoots
 pub mod Sourced
 pub mod Said
 pub mod Led
+pub mod Leading
 pub mod Refusing
+pub mod Whole
+pub mod Shows

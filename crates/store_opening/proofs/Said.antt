@@ -46,7 +46,7 @@ bodies_text (v ∷ values) [] texts = absurd texts
 bodies_text (v ∷ values) (b ∷ bodies) texts =
     ap (λ (it : List ℕ). it ∷ map compact values) (sym texts.0.text) ∙ ap (λ (it : List (List ℕ)). b ∷ it) (bodies_text values bodies texts.1)
 
-bodies_read : (values : List JsonValue) (bodies : List (List ℕ)) → AllZip IsTextOf values bodies → AllByRecursion IsReadBack values
+pub bodies_read : (values : List JsonValue) (bodies : List (List ℕ)) → AllZip IsTextOf values bodies → AllByRecursion IsReadBack values
 bodies_read [] [] texts = tt
 bodies_read [] (b ∷ bodies) texts = absurd texts
 bodies_read (v ∷ values) [] texts = absurd texts

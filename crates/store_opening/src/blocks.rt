@@ -125,7 +125,7 @@ fn put_id(alloc: Global, entry: &Entry, root: u32, ids: &mut LiveIds) -> Result<
 }
 
 /// Says that the blocks of each entry have its roots. Does nothing.
-fn entries_are_known(entries: &[Entry])
+pub(crate) fn entries_are_known(entries: &[Entry])
     ensures { All IsKnownEntry entries.now }
 {
     'entries: for entry in entries {
