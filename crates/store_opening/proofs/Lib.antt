@@ -16,3 +16,4 @@ pub mod Leading
 pub mod Refusing
 pub mod Whole
 pub mod Shows
+pub mod Made

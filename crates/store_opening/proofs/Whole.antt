@@ -12,7 +12,7 @@ use Rattle.flattener.specs.Fits.{SegmentFits, ViewFits}
 use Rattle.index_core.proofs.Jobs.{each as by_recursion}
 use Rattle.index_core.proofs.Relaying.{all_index as by_index}
 use Rattle.index_core.proofs.Viewing.{view_fits}
-use Rattle.index_core.specs.Found.{AreFit, AreWhole, IsWhole}
+use Rattle.index_core.specs.Found.{AreFit, AreWhole as AreWholeEntries, IsWhole}
 use Rattle.index_core.specs.Kept.{AreBlocks, laid, made_by}
 use Rattle.mapping.specs.Mapping.{Mapping}
 use Rattle.segment.specs.Live.{EntryState, IsLiveOver}
@@ -25,6 +25,7 @@ use Rattle.store_text.specs.declared.record.Row.{Row}
 use Rattle.store_opening.specs.Blocks.{IsKnownEntry}
 use Rattle.store_opening.specs.Entries.{AreNumbered, IsEntryOf, IsSaid, extent_in, extents_named}
 use Rattle.commit_store.specs.Opened.{known_by_form, known_from, known_in, store_found}
+use Rattle.store_opening.specs.Opening.{AreWhole}
 use Rattle.store_opening.specs.Shown.{IsOfCommit, known_read, known_rows, store_read}
 use Rattle.store_opening.proofs.Said.{bodies_read}
 use Rattle.store_opening.proofs.Sourced.{BlockLaws, sources_of}
@@ -107,7 +108,7 @@ bits_each m old id (row ∷ rows) [] are = absurd are
 bits_each m old id (row ∷ rows) (entry ∷ entries) are =
     All-cons (λ (it : EntryState). IsLiveOver it.columns it.live) entry entries are.0.dead.over (bits_each m old (id + 1) rows entries are.1)
 
-whole_each : (entries : List EntryState) → All IsKnownEntry entries → AreWhole entries
+whole_each : (entries : List EntryState) → All IsKnownEntry entries → AreWholeEntries entries
 whole_each [] known = All-nil IsWhole
 whole_each (entry ∷ entries) known =
     All-cons IsWhole entry entries (All-head IsKnownEntry entry entries known).whole (whole_each entries (All-tail IsKnownEntry entry entries known))
@@ -167,6 +168,9 @@ all_known : (m : Mapping) (old : Bool) (rows : List Row) (entries : List EntrySt
 all_known m old rows [] are = All-nil (λ (entry : EntryState). All (HasBlocksOf entry) (known_read old [] rows))
 all_known m old rows (first ∷ entries) are =
     let each = at_each m old first 0 rows (first ∷ entries) are in known_of old (first ∷ entries) first rows (first ∷ entries) each each
+
+pub whole_of : (limit at len : ℕ) (it : RecordText) (m : Mapping) (view : List EntryState) → IsSaid limit at len it m view → AreWhole m it.next view
+whole_of limit at len it m view said = record { fits = fit_each m it.old 0 it.rows view said.entries; blocks = said.blocks; few = said.head.next }
 
 pub committable : BlockLaws → (limit : ℕ) (side : Side) (generation at len : ℕ) (closed : Bool) (it : RecordText) (m : Mapping) (view : List EntryState) → All IsKnownEntry view
     → IsSaid limit at len it m view → IsCommittable (store_read limit side generation closed at len it view) m it.next view

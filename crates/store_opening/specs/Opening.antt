@@ -1,8 +1,9 @@
 -- What opening a store gives.
-use Rattle.std.specs.Prelude.{◌≡◌, ℕ, ◌<◌, ⊤, Bool, List, [], Option, None, Some, option_map}
+use Rattle.std.specs.Prelude.{◌≡◌, ℕ, ◌<◌, ◌≤◌, ⊤, Bool, List, [], Option, None, Some, option_map}
 use Rattle.std.specs.List.{All}
 use Rattle.disk.specs.Stops.{IsTold, Only}
-use Rattle.index_core.specs.Kept.{made_by}
+use Rattle.flattener.specs.Fits.{SegmentFits}
+use Rattle.index_core.specs.Kept.{AreBlocks, laid, last_number, made_by}
 use Rattle.mapping.specs.Mapping.{Mapping}
 use Rattle.segment.specs.Live.{EntryState}
 use Rattle.commit_store.specs.Saying.{StoreCommit, Found, entries_of, mapping_said}
@@ -45,6 +46,17 @@ pub record IsInspected (found : Option StoreCommit) (it : Inspected) : Type 0 wh
   pub view : it.view ≡ view_found found
 
 -- ---- whatever the disk tells
+
+-- the segments are ones that the mapping can have made, and lay out trees whose numbers are below the next one
+pub record AreWhole (m : Mapping) (next : ℕ) (view : List EntryState) : Type 0 where
+  pub fits : All (λ (entry : EntryState). SegmentFits m entry.columns) view
+  pub blocks : AreBlocks (laid view [] (made_by view)) next
+  pub few : next ≤ last_number
+
+-- without a mapping there is nothing else
+abbrev pub IsWhole : Option Mapping → ℕ → List EntryState → Type 0
+IsWhole None next view = (next ≡ 0) × (view ≡ [])
+IsWhole (Some m) next view = AreWhole m next view
 
 -- without a mapping there is nothing else; with one the view may be committed again
 abbrev pub IsFittingUnder : Option Mapping → StoreState → ℕ → List EntryState → Type 0

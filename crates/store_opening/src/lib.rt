@@ -2,9 +2,8 @@
 //!
 //! It stands on `commit_store` and `commit_images` for what a file shows, on `disk` and `store_text`, on `mapping` and
 //! `segment_fits`, `segment_codec` and `segment_view`, and on `index_core` for what blocks are. The contract that others use is
-//! that of each reader: it gives what stands in the file, or refuses with `Damaged` where nothing good stands there, and leaves
-//! the disk as it was. Begin reading with `specs/Looking.antt`, `specs/Beginning.antt` and `specs/Entries.antt`, then `header.rt`
-//! and `commit.rt`.
+//! that of `open_store`: it gives what the file holds and a store that keeps it, or refuses with `Damaged` where the file holds
+//! nothing good, and writes nothing but the header of an empty file. Begin reading with `specs/Opening.antt`, then `opening.rt`.
 #![tactic(auto)]
 
 mod blocks;

@@ -9,7 +9,7 @@ ghost use Rattle.commit_images.specs.Commits.{IsBlank};
 ghost use Rattle.commit_store.specs.Saying.{StoreCommit, Found};
 ghost use Rattle.store_opening.specs.Beginning.{IsOther};
 ghost use Rattle.store_opening.specs.Looking.{Looked, HasOpenCause};
-ghost use Rattle.store_opening.specs.Opening.{Inspects, IsFitting, IsInspected, IsLeftBy, IsOpenedAs, Opens};
+ghost use Rattle.store_opening.specs.Opening.{Inspects, IsFitting, IsInspected, IsLeftBy, IsOpenedAs, IsWhole, Opens};
 ghost use Rattle.store_opening.specs.Shown.{IsCommitWhole, ShowsCommit, known_read};
 
 use crate::blocks::entries_are_known;
@@ -67,6 +67,7 @@ pub fn open_store<D: Disk>(alloc: Global, disk: &mut D, limit: u64) -> Result<Op
 /// written. The refusals are those of `open_store`.
 pub fn inspected<D: Disk>(alloc: Global, disk: &mut D, limit: u64) -> Result<Inspected, OpenRefusal>
     requires { limit ≤ 2 ^ 38 }
+    ensures fits { IfOk result (λ it. IsWhole it.mapping it.next it.view) }
     ensures inspects { IfOk result (λ it. (file : List ℕ) → D.content disk.old ≡ Some file → Inspects limit file it) }
     ensures not_a_store { IsErrOf result OpenRefusal.NotAStore → (file : List ℕ) → D.content disk.old ≡ Some file → IsOther file }
     ensures damaged { IsErrOf result OpenRefusal.Damaged → (file : List ℕ) → D.content disk.old ≡ Some file → Stands file magic × ((found : Option StoreCommit) → Found limit file found → ⊥) }
@@ -83,7 +84,9 @@ pub fn inspected<D: Disk>(alloc: Global, disk: &mut D, limit: u64) -> Result<Ins
 
 /// What a commit that was read says.
 fn told_by(found: CommitFound) -> Inspected
-    ensures { (limit : ℕ) (file : List ℕ) (shows : ShowsCommit limit found file) → IsInspected (Some shows.commit) result }
+    requires { (limit : ℕ) × IsCommitWhole limit found }
+    ensures fits { IsWhole result.mapping result.next result.view }
+    ensures inspected { (limit : ℕ) (file : List ℕ) (shows : ShowsCommit limit found file) → IsInspected (Some shows.commit) result }
 {
     let CommitFound {
         side: _side,
@@ -108,7 +111,8 @@ fn told_by(found: CommitFound) -> Inspected
 
 /// What there is where there is no commit, and no store. Takes no memory.
 fn nothing(alloc: Global) -> Inspected
-    ensures { IsInspected None result }
+    ensures fits { IsWhole result.mapping result.next result.view }
+    ensures inspected { IsInspected None result }
 {
     Inspected {
         mapping: None,
