@@ -1,6 +1,6 @@
 //! What a store's file holds.
 
-ghost use Rattle.std.specs.Prelude.{◌≡◌, ◌≤◌, ◌^◌, ℕ, List, Option, Some, IfOk, OnOk, IsErrOf};
+ghost use Rattle.std.specs.Prelude.{◌≡◌, ◌<◌, ◌≤◌, ◌^◌, ℕ, List, Option, Some, IfOk, OnOk, IsErrOf};
 ghost use Rattle.disk.specs.Stops.{LenOf};
 ghost use Rattle.commit_store.specs.Saying.{StoreCommit, Found};
 ghost use Rattle.store_text.specs.Header.{magic};
@@ -106,6 +106,7 @@ fn read_led<D: Disk>(
     fitting_segments_are_blocks();
     let slot = header.slot(side);
     let idle = header.slot(side.other());
+    numbers_fit(slot.generation, slot.at, slot.len);
     if slot.generation == 0 {
         return Err(OpenRefusal::Damaged);
     }
@@ -122,3 +123,10 @@ fn read_led<D: Disk>(
         commit,
     })
 }
+
+/// Says that the numbers of a slot are a u64 each. Does nothing.
+fn numbers_fit(generation: u64, at: u64, len: u64)
+    ensures generation { generation < 2 ^ 64 }
+    ensures place { at < 2 ^ 64 }
+    ensures length { len < 2 ^ 64 }
+{}
