@@ -12,13 +12,20 @@ use Rattle.commit_store.specs.Saying.{StoredSegment, StoreCommit, Found, IsGood,
 use Rattle.extent_pool.specs.declared.extent.Extent.{Extent}
 use Rattle.index_core.specs.Kept.{made_by}
 use Rattle.mapping.specs.Mapping.{Mapping}
-use Rattle.store_text.specs.Header.{header_size, is_open}
+use Rattle.segment.specs.Live.{EntryState}
+use Rattle.store_text.specs.Header.{header_size, is_open, other}
 use Rattle.store_text.specs.Pieces.{Piece}
+use Rattle.store_text.specs.declared.header.Side.{Side}
+use Rattle.store_text.specs.declared.record.RecordText.{RecordText}
+use Rattle.store_text.specs.declared.record.Row.{Row}
 use Rattle.commit_store.specs.Opened.{known_by_form, known_from, store_found}
 use Rattle.store_opening.specs.Blocks.{IsKnownEntry}
+use Rattle.store_opening.specs.Entries.{extents_named}
 use Rattle.store_opening.specs.Opening.{IsFitting, IsOpenedAs, Opens}
-use Rattle.store_opening.specs.Shown.{IsCommitWhole, ShowsCommit, store_read}
+use Rattle.store_opening.specs.Shown.{IsCommitWhole, Shows, ShowsCommit, known_read, store_read}
 use Rattle.store_opening.specs.declared.holding.CommitFound.{CommitFound}
+use Rattle.store_opening.specs.declared.holding.StoreRead.{StoreRead}
+use Rattle.store_opening.specs.declared.holding.StoreRead.TheVariants.{Empty, Blank, Commit}
 use Rattle.store_opening.specs.declared.opened.Opened.{Opened}
 use Rattle.store_opening.proofs.Led.{body_ends, few_generations}
 use Rattle.store_opening.proofs.Sourced.{BlockLaws}
@@ -101,7 +108,53 @@ opens_of limit file now it found closed old new before after few known law only 
 pub still_only : (old new : Option (List ℕ)) (before after : List ℕ → Type 0) → new ≡ old → Within after before → Only old before → Only new after
 still_only old new before after same within only image is = same ∙ only image (within image is)
 
+-- what was read of a file, by its form
+pub shown_empty : (limit : ℕ) (file : List ℕ) (it : StoreRead) → it ≡ Empty → Shows limit file it → file ≡ []
+shown_empty limit file it is shows = subst (λ (x : StoreRead). Shows limit file x) is shows
+
+pub shown_blank : (limit : ℕ) (file : List ℕ) (it : StoreRead) → it ≡ Blank → Shows limit file it → IsBlank file
+shown_blank limit file it is shows = subst (λ (x : StoreRead). Shows limit file x) is shows
+
+pub shown_commit : (limit : ℕ) (file : List ℕ) (it : StoreRead) (found : CommitFound) → it ≡ Commit found → Shows limit file it → ShowsCommit limit found file
+shown_commit limit file it found is shows = subst (λ (x : StoreRead). Shows limit file x) is shows
+
+-- the file was told, if it is told after calls that only looked
+told_before : (old mid : Option (List ℕ)) → (IsTold mid → mid ≡ old) → IsTold mid → IsTold old
+told_before old mid same told = subst (λ (content : Option (List ℕ)). IsTold content) (same told) told
+
+-- an empty file, of which a store was made
+pub opens_empty : (limit : ℕ) (file : List ℕ) (it : Opened) (old mid new : Option (List ℕ)) (before after : List ℕ → Type 0) → limit ≤ 2 ^ 38 → old ≡ Some file → mid ≡ old → file ≡ []
+    → (mid ≡ Some [] → (now : List ℕ) × (new ≡ Some now) × IsBlank now) → KeepsLaw new after → Only new after → IsOpenedAs limit None true it → Opens limit file it old new before after
+opens_empty limit file it old mid new before after few known same empty made law only is =
+    let blank = made (same ∙ (known ∙ ap (λ (bytes : List ℕ). Some bytes) empty)) in
+    opens_of limit file blank.0 it None true old new before after few blank.1.0 law (λ alone. only) (inr blank.1.1) (inl empty) blank.1.1.long (sym (ap not blank.1.1.a_closed)) is
+
+-- a store without a commit
+pub opens_blank : (limit : ℕ) (file : List ℕ) (it : Opened) (old new : Option (List ℕ)) (before after : List ℕ → Type 0) → limit ≤ 2 ^ 38 → old ≡ Some file → new ≡ old → Within after before
+    → IsBlank file → KeepsLaw new after → IsOpenedAs limit None true it → Opens limit file it old new before after
+opens_blank limit file it old new before after few known same within blank law is =
+    opens_of limit file file it None true old new before after few (same ∙ known) law (still_only old new before after same within) (inr blank) (inr blank) blank.long
+    (sym (ap not blank.a_closed)) is
+
+-- a store with a commit
+pub opens_commit : (limit : ℕ) (file : List ℕ) (found : CommitFound) (it : Opened) (old new : Option (List ℕ)) (before after : List ℕ → Type 0) → limit ≤ 2 ^ 38 → old ≡ Some file → new ≡ old
+    → Within after before → (shows : ShowsCommit limit found file) → KeepsLaw new after → IsOpenedAs limit (Some shows.commit) found.closed it → Opens limit file it old new before after
+opens_commit limit file found it old new before after few known same within shows law is =
+    opens_of limit file file it (Some shows.commit) found.closed old new before after few (same ∙ known) law (still_only old new before after same within) shows.finds shows.finds
+    shows.finds.long (shows.shut ∙ ap (λ (side : Side). not (is_open (other side) file)) (sym shows.side)) is
+
+pub ruleset shown = (told_before)
+
 -- ---- what was opened
+
+-- the store that was made of a commit
+pub read_store_is : (limit : ℕ) (side : Side) (generation : ℕ) (closed : Bool) (at len : ℕ) (it : RecordText) (entries view : List EntryState) (rows : List Row) (known : List KnownSegment)
+    (named : List Extent) → known ≡ known_read it.old entries rows → entries ≡ view → rows ≡ it.rows → named ≡ extents_named at len it
+    → record { limit = limit; side = Some side; known = known; named = named; tried = generation; closed = closed } ≡ store_read limit side generation closed at len it view
+read_store_is limit side generation closed at len it entries view rows known named known_is entries_are rows_are named_are =
+    ap (λ (ks : List KnownSegment). record { limit = limit; side = Some side; known = ks; named = named; tried = generation; closed = closed })
+    (known_is ∙ (ap (λ (es : List EntryState). known_read it.old es rows) entries_are ∙ ap (λ (rs : List Row). known_read it.old view rs) rows_are))
+    ∙ ap (λ (es : List Extent). record { limit = limit; side = Some side; known = known_read it.old view it.rows; named = es; tried = generation; closed = closed }) named_are
 
 pub opened_of : (limit : ℕ) (file : List ℕ) (found : CommitFound) (shows : ShowsCommit limit found file) (it : Opened)
     → it.store ≡ store_read limit found.side found.generation found.closed found.at found.len found.commit.record found.commit.view → it.mapping ≡ Some found.commit.mapping
