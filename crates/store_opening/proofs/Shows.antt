@@ -119,7 +119,7 @@ pub shown_commit : (limit : ℕ) (file : List ℕ) (it : StoreRead) (found : Com
 shown_commit limit file it found is shows = subst (λ (x : StoreRead). Shows limit file x) is shows
 
 -- the file was told, if it is told after calls that only looked
-told_before : (old mid : Option (List ℕ)) → (IsTold mid → mid ≡ old) → IsTold mid → IsTold old
+pub told_before : (old mid : Option (List ℕ)) → (IsTold mid → mid ≡ old) → IsTold mid → IsTold old
 told_before old mid same told = subst (λ (content : Option (List ℕ)). IsTold content) (same told) told
 
 -- an empty file, of which a store was made
@@ -127,7 +127,7 @@ pub opens_empty : (limit : ℕ) (file : List ℕ) (it : Opened) (old mid new : O
     → (mid ≡ Some [] → (now : List ℕ) × (new ≡ Some now) × IsBlank now) → KeepsLaw new after → Only new after → IsOpenedAs limit None true it → Opens limit file it old new before after
 opens_empty limit file it old mid new before after few known same empty made law only is =
     let blank = made (same ∙ (known ∙ ap (λ (bytes : List ℕ). Some bytes) empty)) in
-    opens_of limit file blank.0 it None true old new before after few blank.1.0 law (λ alone. only) (inr blank.1.1) (inl empty) blank.1.1.long (sym (ap not blank.1.1.a_closed)) is
+    opens_of limit file blank.0 it None true old new before after few blank.1 law (λ alone. only) (inl empty) (inr blank.2) blank.2.long (sym (ap not blank.2.a_closed)) is
 
 -- a store without a commit
 pub opens_blank : (limit : ℕ) (file : List ℕ) (it : Opened) (old new : Option (List ℕ)) (before after : List ℕ → Type 0) → limit ≤ 2 ^ 38 → old ≡ Some file → new ≡ old → Within after before
