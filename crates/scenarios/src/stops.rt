@@ -71,6 +71,7 @@ impl Stopped<'_> {
         runs: &mut u64,
     ) -> Result<Option<String>> {
         let mut before = Vec::new(self.alloc);
+        let mut seen = Vec::new(self.alloc);
         for call in from..until {
             let Ok(pending) = pending_in(self.alloc, disk, call) else {
                 bail!("no memory for what is pending");
@@ -81,7 +82,8 @@ impl Stopped<'_> {
             if is_as_before {
                 continue;
             }
-            let found = self.first_bad_image(disk, call, before.len(), count, runs)?;
+            let ways = ways_of(before.len());
+            let found = self.first_bad_image(disk, call, ways, count, &mut seen, runs)?;
             if found.is_some() {
                 return Ok(found);
             }
@@ -89,19 +91,16 @@ impl Stopped<'_> {
         Ok(None)
     }
 
-    // The same for a call in which so many writes and cuts are pending.
+    // The same for a call that so many ways lead through, but for the images that were seen under this request.
     fn first_bad_image(
         &self,
         disk: &MemDisk,
         call: u64,
-        pending: usize,
+        ways: u64,
         count: usize,
+        seen: &mut Vec<Vec<u8>>,
         runs: &mut u64,
     ) -> Result<Option<String>> {
-        let mut ways: u64 = 1;
-        for _ in 0..pending {
-            ways = ways.saturating_mul(3);
-        }
         for way in 0..ways {
             let Ok(image) = image_of(self.alloc, disk, call, way) else {
                 bail!("no memory for an image");
@@ -109,6 +108,9 @@ impl Stopped<'_> {
             let Some(image) = image else {
                 continue;
             };
+            if is_among(seen.as_slice(), image.as_slice()) {
+                continue;
+            }
             let (status, reply) = self.asked(image.as_slice(), runs)?;
             let reply = reply.as_slice();
             let allowed = self.case.allows(count.saturating_sub(1), reply)
@@ -119,6 +121,7 @@ impl Stopped<'_> {
                     "a stop in call {call} leaves, in way {way}, status {status} and {reply}"
                 )?));
             }
+            seen.push(image)?;
         }
         Ok(None)
     }
@@ -138,6 +141,25 @@ impl Stopped<'_> {
         let ended = run_over(self.alloc, words, input, None, setup, &mut disk, runs)?;
         Ok((ended.status, ended.output))
     }
+}
+
+// How many ways there are where so many writes and cuts are pending: three for each.
+fn ways_of(pending: usize) -> u64 {
+    let mut ways: u64 = 1;
+    for _ in 0..pending {
+        ways = ways.saturating_mul(3);
+    }
+    ways
+}
+
+// Whether an image is one of these.
+fn is_among(images: &[Vec<u8>], image: &[u8]) -> bool {
+    for it in images {
+        if it.as_slice() == image {
+            return true;
+        }
+    }
+    false
 }
 
 // What is pending in a call; nothing where the call isn't in the record.
