@@ -52,15 +52,15 @@ pub fn first_bad_stop(
 
 /// A case that is stopped.
 #[derive(Clone, Copy)]
-struct Stopped<'a> {
+struct Stopped<'a, 'b, 'c> {
     alloc: Global,
-    case: &'a Case<'a>,
-    setup: Setup<'a>,
+    case: &'a Case<'b>,
+    setup: Setup<'c>,
     // the request that a store gets which a stop left
-    probe: &'a str,
+    probe: &'b str,
 }
 
-impl Stopped<'_> {
+impl Stopped<'_, '_, '_> {
     // The same for the calls from one on to another, which are those of the last of so many requests.
     fn first_bad_call(
         &self,
