@@ -1,10 +1,10 @@
 //! Cases of bodies alone: what the body of a mapping or of a search says by itself, before any tree is looked at.
 
-use crate::case::Case;
 use anyhow::{Context, Result, bail, ensure};
 use mapping::{Growth, Limit, Mapping, MappingRefusal};
 use query_parser::{SearchRefusal, resolved};
 use reply_text::{MappingLimit, Refusal, Reply, text};
+use scenario_cases::Case;
 use search_form::search;
 use std::alloc::Global;
 use tree_json::{Json, OutText, read};

@@ -1,26 +1,21 @@
 //! Worked examples as data: every case of the case files, run through the engine of lines.
 //!
-//! It stands on `line_engine`, `disk` and `io_edges`. Its word is the folder of the case files, `data` where it has none;
-//! docs/SCENARIOS.md says how they are written. A line is printed for each case that differs, then the counts; the
-//! status is 1 where a case differs or can't be read. No contract says more than that the program is safe.
-//! Begin with `case.rt`; `read.rt` reads the files, `run.rt` runs a case in every way that it asks for,
-//! `stops.rt` opens what a stop in each call of the disk leaves, and `damage.rt` what is left of a damaged file.
+//! It stands on `line_engine`, `disk` and `io_edges`, and on `scenario_cases`, which reads the files. Its word is the folder of
+//! the case files, `data` where it has none; docs/SCENARIOS.md says how they are written. A line is printed for each case that
+//! differs, then the counts; the status is 1 where a case differs or can't be read. No contract says more than that the program is
+//! safe. Begin with `run.rt`, which runs a case in every way that it asks for; `stops.rt` opens what a stop in each call of the disk
+//! leaves, and `damaged_files.rt` what is left of a damaged file.
 #![tactic(auto)]
 
 mod bodies;
-mod case;
-mod damage;
-mod notation;
+mod damaged_files;
 mod outside;
-mod read;
 mod run;
-mod settings;
 mod stops;
-mod store_file;
 
 use anyhow::{Context, Result, ensure};
-use read::cases_of;
 use run::first_difference;
+use scenario_cases::cases_of;
 use std::rt::Files;
 use std::{env, fs};
 

@@ -4,15 +4,13 @@ ghost use Rattle.std.specs.Prelude.{IsTrue};
 ghost use Rattle.machine.specs.Limit.{AreLimits};
 
 use crate::bodies;
-use crate::case::{Case, Turn};
-use crate::damage::first_bad_file;
+use crate::damaged_files::first_bad_file;
 use crate::outside::{CountedDisk, Dialogue, PieceSink, PieceSource};
-use crate::settings::{Failing, Rose, Settings, Sweep};
 use crate::stops::first_bad_stop;
-use crate::store_file::with_pieces;
 use anyhow::{Result, bail};
 use io_edges::{NoMemory, Word};
 use line_engine::{Limits, Status, run, serve};
+use scenario_cases::{Case, Failing, GivenLimits, Rose, Settings, Sweep, Turn, with_pieces};
 use std::alloc::{AllocError, Global};
 use std::fmt;
 
@@ -80,7 +78,7 @@ pub fn first_difference(
                 pieces: pieces.as_slice(),
                 most: *most,
                 failing: case.settings.failing,
-                limits: case.settings.limits,
+                limits: limits_of(case.settings.limits),
                 file: file.as_slice(),
             };
             let found = first_of_setup(alloc, case, setup, kept, runs)?;
@@ -370,6 +368,20 @@ fn words_of(alloc: Global, texts: &[&str]) -> Result<Vec<Word>, AllocError> {
         words.push(Word::of(String::from_str(alloc, text)?))?;
     }
     Ok(words)
+}
+
+// The limits of a session; None where all are the program's.
+fn limits_of(given: GivenLimits) -> Option<Limits> {
+    if given == GivenLimits::default() {
+        return None;
+    }
+    let standard = Limits::standard();
+    Some(Limits {
+        objects: given.objects.unwrap_or(standard.objects),
+        reply_bytes: given.reply_bytes.unwrap_or(standard.reply_bytes),
+        store_bytes: given.store_bytes.unwrap_or(standard.store_bytes),
+        session_bytes: given.session_bytes.unwrap_or(standard.session_bytes),
+    })
 }
 
 // Whether a session may have these limits.

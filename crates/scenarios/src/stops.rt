@@ -2,12 +2,11 @@
 
 ghost use Rattle.std.specs.Prelude.{◌≡◌};
 
-use crate::case::Case;
 use crate::run::{Setup, disk_of, run_over};
-use crate::settings::Failing;
 use anyhow::{Result, bail, ensure};
 use disk::{Bytes, Choice, MemDisk, Pending, PieceChoice};
 use io_edges::NoMemory;
+use scenario_cases::{Case, Failing};
 use std::alloc::Global;
 
 /// The most writes and cuts that may be pending in a call whose images are tried.

@@ -5,7 +5,6 @@ ghost use Rattle.std.specs.Iterator.{IsFinite};
 use crate::damage::{DamagedRange, range_of};
 use crate::store_file::{Piece, piece_of, with_pieces};
 use anyhow::{Context, Result, bail, ensure};
-use line_engine::Limits;
 use std::alloc::{AllocError, Global};
 
 /// What a sweep goes through.
@@ -29,6 +28,19 @@ pub struct Failing {
     pub disk: Option<u64>,
     /// Of the disk's syncs alone.
     pub sync: Option<u64>,
+}
+
+/// The limits that a session is held to; None where one is the program's.
+#[derive(Clone, Copy, Debug, Default, PartialEq, Eq)]
+pub struct GivenLimits {
+    /// The most live objects.
+    pub objects: Option<u64>,
+    /// The most bytes of a reply.
+    pub reply_bytes: Option<u64>,
+    /// The most bytes of the store's file.
+    pub store_bytes: Option<u64>,
+    /// The most bytes that a session reads.
+    pub session_bytes: Option<u64>,
 }
 
 /// The file that the store has before a run.
@@ -64,8 +76,8 @@ pub struct Rose {
 pub struct Settings<'a> {
     /// The words of the command line.
     pub words: Vec<&'a str>,
-    /// The limits, where they aren't the program's; the words are then not read.
-    pub limits: Option<Limits>,
+    /// The limits; where one isn't the program's, the words are not read.
+    pub limits: GivenLimits,
     /// The most bytes that a read gives, by turns. The case is run with each of these lists.
     pub reads: Vec<Vec<usize>>,
     /// The most bytes that a write takes. The case is run with each of these.
@@ -93,7 +105,7 @@ impl<'a> Settings<'a> {
         reads.push(vec![in alloc; usize::MAX]?)?;
         Ok(Settings {
             words: vec![in alloc; "serve", "store"]?,
-            limits: None,
+            limits: GivenLimits::default(),
             reads,
             writes: vec![in alloc; usize::MAX]?,
             dialogue: false,
@@ -148,16 +160,14 @@ impl<'a> Settings<'a> {
 
     fn set_limit(&mut self, value: &str) -> Result<()> {
         let (name, number) = value.split_once(' ').context("a limit's name and number")?;
-        let number = number.parse().context("a limit's number")?;
-        let mut limits = self.limits.unwrap_or(Limits::standard());
+        let number = Some(number.parse().context("a limit's number")?);
         match name {
-            "objects" => limits.objects = number,
-            "reply_bytes" => limits.reply_bytes = number,
-            "store_bytes" => limits.store_bytes = number,
-            "session_bytes" => limits.session_bytes = number,
+            "objects" => self.limits.objects = number,
+            "reply_bytes" => self.limits.reply_bytes = number,
+            "store_bytes" => self.limits.store_bytes = number,
+            "session_bytes" => self.limits.session_bytes = number,
             _ => bail!("unknown limit"),
         }
-        self.limits = Some(limits);
         Ok(())
     }
 
@@ -223,7 +233,7 @@ impl<'a> Settings<'a> {
         let ends_well = self.status == 0 && self.failing == Failing::default();
         let is_once = self.sweeps.is_empty() && self.damaged.is_empty();
         ensure!(is_once || ends_well, "a sweep of a case that fails");
-        let is_plain = ends_well && !self.dialogue && self.limits.is_none();
+        let is_plain = ends_well && !self.dialogue && self.limits == GivenLimits::default();
         ensure!(
             !self.bodies || (is_plain && is_once),
             "bodies alone aren't run"
