@@ -33,7 +33,7 @@ use Rattle.line_engine.proofs.Laws.{HoldsOne, OpensTrees}
 use Rattle.line_engine.proofs.Stopping.{IsTimed, one_start, stores_start}
 use Rattle.line_engine.proofs.Writing.{appends_none}
 
-keeps_same : (bytes : Option (List ℕ)) → Keeps bytes bytes
+pub keeps_same : (bytes : Option (List ℕ)) → Keeps bytes bytes
 keeps_same None = tt
 keeps_same (Some bytes) = refl
 

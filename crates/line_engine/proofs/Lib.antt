@@ -1,5 +1,10 @@
 pub mod Writing
+pub mod MadeBytes
+pub mod Numbers
 pub mod Laws
 pub mod Stopping
 pub mod Serving
 pub mod Beginning
+pub mod Counting
+pub mod Sound
+pub mod Words

@@ -29,8 +29,8 @@ use Rattle.reply_text.specs.declared.refusal.Refusal.TheVariants.{DiskFailure}
 use Rattle.reply_text.specs.declared.reply.Reply.{Reply}
 use Rattle.reply_text.specs.declared.reply.Reply.TheVariants.{OutOfMemory, Refused}
 use Rattle.line_engine.specs.Exit.{status_of}
-use Rattle.line_engine.specs.Run.{LeavesStore, Serves, disk_failures, is_disk_failure}
-use Rattle.line_engine.specs.Served.{IsUpTo, KeepsStored, Served, TakesPart}
+use Rattle.line_engine.specs.Run.{LeavesStore, Serves, TakesPart, disk_failures, is_disk_failure}
+use Rattle.line_engine.specs.Served.{IsUpTo, KeepsStored, Served}
 use Rattle.line_engine.specs.Stopping.{DiskState, content_after}
 use Rattle.line_engine.specs.Turns.{Turn, IsChain, last_state, requests_of, text_of}
 use Rattle.line_engine.specs.declared.status.Status.TheVariants.{WriteFault}
@@ -44,7 +44,7 @@ out_of_memory_text = refl
 
 -- ## chains with a turn put last
 
-chain_more : (limits : Limits) (start : State) (turns : List Turn) (turn : Turn) → IsChain limits start turns → MayStep limits (last_state start turns) turn.request turn.reply turn.after →
+pub chain_more : (limits : Limits) (start : State) (turns : List Turn) (turn : Turn) → IsChain limits start turns → MayStep limits (last_state start turns) turn.request turn.reply turn.after →
     IsChain limits start (turns ++ turn ∷ [])
 chain_more limits start [] turn chain may = (may, tt)
 chain_more limits start (first ∷ turns) turn chain may = (chain.0, chain_more limits first.after turns turn chain.1 may)
@@ -53,11 +53,11 @@ last_more : (start : State) (turns : List Turn) (turn : Turn) → last_state sta
 last_more start [] turn = refl
 last_more start (first ∷ turns) turn = last_more first.after turns turn
 
-text_more : (turns : List Turn) (turn : Turn) → text_of (turns ++ turn ∷ []) ≡ text_of turns ++ reply_text turn.reply
+pub text_more : (turns : List Turn) (turn : Turn) → text_of (turns ++ turn ∷ []) ≡ text_of turns ++ reply_text turn.reply
 text_more [] turn = append-nil (reply_text turn.reply)
 text_more (first ∷ turns) turn = ap (λ (rest : List ℕ). reply_text first.reply ++ rest) (text_more turns turn) ∙ sym (append_assoc (reply_text first.reply) (text_of turns) (reply_text turn.reply))
 
-requests_more : (turns : List Turn) (turn : Turn) → requests_of turns ++ turn.request ∷ [] ≡ requests_of (turns ++ turn ∷ [])
+pub requests_more : (turns : List Turn) (turn : Turn) → requests_of turns ++ turn.request ∷ [] ≡ requests_of (turns ++ turn ∷ [])
 requests_more turns turn = sym (map-append (λ (it : Turn). it.request) turns (turn ∷ []))
 
 -- ## the disk's count of faults
@@ -121,7 +121,7 @@ pub record HasAnswered (before : State) (request : Request) (answered : Answered
 abbrev pub turn_of : {before : State} {answered : Answered} {out : List ℕ} {engine engine' : EngineState} {disk disk' : DiskState} (request : Request) → HasAnswered before request answered out engine engine' disk disk' → Turn
 turn_of request it = record { request = request; reply = it.answers.answers.reply; after = it.answers.answers.after }
 
-may_of : (limits : Limits) (before : State) (request : Request) (answered : Answered) (out : List ℕ) (engine engine' : EngineState) (disk disk' : DiskState) → engine.limits ≡ limits
+pub may_of : (limits : Limits) (before : State) (request : Request) (answered : Answered) (out : List ℕ) (engine engine' : EngineState) (disk disk' : DiskState) → engine.limits ≡ limits
     → (it : HasAnswered before request answered out engine engine' disk disk') → MayStep limits before request it.answers.answers.reply it.answers.answers.after
 may_of limits before request answered out engine engine' disk disk' within it =
     let may : MayStep engine.limits before it.asked it.answers.answers.reply it.answers.answers.after = record { sizes = it.answers.sizes; are = it.answers.are; may = it.answers.answers.may } in
@@ -129,7 +129,7 @@ may_of limits before request answered out engine engine' disk disk' within it =
     (subst (λ (asked : Asked). MayAnswer engine.limits before asked it.answers.answers.reply it.answers.answers.after) (asked_alike it.asked request it.first it.source) may)
 
 -- engine and store stand for the state behind the turn
-stands_more : (limits : Limits) (start : State) (turns : List Turn) (request : Request) (answered : Answered) (out : List ℕ) (engine engine' : EngineState) (begun disk disk' : DiskState)
+pub stands_more : (limits : Limits) (start : State) (turns : List Turn) (request : Request) (answered : Answered) (out : List ℕ) (engine engine' : EngineState) (begun disk disk' : DiskState)
     → HoldsOne limits.store_bytes → IsUpTo limits start turns engine begun disk → (it : HasAnswered (last_state start turns) request answered out engine engine' disk disk')
     → IsUpTo limits start (turns ++ turn_of request it ∷ []) engine' begun disk'
 stands_more limits start turns request answered out engine engine' begun disk disk' once stands it =

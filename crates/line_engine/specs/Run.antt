@@ -24,6 +24,14 @@ use Rattle.line_engine.specs.declared.status.Status.TheVariants.{Done, BadWords,
 -- Below, `left` and `left'` are the bytes that the source has before and after a call, where it tells them, and
 -- `taken` and `taken'` those that the sink has taken.
 
+-- the sink took a part of the piece that isn't all of it
+pub record TakesPart (taken taken' : Option (List ℕ)) (piece : List ℕ) : Type 0 where
+  pub part : List ℕ
+  pub rest : List ℕ
+  pub parts : piece ≡ part ++ rest
+  pub some : 0 < length rest
+  pub written : Appends taken taken' part
+
 -- Writing the last reply failed: the sink has taken the others, and of the last a part that isn't all of it.
 pub record WritesPart (taken taken' : Option (List ℕ)) (turns : List Turn) : Type 0 where
   pub answered : List Turn

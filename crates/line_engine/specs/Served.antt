@@ -1,6 +1,6 @@
 -- A session that begins, and one that goes on: what was read, answered, written and stored so far. It serves private calls and the
 -- proofs alone.
-use Rattle.std.specs.Prelude.{◌≡◌, ℕ, ◌+◌, ◌<◌, ◌≤◌, min, List, ◌++◌, length, Option}
+use Rattle.std.specs.Prelude.{◌≡◌, ℕ, ◌+◌, ◌≤◌, min, List, Option}
 use Rattle.std.specs.Io.KnownBytes.{Appends}
 use Rattle.commit_store.specs.Known.{StoreState, KeepsStore}
 use Rattle.commit_store.specs.Saying.{StoreCommit}
@@ -41,14 +41,6 @@ pub record Served (limits : Limits) (start : State) (left left' taken taken' : O
   pub chain : IsChain limits start turns
   pub stands : IsUpTo limits start turns engine disk disk'
   pub written : Appends taken taken' (text_of turns)
-
--- the sink took a part of the piece that isn't all of it
-pub record TakesPart (taken taken' : Option (List ℕ)) (piece : List ℕ) : Type 0 where
-  pub part : List ℕ
-  pub rest : List ℕ
-  pub parts : piece ≡ part ++ rest
-  pub some : 0 < length rest
-  pub written : Appends taken taken' part
 
 -- what the disk's count of faults tells where no session begins
 abbrev pub IsUnbegun : Status → ℕ → ℕ → Type 0

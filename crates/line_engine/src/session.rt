@@ -14,8 +14,8 @@ ghost use Rattle.machine.specs.State.{State};
 ghost use Rattle.machine.specs.declared.limits.Limits.{Limits};
 ghost use Rattle.reply_text.specs.Text.{reply_text};
 ghost use Rattle.reply_text.specs.declared.reply.Reply.TheVariants.{OutOfMemory};
-ghost use Rattle.line_engine.specs.Run.{IsCaused, IsFileFor, IsStored, Serves, has_begun};
-ghost use Rattle.line_engine.specs.Served.{IsUnbegun, IsUpTo, Served, TakesPart};
+ghost use Rattle.line_engine.specs.Run.{IsCaused, IsFileFor, IsStored, Serves, TakesPart, has_begun};
+ghost use Rattle.line_engine.specs.Served.{IsUnbegun, IsUpTo, Served};
 ghost use Rattle.line_engine.specs.Stopping.{disk_state};
 
 use crate::status::Status;
@@ -38,10 +38,10 @@ const REPLY_ROOM: u64 = 4_096;
 
 /// The engine over its store, and all the memory that reading a request and the usual reply take.
 #[derive(Drop)]
-struct Session {
-    engine: Engine,
-    reader: LineReader,
-    out: OutText,
+pub(crate) struct Session {
+    pub(crate) engine: Engine,
+    pub(crate) reader: LineReader,
+    pub(crate) out: OutText,
 }
 
 /// Opens the store in the disk's file, and serves the requests of the source until its end, a fault or the session's limit.
@@ -100,8 +100,12 @@ fn serve_counted<S: Source, K: Sink, D: Disk, L: Ledger>(
     }
 }
 
-// Takes all the memory that reading a request and the usual reply need, and then opens the store.
-fn begin<D: Disk>(alloc: Global, limits: &Limits, disk: &mut D) -> Result<Session, Status>
+/// Takes all the memory that reading a request and the usual reply need, and then opens the store.
+pub(crate) fn begin<D: Disk>(
+    alloc: Global,
+    limits: &Limits,
+    disk: &mut D,
+) -> Result<Session, Status>
     requires { AreLimits limits.now }
     ensures stands { IfOk result (λ session. (start : State) → Starts limits.now.store_bytes (D.content disk.old) start →
         IsUpTo limits.now start [] session.engine
@@ -238,9 +242,9 @@ fn out_of_memory() -> &'static [u8]
     b"{\"error\":{\"reason\":\"out_of_memory\"}}\n"
 }
 
-// Writes a piece, in as many writes as the sink asks for.
+/// Writes a piece, in as many writes as the sink asks for.
 #[tactic(auto, using(crate::proofs::Writing::writes))]
-fn write_whole<K: Sink>(sink: &mut K, piece: &[u8]) -> Result<(), Failed>
+pub(crate) fn write_whole<K: Sink>(sink: &mut K, piece: &[u8]) -> Result<(), Failed>
     ensures bytes { OnOk result (Appends (K.taken sink.old) (K.taken sink.new) piece.now) }
     ensures part { OnErr result (TakesPart (K.taken sink.old) (K.taken sink.new) piece.now) }
     ensures cause { HasCause (K.faults sink.old) (K.faults sink.new) result }

@@ -9,23 +9,23 @@ use store_opening::OpenRefusal;
 /// How the program ends. The number is its exit status.
 #[derive(Clone, Copy, Debug, PartialEq, Eq)]
 pub enum Status {
-    /// The input was read to its end, and each request is answered.
+    /// The input was read to its end, and each request is answered; or what was asked for was printed.
     Done = 0,
     /// The words of the command line are none that the program knows.
     BadWords = 2,
     /// Reading the input failed.
     ReadFault = 3,
-    /// Writing a reply failed.
+    /// Writing failed.
     WriteFault = 4,
-    /// The disk failed while the store was opened, or prepared.
+    /// The disk failed while the store was opened, prepared or checked.
     DiskFault = 5,
     /// The file has bytes, and they don't begin as a store's.
     NotAStore = 6,
-    /// The file begins as a store and holds no good commit.
+    /// The file begins as a store and holds no good commit, or one that `check` finds is not of its sources.
     Damaged = 7,
     /// The input has more bytes than a session may have.
     SessionLimit = 8,
-    /// There was no memory before the first request.
+    /// There was no memory before the first request, or before what was asked for was printed.
     NoMemory = 9,
 }
 
