@@ -9,7 +9,6 @@
 
 mod bodies;
 mod damaged_files;
-mod outside;
 mod run;
 mod stops;
 

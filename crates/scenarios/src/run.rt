@@ -5,12 +5,14 @@ ghost use Rattle.machine.specs.Limit.{AreLimits};
 
 use crate::bodies;
 use crate::damaged_files::first_bad_file;
-use crate::outside::{CountedDisk, Dialogue, PieceSink, PieceSource};
 use crate::stops::first_bad_stop;
 use anyhow::{Result, bail};
 use io_edges::{NoMemory, Word};
 use line_engine::{Limits, Status, run, serve};
-use scenario_cases::{Case, Failing, GivenLimits, Rose, Settings, Sweep, Turn, with_pieces};
+use scenario_cases::{
+    Case, CountedDisk, Dialogue, Failing, GivenLimits, PieceSink, PieceSource, Rose, Settings,
+    Sweep, Turn, with_pieces,
+};
 use std::alloc::{AllocError, Global};
 use std::fmt;
 

@@ -3,9 +3,10 @@
 ghost use Rattle.std.specs.Prelude.{◌≡◌};
 ghost use Rattle.io_edges.specs.Faults.{HasCause};
 
+use crate::case::Turn;
+use crate::settings::Failing;
 use disk::{Disk, MemDisk};
 use io_edges::{CallList, Failed, MemSink, MemSource, NoMemory, Sink, Source};
-use scenario_cases::{Failing, Turn};
 use std::alloc::Global;
 use std::cell::Cell;
 use std::rc::Rc;
