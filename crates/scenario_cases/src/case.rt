@@ -3,10 +3,11 @@
 use crate::settings::Settings;
 use std::alloc::{AllocError, Global};
 
-/// A request and its reply.
+/// A request and its reply, or a line that is printed.
 #[derive(Drop)]
 pub struct Exchange {
-    /// The bytes of the request and of what stands before it: blank lines, the newline at its end.
+    /// The bytes of the request and of what stands before it: blank lines, the newline at its end. No byte where a line is printed that
+    /// answers no request.
     pub request: Vec<u8>,
     /// The reply with its newline; empty where these bytes get none.
     pub reply: Vec<u8>,

@@ -1,6 +1,6 @@
 //! Damaged files: a store's file that is cut short, or one of whose bytes is raised.
 
-use anyhow::{Context, Result};
+use anyhow::{Context, Result, ensure};
 use std::alloc::{AllocError, Global};
 
 /// What is done to a file at a place.
@@ -14,30 +14,39 @@ pub enum Damage {
 
 /// How runs end over a file that is damaged at a place behind those of the range before, and in front of a last one.
 #[derive(Clone, Copy)]
-pub struct DamagedRange {
+pub struct DamagedRange<'a> {
     pub damage: Damage,
     pub until: usize,
     /// From the first of these places on, each of so many is tried.
     pub step: usize,
     pub status: u8,
+    /// What a run prints, without its newline, where that isn't what the case says.
+    pub line: Option<&'a str>,
 }
 
-/// The range that is written `length until PLACE ends STATUS`, with `by STEP` behind the place where not each one is tried, or so with
-/// `byte`; None where the text is something else.
-pub fn range_of(text: &str) -> Result<Option<DamagedRange>> {
+/// The range that is written `length until PLACE ends STATUS`, with `by STEP` behind the place where not each one is tried, with
+/// ` with LINE` behind the status 0 where a run prints that, or so with `byte`; None where the text is something else.
+pub fn range_of<'a>(text: &'a str) -> Result<Option<DamagedRange<'a>>> {
     let (name, value) = text.split_once(" until ").unwrap_or((text, ""));
     let damage = match name {
         "length" => Damage::Length,
         "byte" => Damage::Byte,
         _ => return Ok(None),
     };
-    let (places, status) = value.split_once(" ends ").context("a place and a status")?;
+    let (places, end) = value.split_once(" ends ").context("a place and a status")?;
     let (until, step) = places.split_once(" by ").unwrap_or((places, "1"));
+    let (status, line) = match end.split_once(" with ") {
+        Some((status, line)) => (status, Some(line)),
+        None => (end, None),
+    };
+    let status: u8 = status.parse().context("a status")?;
+    ensure!(status == 0 || line.is_none(), "a line of a run that fails");
     Ok(Some(DamagedRange {
         damage,
         until: until.parse().context("a place")?,
         step: step.parse().context("a step")?,
-        status: status.parse().context("a status")?,
+        status,
+        line,
     }))
 }
 

@@ -6,8 +6,8 @@ use crate::settings::Settings;
 use anyhow::{Context, Result, bail, ensure};
 use std::alloc::Global;
 
-/// The cases of a file's text. A text with no case, a case with no request, a request with no reply and a line of
-/// another form are errors, which name the line.
+/// The cases of a file's text. A text with no case, a case with no request and no line that is printed, a request with no reply and
+/// a line of another form are errors, which name the line.
 pub fn cases_of<'a>(alloc: Global, text: &'a str) -> Result<Vec<Case<'a>>> {
     let mut reader = Reader {
         alloc,
@@ -90,6 +90,7 @@ impl<'a> Reader<'a> {
         match mark {
             ">" => self.take_request(text, round),
             "<" => self.take_reply(text, round),
+            "prints" => self.take_print(text, round),
             "stop" => self.take_stop(text, round),
             _ => {
                 if line == "no reply" {
@@ -119,7 +120,10 @@ impl<'a> Reader<'a> {
     fn close_case(&mut self) -> Result<()> {
         ensure!(self.request.is_none(), "a request without its reply");
         if let Some(case) = self.cases.as_slice().last() {
-            ensure!(!case.exchanges.is_empty(), "a case without a request");
+            ensure!(
+                !case.exchanges.is_empty(),
+                "a case without a request or a line that is printed"
+            );
             ensure!(
                 case.stops.is_empty() == case.settings.probe.is_none(),
                 "a probe without a stop, or a stop without a probe"
@@ -157,6 +161,13 @@ impl<'a> Reader<'a> {
         let mut bytes = Vec::new(self.alloc);
         expand(text, round, &mut bytes)?;
         self.close_request(bytes)
+    }
+
+    // A line that answers no request.
+    fn take_print(&mut self, text: &str, round: u64) -> Result<()> {
+        ensure!(self.request.is_none(), "a request without its reply");
+        self.request = Some(Vec::new(self.alloc));
+        self.take_reply(text, round)
     }
 
     fn take_stop(&mut self, text: &str, round: u64) -> Result<()> {

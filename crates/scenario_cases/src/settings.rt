@@ -87,7 +87,7 @@ pub struct Settings<'a> {
     pub failing: Failing,
     pub sweeps: Vec<Sweep>,
     /// How runs over the store's file end once it is damaged, place by place.
-    pub damaged: Vec<DamagedRange>,
+    pub damaged: Vec<DamagedRange<'a>>,
     pub status: u8,
     pub rose: Rose,
     pub store: Given,
@@ -150,7 +150,7 @@ impl<'a> Settings<'a> {
         Ok(())
     }
 
-    fn set_each(&mut self, value: &str) -> Result<()> {
+    fn set_each(&mut self, value: &'a str) -> Result<()> {
         match range_of(value)? {
             Some(range) => self.damaged.push(range)?,
             None => self.sweeps.push(sweep_of(value)?)?,

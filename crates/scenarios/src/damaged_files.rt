@@ -3,7 +3,7 @@
 use crate::run::{Setup, disk_of, run_over};
 use anyhow::{Result, ensure};
 use scenario_cases::{Case, Damage, DamagedRange, Failing, damaged};
-use std::alloc::Global;
+use std::alloc::{AllocError, Global};
 
 /// Runs a case over its file with each damage that it asks for: cut to each length from 1 on, and with each byte raised. A line on the
 /// first run that ends otherwise than the case says. Ranges that leave out an end of the file are errors.
@@ -42,7 +42,7 @@ fn first_of_range(
     alloc: Global,
     case: &Case<'_>,
     setup: Setup<'_>,
-    range: DamagedRange,
+    range: DamagedRange<'_>,
     from: usize,
     runs: &mut u64,
 ) -> Result<Option<String>> {
@@ -52,12 +52,7 @@ fn first_of_range(
         }
         let file = damaged(alloc, setup.file, range.damage, place)?;
         let (status, output) = ended_over(alloc, case, setup, file.as_slice(), runs)?;
-        let is_as_said = if range.status == 0 {
-            output == case.output(alloc)?
-        } else {
-            output.is_empty()
-        };
-        if status != range.status || !is_as_said {
+        if status != range.status || output != printed(alloc, case, range)? {
             let damage = range.damage;
             let output = String::from_utf8_lossy(alloc, output.as_slice())?;
             return Ok(Some(format!(in alloc;
@@ -66,6 +61,20 @@ fn first_of_range(
         }
     }
     Ok(None)
+}
+
+// What a run over a file with a damage of a range is to print.
+fn printed(alloc: Global, case: &Case<'_>, range: DamagedRange<'_>) -> Result<Vec<u8>, AllocError> {
+    let mut bytes = Vec::new(alloc);
+    if range.status != 0 {
+        return Ok(bytes);
+    }
+    let Some(line) = range.line else {
+        return case.output(alloc);
+    };
+    bytes.extend_from_slice(line.as_bytes())?;
+    bytes.push(b'\n')?;
+    Ok(bytes)
 }
 
 // The status and the output of the case over this file.
