@@ -5,7 +5,6 @@ The stores were left by sessions with commits, compacts and merges; one has the 
 has to end with 0, 6 or 7. It ends with 6 exactly where the file isn't empty and doesn't begin with the magic. A store of fewer than
 2,048 bytes never opens, and one without an open gate does. With 6 and 7 nothing is said and no byte changed. With 0 each request has
 its reply, searches, a merge, a commit, a compact and a trim among them, and the store that is left opens again and finds the same trees.
-Where the program knows `check`, that ends as the session does, or with 7 where the session opens, and changes nothing.
 Run `./run --prove examples/shop.ndjson` once before: it builds the program.
 
     python3 bench/damaged.py [STORES [PROGRAM [SEED]]]       # 20,000 stores
@@ -110,44 +109,6 @@ def serve(program, path, text):
     return done.returncode, done.stdout.decode("latin-1")
 
 
-def knows_check(program, path):
-    """Whether the program knows `check`."""
-    return subprocess.run([program, "check", path], stdin=subprocess.DEVNULL, stdout=subprocess.DEVNULL, timeout=60).returncode != 2
-
-
-def wrong_check(checked, lines, status):
-    """What is wrong with a `check` that ends with this status behind so many lines, where a session ends with that one, or None."""
-    if checked == 2:  # the word isn't known
-        return None
-    if checked != status and (checked, status) != (7, 0):
-        return "check ended with status %d, and a session with %d" % (checked, status)
-    return "check said %d lines" % lines if lines != (checked == 0) else None
-
-
-def check_fault(program, path, store, status):
-    """What is wrong with what `check` does on this store, on which a session ends with this status, or None."""
-    with open(path, "wb") as file:
-        file.write(store)
-    done = subprocess.run([program, "check", path], stdin=subprocess.DEVNULL, stdout=subprocess.PIPE, timeout=60)
-    with open(path, "rb") as file:
-        if file.read() != store:
-            return "check changed the file"
-    return wrong_check(done.returncode, done.stdout.count(b"\n"), status)
-
-
-def wrong_end(store, status):
-    """What is wrong with a session on this store that ends with this status, or None."""
-    if status not in (0, 6, 7):
-        return "status %d" % status
-    if (status == 6) != (bool(store) and store[:8] != MAGIC):
-        return "status %d, and it begins with %r" % (status, store[:8])
-    if 8 <= len(store) < HEADER and status == 0:
-        return "it opened with %d bytes" % len(store)
-    if len(store) >= HEADER and status == 7 and all(store[gate] != OPEN for gate in GATES):
-        return "it didn't open, and has no open gate"
-    return None
-
-
 def fault_of(program, path, store):
     """What is wrong with how the program serves this store, or None; and its status."""
     with open(path, "wb") as file:
@@ -155,9 +116,14 @@ def fault_of(program, path, store):
     status, said = serve(program, path, REQUESTS)
     with open(path, "rb") as file:
         after = file.read()
-    wrong = wrong_end(store, status)
-    if wrong:
-        return wrong, status
+    if status not in (0, 6, 7):
+        return "status %d" % status, status
+    if (status == 6) != (bool(store) and store[:8] != MAGIC):
+        return "status %d, and it begins with %r" % (status, store[:8]), status
+    if 8 <= len(store) < HEADER and status == 0:
+        return "it opened with %d bytes" % len(store), status
+    if len(store) >= HEADER and status == 7 and all(store[gate] != OPEN for gate in GATES):
+        return "it didn't open, and has no open gate", status
     if status != 0:
         return "it was refused, and something was said or changed" if said or after != store else None, status
     replies = said.split("\n")[:-1]
@@ -179,12 +145,9 @@ def main():
     folder = tempfile.mkdtemp()
     path = os.path.join(folder, "damaged")
     made = stores(program, folder, numbers)
-    checks = knows_check(program, path)
     for number in range(count):
         store, kind = damaged(made, numbers)
         wrong, status = fault_of(program, path, store)
-        if checks and not wrong:
-            wrong = check_fault(program, path, store, status)
         if wrong:
             with open(path, "wb") as file:
                 file.write(store)
@@ -193,11 +156,9 @@ def main():
     for name in os.listdir(folder):
         os.remove(os.path.join(folder, name))
     os.rmdir(folder)
-    print("%d damaged stores made of %d, of %d to %d bytes%s; none wrong"
-          % (count, len(made), min(map(len, made)), max(map(len, made)), ", checked too" if checks else ""))
+    print("%d damaged stores made of %d, of %d to %d bytes; none wrong" % (count, len(made), min(map(len, made)), max(map(len, made))))
     for (kind, status), many in sorted(seen.items()):
         print("%-8s ended with %d: %d" % (kind, status, many))
 
 
-if __name__ == "__main__":
-    main()
+main()
